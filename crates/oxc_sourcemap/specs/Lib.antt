@@ -1,8 +1,8 @@
 pub mod Words
 -- The definitions that the contracts of this crate's items cite.
-pub use Rattle.oxc_sourcemap_tokens.specs.declared.error.Error
-pub use Rattle.oxc_sourcemap_tokens.specs.declared.error.JsonFault
-pub use Rattle.oxc_sourcemap_tokens.specs.declared.error.Field
+pub use Rattle.oxc_sourcemap_tokens.specs.declared.errors.error.Error
+pub use Rattle.oxc_sourcemap_tokens.specs.declared.errors.error.JsonFault
+pub use Rattle.oxc_sourcemap_tokens.specs.declared.errors.error.Field
 pub use Rattle.oxc_sourcemap_tokens.specs.declared.token.TokenChunk
 pub use Rattle.oxc_sourcemap_tokens.specs.declared.position.Position
 pub use Rattle.oxc_sourcemap_json.specs.declared.object.json_source_map.JSONSourceMap
@@ -11,17 +11,17 @@ pub use Rattle.oxc_sourcemap_map.specs.declared.maps.source_view_token.SourceVie
 pub use Rattle.oxc_sourcemap_text.specs.declared.positions.position_error.PositionError
 pub use Rattle.oxc_sourcemap_queries.specs.declared.pieces.cuts.Piece
 pub use Rattle.oxc_sourcemap_plan.specs.declared.plan.Plan
-pub use Rattle.oxc_sourcemap_tokens.specs.declared.plan_error.PlanError
+pub use Rattle.oxc_sourcemap_tokens.specs.declared.errors.plan_error.PlanError
 pub use Rattle.oxc_sourcemap_tokens.specs.Token
 pub use Rattle.oxc_sourcemap_mappings.specs.Faults
 pub use Rattle.oxc_sourcemap_mappings.specs.Reading
-pub use Rattle.oxc_sourcemap_tokens.specs.declared.fault.SegmentPlace
+pub use Rattle.oxc_sourcemap_tokens.specs.declared.errors.fault.SegmentPlace
 pub use Rattle.oxc_sourcemap_mappings.specs.SegmentPlaces
 pub use Rattle.oxc_sourcemap_mappings.specs.declared.reason.SegmentReason
 pub use Rattle.oxc_sourcemap_tokens.specs.State
 pub use Rattle.oxc_sourcemap_tokens.specs.LineOrder
 pub use Rattle.oxc_sourcemap_mappings.specs.Canonical
-pub use Rattle.oxc_sourcemap_mappings.specs.Pieces
+pub use Rattle.oxc_sourcemap_mappings.specs.ChunkTexts
 pub use Rattle.oxc_sourcemap_tokens.specs.Chunks
 pub use Rattle.oxc_sourcemap_mappings.specs.TextLaws
 pub use Rattle.oxc_sourcemap_tokens.specs.Errors
@@ -42,7 +42,7 @@ pub use Rattle.oxc_sourcemap_queries.specs.RangeLaws
 pub use Rattle.oxc_sourcemap_queries.specs.Differences
 pub use Rattle.oxc_sourcemap_steps.specs.Sorting
 pub use Rattle.oxc_sourcemap_steps.specs.SortLaws
-pub use Rattle.oxc_sourcemap_json.specs.Json
+pub use Rattle.oxc_sourcemap_json.specs.JsonRecord
 pub use Rattle.oxc_sourcemap_json.specs.Shape
 pub use Rattle.oxc_sourcemap_json.specs.JsonString
 pub use Rattle.oxc_sourcemap_json.specs.Decoded
@@ -75,8 +75,8 @@ pub use Rattle.oxc_sourcemap_map.specs.NameLaws
 pub use Rattle.oxc_sourcemap_text.specs.TextLines
 pub use Rattle.oxc_sourcemap_text.specs.Positions
 pub use Rattle.oxc_sourcemap_text.specs.PositionLaws
-pub use Rattle.oxc_sourcemap_tokens.specs.declared.fault.FaultPlace
-pub use Rattle.oxc_sourcemap_tokens.specs.declared.fault.FaultSpot
+pub use Rattle.oxc_sourcemap_tokens.specs.declared.errors.fault.FaultPlace
+pub use Rattle.oxc_sourcemap_tokens.specs.declared.errors.fault.FaultSpot
 pub use Rattle.oxc_sourcemap_json.specs.declared.fault.fault_reason.FaultReason
 pub use Rattle.oxc_sourcemap_tokens.specs.PlaceMessages
 pub use Rattle.oxc_sourcemap_tokens.specs.Places
@@ -112,8 +112,8 @@ pub use Rattle.oxc_sourcemap_plan.specs.Meaning
 pub use Rattle.oxc_sourcemap_plan.specs.Limits
 pub use Rattle.oxc_sourcemap_plan.specs.Outcome
 pub use Rattle.oxc_sourcemap_plan.specs.Evaluated
-pub use Rattle.oxc_sourcemap_found.specs.declared.mend.Mend
-pub use Rattle.oxc_sourcemap_found.specs.declared.mend.MendKind
+pub use Rattle.oxc_sourcemap_found.specs.declared.mending.mend.Mend
+pub use Rattle.oxc_sourcemap_found.specs.declared.mending.mend.MendKind
 pub use Rattle.oxc_sourcemap_found.specs.declared.found.Found
 pub use Rattle.oxc_sourcemap_found.specs.MendText
 pub use Rattle.oxc_sourcemap_found.specs.Opening

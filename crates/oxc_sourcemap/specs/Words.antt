@@ -4,7 +4,8 @@ pub use Rattle.oxc_sourcemap_map.specs.Building.{with_path, with_path_at, with_b
 pub use Rattle.oxc_sourcemap_map.specs.Built.{nothing_built}
 pub use Rattle.oxc_sourcemap_map.specs.NameLaws.{EqualIdsForEqualNames}
 pub use Rattle.oxc_sourcemap_json.specs.Decoded.{decoded, json_fault}
-pub use Rattle.oxc_sourcemap_json.specs.ReadMap.{read_value, read_map, said_in, read_decoded_map}
+pub use Rattle.oxc_sourcemap_json.specs.ReadMap.{read_value, read_map, form_of_text}
+pub use Rattle.oxc_sourcemap_json.specs.ReadMap.{read_decoded_map}
 pub use Rattle.oxc_sourcemap_queries.specs.Differences.{HaveSameTraceEverywhere, IsFirstDifference}
 pub use Rattle.oxc_sourcemap_queries.specs.Differences.{IfBothSorted}
 pub use Rattle.oxc_sourcemap_json.specs.Encoded.{encoded}
@@ -13,7 +14,7 @@ pub use Rattle.oxc_sourcemap_json.specs.Within.{map_text_within, map_url_within,
 pub use Rattle.oxc_sourcemap_join.specs.Joined.{joined, lent_maps, IsWithinLimits, at_line}
 pub use Rattle.oxc_sourcemap_join.specs.Joined.{at_lines, added, nothing_joined, position}
 pub use Rattle.oxc_sourcemap_join.specs.Joined.{at_positions}
-pub use Rattle.oxc_sourcemap_json.specs.Json.{json_record}
+pub use Rattle.oxc_sourcemap_json.specs.JsonRecord.{json_record}
 pub use Rattle.oxc_sourcemap_laws.specs.ComposeLaws.{grouped_left, grouped_right, IsSeveralSources}
 pub use Rattle.oxc_sourcemap_laws.specs.ComposedDecodedMaps.{composed_decoded_maps}
 pub use Rattle.oxc_sourcemap_laws.specs.JoinLaws.{without_chunks, decoded_maps_of}
@@ -78,9 +79,11 @@ pub use Rattle.oxc_sourcemap_tokens.specs.LineOrder.{IsInLineOrder}
 pub use Rattle.oxc_sourcemap_tokens.specs.Results.{Answers, Reports, OnlyMemory, lent_items}
 pub use Rattle.oxc_sourcemap_tokens.specs.Results.{lent_item, Gives, Pushes, GivesBut, FailsBy}
 pub use Rattle.oxc_sourcemap_tokens.specs.Token.{AreInBounds, kept_id}
-pub use Rattle.oxc_sourcemap_tokens.specs.declared.error.Error.TheVariants.{OutOfMemory, TooLarge}
-pub use Rattle.oxc_sourcemap_tokens.specs.declared.error.Error.TheVariants.{SeveralSources}
-pub use Rattle.oxc_sourcemap_tokens.specs.declared.plan_error.PlanError.TheVariants.{Map, Unsorted}
+pub use Rattle.oxc_sourcemap_tokens.specs.declared.errors.error.Error.TheVariants.{OutOfMemory}
+pub use Rattle.oxc_sourcemap_tokens.specs.declared.errors.error.Error.TheVariants.{TooLarge}
+pub use Rattle.oxc_sourcemap_tokens.specs.declared.errors.error.Error.TheVariants.{SeveralSources}
+pub use Rattle.oxc_sourcemap_tokens.specs.declared.errors.plan_error.PlanError.TheVariants.{Map}
+pub use Rattle.oxc_sourcemap_tokens.specs.declared.errors.plan_error.PlanError.TheVariants.{Unsorted}
 pub use Rattle.oxc_sourcemap_map.specs.Link.{counted, map_link}
 pub use Rattle.oxc_sourcemap_text.specs.TextLines.{units_of, lines_of, text_lines, ends_line}
 pub use Rattle.oxc_sourcemap_text.specs.TextLines.{line_at}

@@ -1,15 +1,15 @@
 -- Failures and the places that they tell.
-use Rattle.std.proofs.Common.{◌≡◌, ◌≢◌, List, refl, sym, subst, Option, Some, None, true}
-use Rattle.std.proofs.Common.{Result, Ok, Err, IfSome, IsSomeAnd, is_some, ◌⊎◌, inl, inr, ◌∙◌}
+use Rattle.std.proofs.Common.{◌≡◌, ◌≢◌, List, refl, sym, subst, Option, Some, None, true, Result}
+use Rattle.std.proofs.Common.{Ok, Err, IfSome, IsSomeAnd, is_some, ◌⊎◌, inl, inr, ◌∙◌}
 use Rattle.std.specs.Result.{IfErr, IsErrAnd}
 use Rattle.serde_json.specs.Data.{Data}
 use Rattle.serde_json.specs.Read.{read}
-use Rattle.oxc_sourcemap_tokens.specs.declared.error.Error.{Error}
-use Rattle.oxc_sourcemap_tokens.specs.declared.error.Error.TheVariants.{OutOfMemory}
-use Rattle.oxc_sourcemap_tokens.specs.declared.fault.Fault.{Fault as ReadFault}
-use Rattle.oxc_sourcemap_tokens.specs.declared.fault.FaultPlace.{FaultPlace}
-use Rattle.oxc_sourcemap_tokens.specs.declared.plan_error.PlanError.{PlanError}
-use Rattle.oxc_sourcemap_tokens.specs.declared.plan_error.PlanError.TheVariants.{Map}
+use Rattle.oxc_sourcemap_tokens.specs.declared.errors.error.Error.{Error}
+use Rattle.oxc_sourcemap_tokens.specs.declared.errors.error.Error.TheVariants.{OutOfMemory}
+use Rattle.oxc_sourcemap_tokens.specs.declared.errors.fault.Fault.{Fault as ReadFault}
+use Rattle.oxc_sourcemap_tokens.specs.declared.errors.fault.FaultPlace.{FaultPlace}
+use Rattle.oxc_sourcemap_tokens.specs.declared.errors.plan_error.PlanError.{PlanError}
+use Rattle.oxc_sourcemap_tokens.specs.declared.errors.plan_error.PlanError.TheVariants.{Map}
 use Rattle.oxc_sourcemap_parts.specs.Record.{Text}
 use Rattle.oxc_sourcemap_json.specs.ReadMap.{read_map}
 use Rattle.oxc_sourcemap_json.specs.ValuePlaces.{value_place, IsPlacedIn, IsReading}
@@ -21,7 +21,7 @@ use Rattle.oxc_sourcemap_plan.specs.Meaning.{Meaning}
 use Rattle.oxc_sourcemap_plan.specs.Outcome.{Outcome}
 use Rattle.oxc_sourcemap_plan.specs.PlanPlaces.{IsTextPlace, TellsText, IsTold}
 use Rattle.oxc_sourcemap_plan.proofs.Realizing.{memory_or_not}
-use Rattle.oxc_sourcemap_handles.specs.declared.call_error.CallError.{CallError}
+use Rattle.oxc_sourcemap_handles.specs.declared.numbers.call_error.CallError.{CallError}
 use Rattle.oxc_sourcemap_handles.specs.CallErrors.{out_of_memory, of_map}
 use Rattle.oxc_sourcemap_c.specs.declared.making.failure.Failure.{Failure}
 use Rattle.oxc_sourcemap_c.specs.Failures.{IsFailure, IsTextErrorAt, IsFoundTextErrorAt}

@@ -3,18 +3,18 @@ use Rattle.std.specs.Prelude.{◌≡◌, ℕ, ◌⊎◌, Option, Result, Err, Ma
 use Rattle.std.specs.Prelude.{length, Bool, true, false}
 use Rattle.oxc_sourcemap_parts.specs.Record.{Text, MapRecord}
 use Rattle.oxc_sourcemap_map.specs.View.{content_at}
-use Rattle.oxc_sourcemap_handles.specs.declared.call_error.CallError.{CallError}
-use Rattle.oxc_sourcemap_handles.specs.declared.call_error.CallError.TheVariants.{NullHandle}
-use Rattle.oxc_sourcemap_handles.specs.declared.call_error.CallError.TheVariants.{NoEntry}
-use Rattle.oxc_sourcemap_handles.specs.declared.held.Held.{Held}
-use Rattle.oxc_sourcemap_handles.specs.declared.text.Text.{Text as LentText}
+use Rattle.oxc_sourcemap_handles.specs.declared.numbers.call_error.CallError.{CallError}
+use Rattle.oxc_sourcemap_handles.specs.declared.numbers.call_error.CallError.TheVariants.{NullHandle}
+use Rattle.oxc_sourcemap_handles.specs.declared.numbers.call_error.CallError.TheVariants.{NoEntry}
+use Rattle.oxc_sourcemap_handles.specs.declared.holding.held.Held.{Held}
+use Rattle.oxc_sourcemap_handles.specs.declared.texts.text.Text.{Text as LentText}
 use Rattle.oxc_sourcemap_c.specs.declared.reading.asked.Asked.{Asked}
 use Rattle.oxc_sourcemap_c.specs.declared.reading.asked.Asked.TheVariants.{Name, Source}
 use Rattle.oxc_sourcemap_c.specs.declared.reading.asked.Asked.TheVariants.{SourceContent, File}
 use Rattle.oxc_sourcemap_c.specs.declared.reading.asked.Asked.TheVariants.{SourceRoot, DebugId}
 use Rattle.oxc_sourcemap_handles.specs.Holding.{held_map, HoldsMap}
 use Rattle.oxc_sourcemap_handles.specs.Traces.{HasBias, IsTraceOf}
-use Rattle.oxc_sourcemap_handles.specs.declared.text.Original.{Original}
+use Rattle.oxc_sourcemap_handles.specs.declared.texts.text.Original.{Original}
 use Rattle.oxc_sourcemap_tokens.specs.LineOrder.{IsInLineOrder}
 use Rattle.oxc_sourcemap_tokens.specs.declared.position.Position.{Position}
 
@@ -46,6 +46,7 @@ flag_of false = 0
 abbrev pub IsFlagOf : Type 0 → ℕ → Type 0
 IsFlagOf holds n = ((n ≡ 1) × holds) ⊎ ((n ≡ 0) × ¬ holds)
 
--- what the map that is held says of a position, by the bias of this number; its tokens are in line order
+-- the tokens of the map that is held are in line order, and this is an answer of it for a position, by the bias of this number: its trace,
+-- if the tokens are sorted
 abbrev pub IsTraced : Option Held → ℕ → Position → Original → Type 0
 IsTraced held bias at out = HoldsMap held (λ m. IsInLineOrder m.tokens × HasBias bias (λ b. IsTraceOf b m at out))

@@ -5,8 +5,8 @@ use Rattle.oxc_sourcemap_parts.specs.Record.{MapRecord}
 use Rattle.oxc_sourcemap_parts.specs.Roots.{rooted}
 use Rattle.oxc_sourcemap_steps.specs.Sorting.{sorted_map}
 use Rattle.oxc_sourcemap_steps.specs.Simplified.{simplification}
-use Rattle.oxc_sourcemap_handles.specs.declared.call_error.CallError.{CallError}
-use Rattle.oxc_sourcemap_handles.specs.declared.call_error.CallError.TheVariants.{NullHandle}
+use Rattle.oxc_sourcemap_handles.specs.declared.numbers.call_error.CallError.{CallError}
+use Rattle.oxc_sourcemap_handles.specs.declared.numbers.call_error.CallError.TheVariants.{NullHandle}
 use Rattle.oxc_sourcemap_c.specs.declared.making.changing.Change.{Change}
 use Rattle.oxc_sourcemap_c.specs.declared.making.changing.Change.TheVariants.{File, SourceRoot}
 use Rattle.oxc_sourcemap_c.specs.declared.making.changing.Change.TheVariants.{DebugId, IgnoreList}
@@ -14,10 +14,10 @@ use Rattle.oxc_sourcemap_c.specs.declared.making.changing.Change.TheVariants.{So
 use Rattle.oxc_sourcemap_c.specs.declared.making.changing.Change.TheVariants.{SourceContents}
 use Rattle.oxc_sourcemap_c.specs.declared.making.changing.Change.TheVariants.{ApplySourceRoot, Sort}
 use Rattle.oxc_sourcemap_c.specs.declared.making.changing.Change.TheVariants.{Simplify}
-use Rattle.oxc_sourcemap_handles.specs.declared.held.Held.{Held}
+use Rattle.oxc_sourcemap_handles.specs.declared.holding.held.Held.{Held}
 use Rattle.oxc_sourcemap_handles.specs.CallErrors.{IsNotText, IsSimplifyError, IsUnsorted}
 use Rattle.oxc_sourcemap_handles.specs.Holding.{held_map, held_loaded}
-use Rattle.oxc_sourcemap_handles.specs.Indexed.{Loaded}
+use Rattle.oxc_sourcemap_handles.specs.Indices.{Loaded}
 use Rattle.oxc_sourcemap_handles.specs.Lists.{AreTexts, IsNotTexts, known_texts, AreContents}
 use Rattle.oxc_sourcemap_handles.specs.Lists.{IsNotContents}
 

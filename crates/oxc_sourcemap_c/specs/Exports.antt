@@ -1,16 +1,16 @@
 -- The results of exports: a code, and the numbers of an error.
 use Rattle.std.specs.Prelude.{◌≡◌, ℕ, List, Option, Some, None, Result, Ok, Err, MatchOption}
 use Rattle.std.specs.Prelude.{MatchResult}
-use Rattle.oxc_sourcemap_tokens.specs.declared.error.Error.{Error}
+use Rattle.oxc_sourcemap_tokens.specs.declared.errors.error.Error.{Error}
 use Rattle.oxc_sourcemap_parts.specs.Record.{Text, MapRecord}
-use Rattle.oxc_sourcemap_handles.specs.declared.call_error.CallError.{CallError}
-use Rattle.oxc_sourcemap_handles.specs.declared.call_error.CallError.TheVariants.{NullHandle}
-use Rattle.oxc_sourcemap_handles.specs.declared.call_error.CallError.TheVariants.{NoEntry}
-use Rattle.oxc_sourcemap_handles.specs.declared.fault.Fault.{Fault}
+use Rattle.oxc_sourcemap_handles.specs.declared.numbers.call_error.CallError.{CallError}
+use Rattle.oxc_sourcemap_handles.specs.declared.numbers.call_error.CallError.TheVariants.{NullHandle}
+use Rattle.oxc_sourcemap_handles.specs.declared.numbers.call_error.CallError.TheVariants.{NoEntry}
+use Rattle.oxc_sourcemap_handles.specs.declared.numbers.fault.Fault.{Fault}
 use Rattle.oxc_sourcemap_handles.specs.CallErrors.{of_map}
 use Rattle.oxc_sourcemap_handles.specs.Codes.{fault_of, code_of, no_fault}
-use Rattle.oxc_sourcemap_handles.specs.declared.held.Held.{Held}
-use Rattle.oxc_sourcemap_handles.specs.declared.text.Text.{Text as LentText}
+use Rattle.oxc_sourcemap_handles.specs.declared.holding.held.Held.{Held}
+use Rattle.oxc_sourcemap_handles.specs.declared.texts.text.Text.{Text as LentText}
 use Rattle.oxc_sourcemap_handles.specs.Holding.{held_map, held_text, HoldsMap}
 use Rattle.oxc_sourcemap_c.specs.Answers.{HasLength}
 use Rattle.oxc_sourcemap_c.specs.Writing.{IsUrlOf}

@@ -1,20 +1,20 @@
 -- Errors with the places of their faults.
 use Rattle.std.specs.Prelude.{◌≡◌, ◌≢◌, ◌⊎◌, ℕ, List, Option, None, Err, option_map, IsUtf8}
 use Rattle.std.specs.Prelude.{IsSomeAnd}
-use Rattle.oxc_sourcemap_tokens.specs.declared.error.Error.{Error}
+use Rattle.oxc_sourcemap_tokens.specs.declared.errors.error.Error.{Error}
 use Rattle.oxc_sourcemap_parts.specs.Record.{Text}
 use Rattle.oxc_sourcemap_mappings.specs.Reading.{reading}
 use Rattle.oxc_sourcemap_mappings.specs.SegmentPlaces.{fault_place}
 use Rattle.oxc_sourcemap_json.specs.ReadMap.{read_map}
-use Rattle.oxc_sourcemap_tokens.specs.declared.fault.FaultPlace.{FaultPlace}
-use Rattle.oxc_sourcemap_tokens.specs.declared.fault.FaultSpot.TheVariants.{Segment}
+use Rattle.oxc_sourcemap_tokens.specs.declared.errors.fault.FaultPlace.{FaultPlace}
+use Rattle.oxc_sourcemap_tokens.specs.declared.errors.fault.FaultSpot.TheVariants.{Segment}
 use Rattle.oxc_sourcemap_tokens.specs.Places.{place_in}
 use Rattle.oxc_sourcemap_found.specs.FoundMaps.{found}
 use Rattle.oxc_sourcemap_found.specs.FoundPlaces.{IsFoundPlace, HasPlaceIfRefused}
 use Rattle.oxc_sourcemap_plan.specs.PlanPlaces.{IsTextPlace}
-use Rattle.oxc_sourcemap_handles.specs.declared.call_error.CallError.{CallError}
+use Rattle.oxc_sourcemap_handles.specs.declared.numbers.call_error.CallError.{CallError}
 use Rattle.oxc_sourcemap_c.specs.declared.making.failure.Failure.{Failure}
-use Rattle.oxc_sourcemap_handles.specs.declared.fault.Fault.{Fault}
+use Rattle.oxc_sourcemap_handles.specs.declared.numbers.fault.Fault.{Fault}
 use Rattle.oxc_sourcemap_handles.specs.CallErrors.{out_of_memory, of_map, IsNotText}
 use Rattle.oxc_sourcemap_handles.specs.Codes.{code_of, fault_at}
 

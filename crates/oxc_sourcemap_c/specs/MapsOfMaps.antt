@@ -1,20 +1,20 @@
 -- Compositions, remappings and joins of maps that handles lend.
-use Rattle.std.specs.Prelude.{◌≡◌, ◌≢◌, ◌⊎◌, List, [], ◌∷◌, map, length, Option, Some, Ok}
-use Rattle.std.specs.Prelude.{Err, option_map, MatchOption}
+use Rattle.std.specs.Prelude.{◌≡◌, ◌≢◌, ◌⊎◌, List, [], ◌∷◌, map, length, Option, Some, Ok, Err}
+use Rattle.std.specs.Prelude.{option_map, MatchOption}
 use Rattle.std.specs.Option.{option_and_then}
-use Rattle.oxc_sourcemap_tokens.specs.declared.error.Error.{Error}
-use Rattle.oxc_sourcemap_tokens.specs.declared.error.Error.TheVariants.{TooLarge}
+use Rattle.oxc_sourcemap_tokens.specs.declared.errors.error.Error.{Error}
+use Rattle.oxc_sourcemap_tokens.specs.declared.errors.error.Error.TheVariants.{TooLarge}
 use Rattle.oxc_sourcemap_tokens.specs.declared.position.Position.{Position}
 use Rattle.oxc_sourcemap_parts.specs.Record.{Text, MapRecord}
 use Rattle.oxc_sourcemap_join.specs.Joined.{joined, IsWithinLimits}
 use Rattle.oxc_sourcemap_steps.specs.Composed.{composition, SomeComposition, NoColumnGoesBack}
 use Rattle.oxc_sourcemap_steps.specs.Inputs.{NoInputColumnGoesBack}
 use Rattle.oxc_sourcemap_steps.specs.Remapped.{remapping, SomeRemapping}
-use Rattle.oxc_sourcemap_handles.specs.declared.call_error.CallError.{CallError}
-use Rattle.oxc_sourcemap_handles.specs.declared.call_error.CallError.TheVariants.{NullHandle}
-use Rattle.oxc_sourcemap_handles.specs.declared.call_error.CallError.TheVariants.{Lengths}
-use Rattle.oxc_sourcemap_handles.specs.declared.held.Held.{Held}
-use Rattle.oxc_sourcemap_handles.specs.declared.lent.Lent.{Lent}
+use Rattle.oxc_sourcemap_handles.specs.declared.numbers.call_error.CallError.{CallError}
+use Rattle.oxc_sourcemap_handles.specs.declared.numbers.call_error.CallError.TheVariants.{NullHandle}
+use Rattle.oxc_sourcemap_handles.specs.declared.numbers.call_error.CallError.TheVariants.{Lengths}
+use Rattle.oxc_sourcemap_handles.specs.declared.holding.held.Held.{Held}
+use Rattle.oxc_sourcemap_handles.specs.declared.holding.lent.Lent.{Lent}
 use Rattle.oxc_sourcemap_handles.specs.CallErrors.{of_map}
 use Rattle.oxc_sourcemap_handles.specs.Holding.{held_map}
 use Rattle.oxc_sourcemap_handles.specs.Lists.{AreTexts, IsNotTexts}

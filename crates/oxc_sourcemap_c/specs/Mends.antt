@@ -1,17 +1,21 @@
 -- What was mended, as numbers and back.
 use Rattle.std.specs.Prelude.{ℕ, Option, Some, None, option_map, if◌then◌else◌, ◌==◌}
-use Rattle.oxc_sourcemap_found.specs.declared.mend.Mend.{Mend}
-use Rattle.oxc_sourcemap_found.specs.declared.mend.MendKind.{MendKind}
-use Rattle.oxc_sourcemap_found.specs.declared.mend.MendKind.TheVariants.{ByteOrderMark, JsonPrefix}
-use Rattle.oxc_sourcemap_found.specs.declared.mend.MendKind.TheVariants.{DataUrl, Version}
-use Rattle.oxc_sourcemap_found.specs.declared.mend.MendKind.TheVariants.{NoSources, NullSource}
-use Rattle.oxc_sourcemap_found.specs.declared.mend.MendKind.TheVariants.{NoContents, BadContent}
-use Rattle.oxc_sourcemap_found.specs.declared.mend.MendKind.TheVariants.{NullNames, NoIgnoreList}
-use Rattle.oxc_sourcemap_found.specs.declared.mend.MendKind.TheVariants.{BadIgnoredId}
-use Rattle.oxc_sourcemap_found.specs.declared.mend.MendKind.TheVariants.{NoGoogleIgnoreList}
-use Rattle.oxc_sourcemap_found.specs.declared.mend.MendKind.TheVariants.{BadGoogleIgnoredId}
-use Rattle.oxc_sourcemap_found.specs.declared.mend.MendKind.TheVariants.{SourceIds, NameIds}
-use Rattle.oxc_sourcemap_found.specs.declared.mend.MendKind.TheVariants.{Unsorted, Cut}
+use Rattle.oxc_sourcemap_found.specs.declared.mending.mend.Mend.{Mend}
+use Rattle.oxc_sourcemap_found.specs.declared.mending.mend.MendKind.{MendKind}
+use Rattle.oxc_sourcemap_found.specs.declared.mending.mend.MendKind.TheVariants.{ByteOrderMark}
+use Rattle.oxc_sourcemap_found.specs.declared.mending.mend.MendKind.TheVariants.{JsonPrefix}
+use Rattle.oxc_sourcemap_found.specs.declared.mending.mend.MendKind.TheVariants.{DataUrl, Version}
+use Rattle.oxc_sourcemap_found.specs.declared.mending.mend.MendKind.TheVariants.{NoSources}
+use Rattle.oxc_sourcemap_found.specs.declared.mending.mend.MendKind.TheVariants.{NullSource}
+use Rattle.oxc_sourcemap_found.specs.declared.mending.mend.MendKind.TheVariants.{NoContents}
+use Rattle.oxc_sourcemap_found.specs.declared.mending.mend.MendKind.TheVariants.{BadContent}
+use Rattle.oxc_sourcemap_found.specs.declared.mending.mend.MendKind.TheVariants.{NullNames}
+use Rattle.oxc_sourcemap_found.specs.declared.mending.mend.MendKind.TheVariants.{NoIgnoreList}
+use Rattle.oxc_sourcemap_found.specs.declared.mending.mend.MendKind.TheVariants.{BadIgnoredId}
+use Rattle.oxc_sourcemap_found.specs.declared.mending.mend.MendKind.TheVariants.{NoGoogleIgnoreList}
+use Rattle.oxc_sourcemap_found.specs.declared.mending.mend.MendKind.TheVariants.{BadGoogleIgnoredId}
+use Rattle.oxc_sourcemap_found.specs.declared.mending.mend.MendKind.TheVariants.{SourceIds, NameIds}
+use Rattle.oxc_sourcemap_found.specs.declared.mending.mend.MendKind.TheVariants.{Unsorted, Cut}
 use Rattle.oxc_sourcemap_c.specs.declared.reading.mends.MendNumbers.{MendNumbers}
 use Rattle.oxc_sourcemap_handles.specs.PlaceNumbers.{number_told, told_number}
 

@@ -14,17 +14,17 @@ pub use Rattle.oxc_sourcemap_handles.specs.Listed.{cow_options, filled}
 pub use Rattle.oxc_sourcemap_handles.specs.Lists.{token_of, AreTexts, known_texts, AreContents}
 pub use Rattle.oxc_sourcemap_handles.specs.Lists.{IsNotContents, IsNotTexts}
 pub use Rattle.oxc_sourcemap_handles.specs.PlaceNumbers.{place_of_numbers}
-pub use Rattle.oxc_sourcemap_handles.specs.Places.{HasContent, bytes_of_options, bytes_of_texts}
-pub use Rattle.oxc_sourcemap_handles.specs.Places.{capped, counts_of, map_bytes, numbers_of}
-pub use Rattle.oxc_sourcemap_handles.specs.Places.{piece_numbers, token_numbers}
+pub use Rattle.oxc_sourcemap_handles.specs.Structs.{HasContent, bytes_of_options, bytes_of_texts}
+pub use Rattle.oxc_sourcemap_handles.specs.Structs.{capped, counts_of, map_bytes, numbers_of}
+pub use Rattle.oxc_sourcemap_handles.specs.Structs.{piece_numbers, token_numbers}
 pub use Rattle.oxc_sourcemap_handles.specs.Traces.{AreFoundIn, AreTracesOf, HasBias}
 pub use Rattle.oxc_sourcemap_handles.specs.Traces.{IsTraceAllError, IsTraceError, IsTraceOf}
-pub use Rattle.oxc_sourcemap_handles.specs.declared.call_error.CallError.TheVariants.{Lengths}
-pub use Rattle.oxc_sourcemap_handles.specs.declared.call_error.CallError.TheVariants.{NullHandle}
-pub use Rattle.oxc_sourcemap_handles.specs.declared.options.Direction.TheVariants.{OnLine}
+pub use Rattle.oxc_sourcemap_handles.specs.declared.numbers.call_error.CallError.TheVariants.{Lengths}
+pub use Rattle.oxc_sourcemap_handles.specs.declared.numbers.call_error.CallError.TheVariants.{NullHandle}
+pub use Rattle.oxc_sourcemap_handles.specs.declared.numbers.options.Direction.TheVariants.{OnLine}
 pub use Rattle.oxc_sourcemap_lookup.specs.Lookup.{lines_through}
 pub use Rattle.oxc_sourcemap_mappings.specs.Canonical.{canonical}
-pub use Rattle.oxc_sourcemap_mappings.specs.Pieces.{writing_fault}
+pub use Rattle.oxc_sourcemap_mappings.specs.ChunkTexts.{writing_fault}
 pub use Rattle.oxc_sourcemap_parts.specs.Sorted.{are_tokens_sorted}
 pub use Rattle.oxc_sourcemap_parts.specs.Sound.{IsSound}
 pub use Rattle.oxc_sourcemap_parts.specs.Views.{cow_texts, ids_of, record_of_parts}
@@ -44,20 +44,20 @@ pub use Rattle.oxc_sourcemap_map.specs.Built.{nothing_built}
 pub use Rattle.oxc_sourcemap_json.specs.Decoded.{first_not_below}
 pub use Rattle.oxc_sourcemap_json.specs.ReadMap.{read_map}
 pub use Rattle.oxc_sourcemap_found.specs.FoundMaps.{found, found_record}
-pub use Rattle.oxc_sourcemap_handles.specs.declared.call_error.CallError.{CallError}
+pub use Rattle.oxc_sourcemap_handles.specs.declared.numbers.call_error.CallError.{CallError}
 pub use Rattle.oxc_sourcemap_join.specs.Joined.{IsWithinLimits, added, nothing_joined, position}
 pub use Rattle.oxc_sourcemap_mappings.specs.Reading.{reading}
 pub use Rattle.oxc_sourcemap_plan.specs.Outcome.{outcome}
 pub use Rattle.oxc_sourcemap_plan.specs.PlanArguments.{parsed_plan}
 pub use Rattle.oxc_sourcemap_plan.specs.PlanPlaces.{TellsText}
 pub use Rattle.oxc_sourcemap_steps.specs.Inputs.{owned_input_records}
-pub use Rattle.oxc_sourcemap_tokens.specs.declared.error.Error.TheVariants.{OutOfMemory}
+pub use Rattle.oxc_sourcemap_tokens.specs.declared.errors.error.Error.TheVariants.{OutOfMemory}
 pub use Rattle.oxc_sourcemap_map.specs.View.{content_at}
 pub use Rattle.oxc_sourcemap_parts.specs.Roots.{rooted}
 pub use Rattle.oxc_sourcemap_steps.specs.Simplified.{simplification}
 pub use Rattle.oxc_sourcemap_steps.specs.Sorting.{sorted_map}
-pub use Rattle.oxc_sourcemap_c.specs.Answers.{IsTraced}
-pub use Rattle.oxc_sourcemap_c.specs.Answers.{HasLength, IsFlagOf, IsFound, flag_of, text_at}
+pub use Rattle.oxc_sourcemap_c.specs.Answers.{IsTraced, HasLength, IsFlagOf, IsFound, flag_of}
+pub use Rattle.oxc_sourcemap_c.specs.Answers.{text_at}
 pub use Rattle.oxc_sourcemap_c.specs.Mends.{kind_numbers, kind_of_numbers, mend_of_numbers}
 pub use Rattle.oxc_sourcemap_c.specs.Mends.{numbers_of_kind, numbers_of_mend}
 pub use Rattle.oxc_sourcemap_c.specs.Messages.{IsMessage}

@@ -2,11 +2,11 @@
 use Rattle.std.specs.Prelude.{◌≢◌, ◌≡◌, ◌⊎◌, ℕ, List, Option, Some, None, Result, Ok, Err, IsUtf8}
 use Rattle.std.specs.Prelude.{IfSome, MatchOption, MatchResult, if◌then◌else◌, ◌==◌}
 use Rattle.std.specs.Str.{chars, encode_utf8_all}
-use Rattle.oxc_sourcemap_tokens.specs.declared.error.Error.{Error}
+use Rattle.oxc_sourcemap_tokens.specs.declared.errors.error.Error.{Error}
 use Rattle.oxc_sourcemap_tokens.specs.Errors.{unless}
 use Rattle.oxc_sourcemap_tokens.specs.Token.{TokenRecord}
 use Rattle.oxc_sourcemap_mappings.specs.Canonical.{canonical}
-use Rattle.oxc_sourcemap_mappings.specs.Pieces.{writing_fault}
+use Rattle.oxc_sourcemap_mappings.specs.ChunkTexts.{writing_fault}
 use Rattle.oxc_sourcemap_parts.specs.Record.{Text, MapRecord}
 use Rattle.oxc_sourcemap_text.specs.DataUrls.{decoded_data_url}
 use Rattle.oxc_sourcemap_text.specs.MappingUrls.{mapping_url}
@@ -17,14 +17,14 @@ use Rattle.oxc_sourcemap_text.specs.declared.url.language.Language.TheVariants.{
 use Rattle.oxc_sourcemap_json.specs.Within.{mappings_within}
 use Rattle.oxc_sourcemap_map.specs.Link.{map_link}
 use Rattle.oxc_sourcemap_map.specs.VisualText.{visual_text}
-use Rattle.oxc_sourcemap_handles.specs.declared.call_error.CallError.{CallError}
-use Rattle.oxc_sourcemap_handles.specs.declared.call_error.CallError.TheVariants.{NullHandle}
-use Rattle.oxc_sourcemap_handles.specs.declared.call_error.CallError.TheVariants.{NoEntry}
-use Rattle.oxc_sourcemap_handles.specs.declared.call_error.CallError.TheVariants.{BadOption}
-use Rattle.oxc_sourcemap_handles.specs.declared.call_error.CallError.TheVariants.{BadBase64}
-use Rattle.oxc_sourcemap_handles.specs.declared.call_error.CallError.TheVariants.{BadDataUtf8}
-use Rattle.oxc_sourcemap_handles.specs.declared.held.Held.{Held}
-use Rattle.oxc_sourcemap_handles.specs.declared.text.Text.{Text as LentText}
+use Rattle.oxc_sourcemap_handles.specs.declared.numbers.call_error.CallError.{CallError}
+use Rattle.oxc_sourcemap_handles.specs.declared.numbers.call_error.CallError.TheVariants.{NullHandle}
+use Rattle.oxc_sourcemap_handles.specs.declared.numbers.call_error.CallError.TheVariants.{NoEntry}
+use Rattle.oxc_sourcemap_handles.specs.declared.numbers.call_error.CallError.TheVariants.{BadOption}
+use Rattle.oxc_sourcemap_handles.specs.declared.numbers.call_error.CallError.TheVariants.{BadBase64}
+use Rattle.oxc_sourcemap_handles.specs.declared.numbers.call_error.CallError.TheVariants.{BadDataUtf8}
+use Rattle.oxc_sourcemap_handles.specs.declared.holding.held.Held.{Held}
+use Rattle.oxc_sourcemap_handles.specs.declared.texts.text.Text.{Text as LentText}
 use Rattle.oxc_sourcemap_c.specs.Answers.{HasLength}
 use Rattle.oxc_sourcemap_handles.specs.CallErrors.{of_map, out_of_memory, IsNotText}
 use Rattle.oxc_sourcemap_handles.specs.Holding.{held_map}

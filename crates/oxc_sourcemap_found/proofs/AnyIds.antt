@@ -4,10 +4,10 @@ use Rattle.std.proofs.Common.{◌++◌, length, pos, negsuc, ℤ, arith, refl, a
 use Rattle.std.proofs.Common.{None, Result, Ok, Err}
 use Rattle.std.proofs.lemmas.Bool.{cases_lt}
 use Rattle.std.proofs.lemmas.Bool.Decides.{nat_tests}
-use Rattle.oxc_sourcemap_tokens.specs.declared.error.Error.{Error}
+use Rattle.oxc_sourcemap_tokens.specs.declared.errors.error.Error.{Error}
 use Rattle.oxc_sourcemap_tokens.specs.Errors.{unless}
 use Rattle.oxc_sourcemap_tokens.specs.Token.{TokenRecord}
-use Rattle.oxc_sourcemap_json.specs.Json.{JsonRecord}
+use Rattle.oxc_sourcemap_json.specs.JsonRecord.{JsonRecord}
 use Rattle.oxc_sourcemap_parts.specs.Record.{MapRecord}
 use Rattle.oxc_sourcemap_json.specs.Decoded.{decoded_record, with_tokens, json_fault, decoded}
 use Rattle.oxc_sourcemap_found.specs.MendedMaps.{decoded_with_any_ids}

@@ -10,13 +10,12 @@ use Rattle.std.specs.Ordering.{match_ordering}
 use Rattle.std.specs.List.{flat_map}
 use Rattle.std.specs.Option.{option_and_then}
 use Rattle.serde_json.specs.Data.{Data, null, boolean, number, string, array, object, Items}
-use Rattle.serde_json.specs.Data.{Members}
-use Rattle.serde_json.specs.Data.{no_members, member, put}
+use Rattle.serde_json.specs.Data.{Members, no_members, member, put}
 use Rattle.serde_json.specs.Find.{get_member, as_array}
 use Rattle.serde_json.specs.View.{view, items_view, items_of}
 use Rattle.serde_json.specs.declared.value.Value.{Value, Null, the_lemmas}
-use Rattle.oxc_sourcemap_found.specs.declared.members.Entries.{Entries}
-use Rattle.oxc_sourcemap_found.specs.declared.mend.MendKind.{MendKind}
+use Rattle.oxc_sourcemap_found.specs.declared.mending.members.Entries.{Entries}
+use Rattle.oxc_sourcemap_found.specs.declared.mending.mend.MendKind.{MendKind}
 use Rattle.oxc_sourcemap_found.specs.Mended.{entries, kinds_from, list_change, replaced_if, changed}
 use Rattle.oxc_sourcemap_found.specs.Mended.{MendedMembers, mended_entry, mended_items}
 

@@ -9,20 +9,20 @@ use Rattle.std.proofs.lemmas.List.{append-nil, length-append}
 use Rattle.serde_json.specs.Data.{Data, null, boolean, number, string, array, object, Items}
 use Rattle.serde_json.specs.Data.{no_items, item}
 use Rattle.serde_json.specs.Find.{as_object}
-use Rattle.oxc_sourcemap_tokens.specs.declared.error.Error.{Error}
-use Rattle.oxc_sourcemap_tokens.specs.declared.error.Error.TheVariants.{SectionOrder}
-use Rattle.oxc_sourcemap_tokens.specs.declared.error.Field.TheVariants.{Object}
+use Rattle.oxc_sourcemap_tokens.specs.declared.errors.error.Error.{Error}
+use Rattle.oxc_sourcemap_tokens.specs.declared.errors.error.Error.TheVariants.{SectionOrder}
+use Rattle.oxc_sourcemap_tokens.specs.declared.errors.error.Field.TheVariants.{Object}
 use Rattle.oxc_sourcemap_tokens.specs.declared.position.Position.{Position}
 use Rattle.oxc_sourcemap_tokens.specs.Token.{TokenRecord, last}
 use Rattle.oxc_sourcemap_parts.specs.Record.{MapRecord}
 use Rattle.oxc_sourcemap_json.specs.Shape.{◌>>=◌, or_misshapen, shape}
 use Rattle.oxc_sourcemap_json.specs.Decoded.{decoded}
-use Rattle.oxc_sourcemap_json.specs.Section.{place_in, map_in}
+use Rattle.oxc_sourcemap_json.specs.Section.{offset_in, map_in}
 use Rattle.oxc_sourcemap_json.specs.Sections.{Sections, may_follow, moved_position, token_positions}
-use Rattle.oxc_sourcemap_json.specs.Sections.{may_begin, in_order, place_after, section_map}
+use Rattle.oxc_sourcemap_json.specs.Sections.{may_begin, in_order, offset_after, section_map}
 use Rattle.oxc_sourcemap_json.specs.Sections.{section_after, onto_section, sections_after}
 use Rattle.oxc_sourcemap_found.specs.MendedMaps.{plain_map}
-use Rattle.oxc_sourcemap_found.specs.MendedSections.{MendedSection, place_from, map_from}
+use Rattle.oxc_sourcemap_found.specs.MendedSections.{MendedSection, offset_from, map_from}
 use Rattle.oxc_sourcemap_found.specs.MendedSections.{section_from, sections_from, is_behind}
 use Rattle.oxc_sourcemap_found.specs.MendedSections.{reaches_into, next_place, cut_map, cut_kinds}
 use Rattle.oxc_sourcemap_found.specs.MendedSections.{cut_maps, section_mends}
@@ -63,16 +63,16 @@ map-kept d m e =
 record IsBegun (front : List Placed) (d : Data) (place : Position) : Type 0 where
   follows : may_follow (option_map (λ s. s.1) (last front)) place ≡ true
   behind_tokens : may_follow (last (token_positions front)) place ≡ true
-  is : place_from (option_map (λ s. s.1) (last front)) (length front) d ≡ Ok place
+  is : offset_from (option_map (λ s. s.1) (last front)) (length front) d ≡ Ok place
 
 begun-by : (b : Bool) (p place : Position) (e : Error) → cond b (Ok p) (Err e) ≡ fine place → (b ≡ true) × (p ≡ place)
 begun-by true p place e h = (refl, same-ok p place h)
 begun-by false p place e h = cc
 
-place-kept : (front : List Placed) (d : Data) (place : Position) → place_after front d ≡ Ok place → IsBegun front d place
+place-kept : (front : List Placed) (d : Data) (place : Position) → offset_after front d ≡ Ok place → IsBegun front d place
 place-kept front d place e =
     let before = option_map (λ s. s.1) (last front) in
-    let p = step (place_in d) (in_order front) place e in
+    let p = step (offset_in d) (in_order front) place e in
     let b = begun-by (may_begin front p.value) p.value place (SectionOrder (length front)) p.later in
     let parts = and_parts (may_follow before p.value) (may_follow (last (token_positions front)) p.value) b.0 in
     let first = p.first in
@@ -90,7 +90,7 @@ record IsTaken (front : List Placed) (d : Data) (s : Placed) : Type 0 where
 
 taken : (front : List Placed) (d : Data) (s : Placed) → section_after front d ≡ Ok s → IsTaken front d s
 taken front d s e =
-    let p = step (place_after front d) (λ place. section_map d >>= (λ m. Ok (m, place))) s e in
+    let p = step (offset_after front d) (λ place. section_map d >>= (λ m. Ok (m, place))) s e in
     let m = step (section_map d) (λ m. Ok (m, p.value)) s p.later in
     let is : (m.value, p.value) ≡ s = same-ok (m.value, p.value) s m.later in
     subst (λ (q : Placed). IsTaken front d q) is (record { begun = place-kept front d p.value p.first; map = m.first })

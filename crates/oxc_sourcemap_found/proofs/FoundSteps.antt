@@ -2,10 +2,10 @@
 use Rattle.std.proofs.Common.{◌≡◌, List, sym, ap, ◌∙◌, Some, None, Result, Ok}
 use Rattle.serde_json.specs.Data.{Data}
 use Rattle.serde_json.specs.Read.{read}
-use Rattle.oxc_sourcemap_tokens.specs.declared.error.Error.{Error}
+use Rattle.oxc_sourcemap_tokens.specs.declared.errors.error.Error.{Error}
 use Rattle.oxc_sourcemap_parts.specs.Record.{Text}
 use Rattle.oxc_sourcemap_json.specs.Shape.{◌>>=◌}
-use Rattle.oxc_sourcemap_found.specs.declared.mend.Mend.{Mend}
+use Rattle.oxc_sourcemap_found.specs.declared.mending.mend.Mend.{Mend}
 use Rattle.oxc_sourcemap_found.specs.MendedMaps.{mends_in}
 use Rattle.oxc_sourcemap_found.specs.FoundMaps.{FoundRecord, found_value, found_opened, in_order}
 use Rattle.oxc_sourcemap_found.specs.FoundMaps.{found}

@@ -8,23 +8,25 @@ use Rattle.std.specs.Option.{is_some, option_and_then, option_map_or}
 use Rattle.serde_json.specs.Data.{unsigned, negative, float, Data, null, boolean, number, string}
 use Rattle.serde_json.specs.Data.{array, object, Items, no_items, item, Members}
 use Rattle.serde_json.specs.Find.{get_member, as_str, as_array}
-use Rattle.oxc_sourcemap_tokens.specs.declared.error.Error.{Error}
-use Rattle.oxc_sourcemap_tokens.specs.declared.error.Field.{Field}
-use Rattle.oxc_sourcemap_tokens.specs.declared.error.Field.TheVariants.{Version as VersionField}
-use Rattle.oxc_sourcemap_tokens.specs.declared.error.Field.TheVariants.{Sources as SourcesField}
-use Rattle.oxc_sourcemap_tokens.specs.declared.error.Field.TheVariants.{Names, SourcesContent}
-use Rattle.oxc_sourcemap_tokens.specs.declared.error.Field.TheVariants.{IgnoreList}
-use Rattle.oxc_sourcemap_tokens.specs.declared.error.Field.TheVariants.{GoogleIgnoreList, File}
-use Rattle.oxc_sourcemap_tokens.specs.declared.error.Field.TheVariants.{Mappings, SourceRoot}
-use Rattle.oxc_sourcemap_tokens.specs.declared.error.Field.TheVariants.{DebugId}
-use Rattle.oxc_sourcemap_json.specs.Json.{JsonRecord}
+use Rattle.oxc_sourcemap_tokens.specs.declared.errors.error.Error.{Error}
+use Rattle.oxc_sourcemap_tokens.specs.declared.errors.error.Field.{Field}
+use Rattle.oxc_sourcemap_tokens.specs.declared.errors.error.Field.TheVariants.{Version as VersionField}
+use Rattle.oxc_sourcemap_tokens.specs.declared.errors.error.Field.TheVariants.{Sources as SourcesField}
+use Rattle.oxc_sourcemap_tokens.specs.declared.errors.error.Field.TheVariants.{Names}
+use Rattle.oxc_sourcemap_tokens.specs.declared.errors.error.Field.TheVariants.{SourcesContent}
+use Rattle.oxc_sourcemap_tokens.specs.declared.errors.error.Field.TheVariants.{IgnoreList}
+use Rattle.oxc_sourcemap_tokens.specs.declared.errors.error.Field.TheVariants.{GoogleIgnoreList}
+use Rattle.oxc_sourcemap_tokens.specs.declared.errors.error.Field.TheVariants.{File, Mappings}
+use Rattle.oxc_sourcemap_tokens.specs.declared.errors.error.Field.TheVariants.{SourceRoot, DebugId}
+use Rattle.oxc_sourcemap_json.specs.JsonRecord.{JsonRecord}
 use Rattle.oxc_sourcemap_json.specs.Shape.{◌>>=◌, or_misshapen, present, optional, onto_read}
 use Rattle.oxc_sourcemap_json.specs.Shape.{all_items, as_list, as_content, as_id, texts_in}
 use Rattle.oxc_sourcemap_json.specs.Shape.{contents_in, ids_in, required, version_of, names_of}
 use Rattle.oxc_sourcemap_json.specs.Shape.{ignore_list_of, shape, text_in, version_three}
-use Rattle.oxc_sourcemap_found.specs.declared.members.Entries.{Entries}
-use Rattle.oxc_sourcemap_found.specs.declared.members.Entries.TheVariants.{Sources, Contents, Ids}
-use Rattle.oxc_sourcemap_found.specs.declared.members.Entries.TheVariants.{GoogleIds}
+use Rattle.oxc_sourcemap_found.specs.declared.mending.members.Entries.{Entries}
+use Rattle.oxc_sourcemap_found.specs.declared.mending.members.Entries.TheVariants.{Sources}
+use Rattle.oxc_sourcemap_found.specs.declared.mending.members.Entries.TheVariants.{Contents, Ids}
+use Rattle.oxc_sourcemap_found.specs.declared.mending.members.Entries.TheVariants.{GoogleIds}
 use Rattle.oxc_sourcemap_found.specs.Mended.{is_null, is_other_three, version_change, names_change}
 use Rattle.oxc_sourcemap_found.specs.Mended.{entries, is_id_of, may_stay, kinds_from, list_change}
 use Rattle.oxc_sourcemap_found.specs.Mended.{sources_change, list_or_null_change}

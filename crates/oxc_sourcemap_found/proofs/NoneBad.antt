@@ -3,7 +3,7 @@ use Rattle.std.proofs.Common.{◌≡◌, ℕ, Bool, true, false, List, [], ◌�
 use Rattle.std.specs.List.{count_by, filter}
 use Rattle.std.proofs.lemmas.List.Sums.{length-filter}
 use Rattle.oxc_sourcemap_tokens.specs.Token.{TokenRecord}
-use Rattle.oxc_sourcemap_json.proofs.Steps.{none-left}
+use Rattle.oxc_sourcemap_json.proofs.SectionSteps.{none-left}
 use Rattle.oxc_sourcemap_found.specs.InRange.{is_past, has_bad_source, has_bad_name, token_in_range}
 
 -- the first of such tokens, and the others

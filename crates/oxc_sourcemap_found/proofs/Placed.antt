@@ -3,17 +3,17 @@ use Rattle.std.proofs.Common.{◌≡◌, ℕ, ◌+◌, true, true≢false, refl,
 use Rattle.std.proofs.Common.{option_map, is_some, Result, Ok, Err, []}
 use Rattle.std.specs.Option.{option_or}
 use Rattle.serde_json.specs.Data.{Data, Items, item}
-use Rattle.oxc_sourcemap_tokens.specs.declared.error.Error.{Error}
-use Rattle.oxc_sourcemap_tokens.specs.declared.error.Field.{Field}
-use Rattle.oxc_sourcemap_tokens.specs.declared.fault.FaultPlace.{FaultPlace}
-use Rattle.oxc_sourcemap_tokens.specs.declared.fault.FaultSpot.{FaultSpot}
-use Rattle.oxc_sourcemap_tokens.specs.declared.fault.FaultSpot.TheVariants.{Segment}
-use Rattle.oxc_sourcemap_tokens.specs.declared.fault.SegmentPlace.{SegmentPlace}
+use Rattle.oxc_sourcemap_tokens.specs.declared.errors.error.Error.{Error}
+use Rattle.oxc_sourcemap_tokens.specs.declared.errors.error.Field.{Field}
+use Rattle.oxc_sourcemap_tokens.specs.declared.errors.fault.FaultPlace.{FaultPlace}
+use Rattle.oxc_sourcemap_tokens.specs.declared.errors.fault.FaultSpot.{FaultSpot}
+use Rattle.oxc_sourcemap_tokens.specs.declared.errors.fault.FaultSpot.TheVariants.{Segment}
+use Rattle.oxc_sourcemap_tokens.specs.declared.errors.fault.SegmentPlace.{SegmentPlace}
 use Rattle.oxc_sourcemap_tokens.specs.declared.position.Position.{Position}
 use Rattle.oxc_sourcemap_tokens.specs.Places.{place_in}
 use Rattle.oxc_sourcemap_mappings.specs.Reading.{text_results, line_results}
 use Rattle.oxc_sourcemap_mappings.specs.SegmentPlaces.{fault_place, mappings_place, places_from}
-use Rattle.oxc_sourcemap_json.specs.Json.{JsonRecord}
+use Rattle.oxc_sourcemap_json.specs.JsonRecord.{JsonRecord}
 use Rattle.oxc_sourcemap_json.specs.Shape.{◌>>=◌, shape}
 use Rattle.oxc_sourcemap_json.specs.ShapeSpots.{ignored_field}
 use Rattle.oxc_sourcemap_json.specs.ValuePlaces.{place_at, ignored_spot, fields_spot, offset_place}
@@ -21,7 +21,7 @@ use Rattle.oxc_sourcemap_json.specs.ValuePlaces.{mappings_spot, or_place}
 use Rattle.oxc_sourcemap_found.specs.FoundPlaces.{found_fields_spot, found_mappings_spot}
 use Rattle.oxc_sourcemap_found.specs.FoundPlaces.{found_spot_in, section_place}
 use Rattle.oxc_sourcemap_found.specs.FoundPlaces.{found_sections_place}
-use Rattle.oxc_sourcemap_found.specs.MendedSections.{MendedSection, place_from, map_from}
+use Rattle.oxc_sourcemap_found.specs.MendedSections.{MendedSection, offset_from, map_from}
 use Rattle.oxc_sourcemap_found.specs.MendedSections.{section_from}
 use Rattle.oxc_sourcemap_found.proofs.Kept.{step}
 
@@ -86,19 +86,19 @@ by-offset (Err fault) offset section place rest is some = is
 
 -- the place of the fault of a section
 abbrev pub place_of_section : Option Position → ℕ → Data → Option FaultPlace
-place_of_section before number d = or_place (place_from before number d) (λ fault. Some (offset_place number d)) (λ at. section_place number d)
+place_of_section before number d = or_place (offset_from before number d) (λ fault. Some (offset_place number d)) (λ at. section_place number d)
 
 -- sections are at fault where the first of them is
 pub first-refused : (before : Option Position) (number : ℕ) (d : Data) (ds : Items) (place : Option FaultPlace) → place_of_section before number d ≡ place → is_some place ≡ true
     → found_sections_place before number (item d ds) ≡ place
 first-refused before number d ds place is some =
-    by-offset (place_from before number d) (offset_place number d) (section_place number d) place (λ at. found_sections_place (Some at) (number + 1) ds) is some
+    by-offset (offset_from before number d) (offset_place number d) (section_place number d) place (λ at. found_sections_place (Some at) (number + 1) ds) is some
 
 -- else where the others are
 pub then-others : (before : Option Position) (number : ℕ) (d : Data) (ds : Items) (s : MendedSection) → section_from before number d ≡ Ok s → place_of_section before number d ≡ None
     → found_sections_place before number (item d ds) ≡ found_sections_place (Some s.1) (number + 1) ds
 then-others before number d ds s e none =
-    let a = step (place_from before number d) (λ place. map_from d >>= (λ m. Ok (m, place))) s e in
+    let a = step (offset_from before number d) (λ place. map_from d >>= (λ m. Ok (m, place))) s e in
     let m = step (map_from d) (λ m. Ok (m, a.value)) s a.later in
     let at : a.value ≡ s.1 = ap (λ (q : MendedSection). q.1) (same-section (m.value, a.value) s m.later) in
     let section : section_place number d ≡ None = ap (λ r. or_place r (λ fault. Some (offset_place number d)) (λ at. section_place number d)) (sym a.first) ∙ none in

@@ -6,15 +6,15 @@ use Rattle.std.proofs.lemmas.Bool.Decides.{nat_tests}
 use Rattle.std.specs.List.{AllByRecursion, count_by}
 use Rattle.std.specs.Option.{IfSome}
 use Rattle.serde_json.specs.Data.{object, Members}
-use Rattle.oxc_sourcemap_tokens.specs.declared.error.Error.{Error}
-use Rattle.oxc_sourcemap_tokens.specs.declared.error.Error.TheVariants.{BadSourceReference}
+use Rattle.oxc_sourcemap_tokens.specs.declared.errors.error.Error.{Error}
+use Rattle.oxc_sourcemap_tokens.specs.declared.errors.error.Error.TheVariants.{BadSourceReference}
 use Rattle.oxc_sourcemap_tokens.specs.Errors.{unless}
 use Rattle.oxc_sourcemap_tokens.specs.Token.{TokenRecord}
 use Rattle.oxc_sourcemap_parts.specs.Record.{MapRecord}
 use Rattle.oxc_sourcemap_parts.specs.Sorted.{may_precede, are_tokens_sorted, token_line}
 use Rattle.oxc_sourcemap_parts.specs.Sorted.{token_column}
 use Rattle.oxc_sourcemap_parts.specs.Sound.{IsInRange, AreIdsInRange, IsSound}
-use Rattle.oxc_sourcemap_json.specs.Json.{JsonRecord}
+use Rattle.oxc_sourcemap_json.specs.JsonRecord.{JsonRecord}
 use Rattle.oxc_sourcemap_json.specs.Shape.{◌>>=◌, shape}
 use Rattle.oxc_sourcemap_steps.specs.Sorting.{put_in, sorted_tokens, sorted_map}
 use Rattle.oxc_sourcemap_steps.proofs.Sorting.{sorted-once}
@@ -23,7 +23,7 @@ use Rattle.oxc_sourcemap_json.specs.Decoded.{ignore_list_fault}
 use Rattle.oxc_sourcemap_json.proofs.ReadSound.{decoded-well}
 use Rattle.oxc_sourcemap_found.specs.InRange.{is_past, has_bad_source, has_bad_name, token_in_range}
 use Rattle.oxc_sourcemap_found.specs.InRange.{map_in_range, source_kinds, name_kinds}
-use Rattle.oxc_sourcemap_found.specs.declared.mend.MendKind.{MendKind}
+use Rattle.oxc_sourcemap_found.specs.declared.mending.mend.MendKind.{MendKind}
 use Rattle.oxc_sourcemap_found.specs.Mended.{MendedMembers, mended_members}
 use Rattle.oxc_sourcemap_found.specs.MendedMaps.{MendedMap, decoded_with_any_ids, mended_map}
 use Rattle.oxc_sourcemap_found.specs.MendedMaps.{map_of_members, plain_map}

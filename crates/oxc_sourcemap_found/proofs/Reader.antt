@@ -5,9 +5,9 @@ use Rattle.serde_json.specs.Data.{Data, null, boolean, number, string, array, ob
 use Rattle.serde_json.specs.Data.{Items}
 use Rattle.serde_json.specs.Find.{as_object, get_member}
 use Rattle.serde_json.specs.Read.{read}
-use Rattle.oxc_sourcemap_tokens.specs.declared.error.Error.{Error}
-use Rattle.oxc_sourcemap_tokens.specs.declared.error.Error.TheVariants.{TooLarge}
-use Rattle.oxc_sourcemap_tokens.specs.declared.error.Field.TheVariants.{Object}
+use Rattle.oxc_sourcemap_tokens.specs.declared.errors.error.Error.{Error}
+use Rattle.oxc_sourcemap_tokens.specs.declared.errors.error.Error.TheVariants.{TooLarge}
+use Rattle.oxc_sourcemap_tokens.specs.declared.errors.error.Field.TheVariants.{Object}
 use Rattle.oxc_sourcemap_tokens.specs.Errors.{unless}
 use Rattle.oxc_sourcemap_parts.specs.Record.{Text, MapRecord}
 use Rattle.oxc_sourcemap_parts.specs.Sorted.{are_tokens_sorted}
@@ -17,11 +17,11 @@ use Rattle.oxc_sourcemap_join.specs.Joined.{joined}
 use Rattle.oxc_sourcemap_json.specs.JoinLimits.{is_map_within_limits}
 use Rattle.oxc_sourcemap_json.specs.Section.{is_indexed}
 use Rattle.oxc_sourcemap_json.specs.Sections.{Sections, all_sections, joined_sections}
-use Rattle.oxc_sourcemap_json.specs.ReadMap.{sections_in, indexed_said, indexed_record, map_said}
+use Rattle.oxc_sourcemap_json.specs.ReadMap.{sections_in, indexed_form, indexed_record, map_of_form}
 use Rattle.oxc_sourcemap_json.specs.ReadMap.{read_value, read_map}
 use Rattle.oxc_sourcemap_steps.specs.Sorting.{sorted_tokens, sorted_map}
-use Rattle.oxc_sourcemap_found.specs.declared.mend.Mend.{Mend}
-use Rattle.oxc_sourcemap_found.specs.declared.mend.MendKind.TheVariants.{Unsorted}
+use Rattle.oxc_sourcemap_found.specs.declared.mending.mend.Mend.{Mend}
+use Rattle.oxc_sourcemap_found.specs.declared.mending.mend.MendKind.TheVariants.{Unsorted}
 use Rattle.oxc_sourcemap_found.specs.Mended.{MendedMembers, with_version, as_found, changed}
 use Rattle.oxc_sourcemap_found.specs.MendedMaps.{plain_map, mends_in}
 use Rattle.oxc_sourcemap_found.specs.MendedSections.{MendedSection, sections_from, cut_maps}
@@ -53,7 +53,7 @@ record IsRead (d : Data) (r : MapRecord) : Type 0 where
   items_are : sections_in d ≡ Ok items
   is : joined_sections (all_sections items) >>= (λ r. Ok (indexed_record file r)) ≡ Ok r
 
-read-as : (d : Data) (file : Result (Option Text) Error) (items : Result Items Error) (r : MapRecord) → file_of d ≡ file → sections_in d ≡ items → map_said (indexed_said file items) ≡ Ok r → IsRead d r
+read-as : (d : Data) (file : Result (Option Text) Error) (items : Result Items Error) (r : MapRecord) → file_of d ≡ file → sections_in d ≡ items → map_of_form (indexed_form file items) ≡ Ok r → IsRead d r
 read-as d (Err f) items r p q e = cc
 read-as d (Ok file) (Err f) r p q e = cc
 read-as d (Ok file) (Ok items) r p q e = record { file = file; file_is = p; items = items; items_are = q; is = e }
@@ -95,7 +95,7 @@ sections-by ms r i =
     (ap (λ t. cond t (Ok (joined all.maps)) (Err TooLarge)) k.within)
     ∙ ap (λ q. Ok (found_record [] (indexed_record i.file q))) k.is ∙ ap (λ q. Ok (found_record [] q)) is
 
-sections-found : (ms : Members) (r : MapRecord) → map_said (indexed_said (file_of (object ms)) (sections_in (object ms))) ≡ Ok r
+sections-found : (ms : Members) (r : MapRecord) → map_of_form (indexed_form (file_of (object ms)) (sections_in (object ms))) ≡ Ok r
     → found_sections [] (with_version (as_found ms)) ≡ Ok (found_record [] r)
 sections-found ms r e = sections-by ms r (read-as (object ms) (file_of (object ms)) (sections_in (object ms)) r refl refl e)
 

@@ -4,17 +4,17 @@ use Rattle.std.proofs.Common.{append_assoc, Option, Some, None, Result, Ok, Err}
 use Rattle.std.specs.List.{slice_get}
 use Rattle.std.proofs.lemmas.List.{append-nil, length-append}
 use Rattle.serde_json.specs.Data.{Data, Items, no_items, item}
-use Rattle.oxc_sourcemap_tokens.specs.declared.error.Error.{Error}
+use Rattle.oxc_sourcemap_tokens.specs.declared.errors.error.Error.{Error}
 use Rattle.oxc_sourcemap_tokens.specs.declared.position.Position.{Position}
 use Rattle.oxc_sourcemap_parts.specs.Record.{MapRecord}
 use Rattle.oxc_sourcemap_json.specs.Shape.{◌>>=◌}
-use Rattle.oxc_sourcemap_found.specs.declared.mend.Mend.{Mend}
+use Rattle.oxc_sourcemap_found.specs.declared.mending.mend.Mend.{Mend}
 use Rattle.oxc_sourcemap_found.specs.MendedMaps.{mends_in}
 use Rattle.oxc_sourcemap_found.specs.MendedSections.{MendedSection, section_from, sections_from}
 use Rattle.oxc_sourcemap_found.specs.MendedSections.{next_place, cut_map, cut_kinds, cut_maps}
 use Rattle.oxc_sourcemap_found.specs.MendedSections.{section_mends}
-use Rattle.oxc_sourcemap_found.specs.declared.sections.Section.{Section}
-use Rattle.oxc_sourcemap_found.specs.States.{section_view}
+use Rattle.oxc_sourcemap_found.specs.declared.mending.sections.Section.{Section}
+use Rattle.oxc_sourcemap_found.specs.Views.{section_view}
 
 -- ---- sections that are read
 

@@ -4,8 +4,8 @@ use Rattle.std.proofs.Common.{subst, Option, Some, None, Result, Ok}
 use Rattle.std.specs.List.{AllByRecursion, filter}
 use Rattle.serde_json.specs.Data.{Data, Items, no_items, item}
 use Rattle.serde_json.specs.Find.{as_object}
-use Rattle.oxc_sourcemap_tokens.specs.declared.error.Error.{Error}
-use Rattle.oxc_sourcemap_tokens.specs.declared.error.Field.TheVariants.{Object}
+use Rattle.oxc_sourcemap_tokens.specs.declared.errors.error.Error.{Error}
+use Rattle.oxc_sourcemap_tokens.specs.declared.errors.error.Field.TheVariants.{Object}
 use Rattle.oxc_sourcemap_tokens.specs.declared.position.Position.{Position}
 use Rattle.oxc_sourcemap_tokens.specs.Token.{TokenRecord}
 use Rattle.oxc_sourcemap_parts.specs.Record.{MapRecord}
@@ -15,7 +15,7 @@ use Rattle.oxc_sourcemap_join.specs.Joined.{added, added_all, nothing_joined, jo
 use Rattle.oxc_sourcemap_json.specs.Section.{map_in}
 use Rattle.oxc_sourcemap_json.proofs.InRange.{added-in-range}
 use Rattle.oxc_sourcemap_found.specs.MendedMaps.{MendedMap, plain_map}
-use Rattle.oxc_sourcemap_found.specs.MendedSections.{MendedSection, place_from, map_from}
+use Rattle.oxc_sourcemap_found.specs.MendedSections.{MendedSection, offset_from, map_from}
 use Rattle.oxc_sourcemap_found.specs.MendedSections.{section_from, sections_from, is_behind}
 use Rattle.oxc_sourcemap_found.specs.MendedSections.{reaches_into, next_place, cut_map, cut_maps}
 use Rattle.oxc_sourcemap_found.proofs.Kept.{step}
@@ -42,7 +42,7 @@ map-ranged d m e =
 
 section-ranged : (before : Option Position) (k : ℕ) (d : Data) (s : MendedSection) → section_from before k d ≡ Ok s → AreIdsInRange s.0.map
 section-ranged before k d s e =
-    let p = step (place_from before k d) (λ place. map_from d >>= (λ m. Ok (m, place))) s e in
+    let p = step (offset_from before k d) (λ place. map_from d >>= (λ m. Ok (m, place))) s e in
     let m = step (map_from d) (λ m. Ok (m, p.value)) s p.later in
     let is : (m.value, p.value) ≡ s = same-ok (m.value, p.value) s m.later in
     subst (λ (q : MendedSection). AreIdsInRange q.0.map) is (map-ranged d m.value m.first)

@@ -9,10 +9,11 @@ use Rattle.serde_json.specs.Data.{Items, no_items, Members}
 use Rattle.serde_json.specs.Find.{get_member, as_array}
 use Rattle.serde_json.proofs.Views.{get_member-put, get_member-put_other}
 use Rattle.oxc_sourcemap_json.specs.Shape.{present}
-use Rattle.oxc_sourcemap_found.specs.declared.members.Entries.{Entries}
-use Rattle.oxc_sourcemap_found.specs.declared.members.Entries.TheVariants.{Sources, Contents, Ids}
-use Rattle.oxc_sourcemap_found.specs.declared.members.Entries.TheVariants.{GoogleIds}
-use Rattle.oxc_sourcemap_found.specs.declared.mend.MendKind.{MendKind}
+use Rattle.oxc_sourcemap_found.specs.declared.mending.members.Entries.{Entries}
+use Rattle.oxc_sourcemap_found.specs.declared.mending.members.Entries.TheVariants.{Sources}
+use Rattle.oxc_sourcemap_found.specs.declared.mending.members.Entries.TheVariants.{Contents, Ids}
+use Rattle.oxc_sourcemap_found.specs.declared.mending.members.Entries.TheVariants.{GoogleIds}
+use Rattle.oxc_sourcemap_found.specs.declared.mending.mend.MendKind.{MendKind}
 use Rattle.oxc_sourcemap_found.specs.Mended.{Change, is_null, is_other_three, version_change}
 use Rattle.oxc_sourcemap_found.specs.Mended.{names_change, entries, may_stay, stand_in}
 use Rattle.oxc_sourcemap_found.specs.Mended.{mended_entry, mended_items, kinds_from, replaced_if}

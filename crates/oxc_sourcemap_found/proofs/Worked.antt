@@ -1,19 +1,22 @@
--- Worked examples, computed by the definitions themselves.
+-- Worked examples of maps as they are found, computed by the definitions themselves.
 use Rattle.std.specs.Prelude.{◌≡◌, refl, [], ◌∷◌, codes, List, ℕ, true, false, Some, None}
 use Rattle.serde_json.specs.Data.{Data, null, number, unsigned, array, object, member, no_members}
 use Rattle.serde_json.specs.Data.{item, no_items}
-use Rattle.oxc_sourcemap_tokens.specs.declared.error.Field.TheVariants.{Object, Version, Sections}
-use Rattle.oxc_sourcemap_tokens.specs.declared.error.Field.TheVariants.{Map, Offset}
-use Rattle.oxc_sourcemap_tokens.specs.declared.fault.FaultSpot.TheVariants.{Member, Entry}
+use Rattle.oxc_sourcemap_tokens.specs.declared.errors.error.Field.TheVariants.{Object, Version}
+use Rattle.oxc_sourcemap_tokens.specs.declared.errors.error.Field.TheVariants.{Sections, Map}
+use Rattle.oxc_sourcemap_tokens.specs.declared.errors.error.Field.TheVariants.{Offset}
+use Rattle.oxc_sourcemap_tokens.specs.declared.errors.fault.FaultSpot.TheVariants.{Member, Entry}
 use Rattle.oxc_sourcemap_text.specs.DataUrls.{decoded_data_url}
 use Rattle.oxc_sourcemap_tokens.specs.declared.position.Position.{Position}
 use Rattle.oxc_sourcemap_tokens.specs.Token.{TokenRecord}
 use Rattle.oxc_sourcemap_parts.specs.Record.{Text, MapRecord}
 use Rattle.oxc_sourcemap_parts.specs.Views.{empty_record}
 use Rattle.oxc_sourcemap_join.specs.Joined.{position}
-use Rattle.oxc_sourcemap_found.specs.declared.mend.MendKind.{MendKind}
-use Rattle.oxc_sourcemap_found.specs.declared.mend.MendKind.TheVariants.{ByteOrderMark, JsonPrefix}
-use Rattle.oxc_sourcemap_found.specs.declared.mend.MendKind.TheVariants.{NullNames, Unsorted, Cut}
+use Rattle.oxc_sourcemap_found.specs.declared.mending.mend.MendKind.{MendKind}
+use Rattle.oxc_sourcemap_found.specs.declared.mending.mend.MendKind.TheVariants.{ByteOrderMark}
+use Rattle.oxc_sourcemap_found.specs.declared.mending.mend.MendKind.TheVariants.{JsonPrefix}
+use Rattle.oxc_sourcemap_found.specs.declared.mending.mend.MendKind.TheVariants.{NullNames}
+use Rattle.oxc_sourcemap_found.specs.declared.mending.mend.MendKind.TheVariants.{Unsorted, Cut}
 use Rattle.oxc_sourcemap_found.specs.MendedSections.{MendedSection, is_behind, cut_map}
 use Rattle.oxc_sourcemap_found.specs.MendedSections.{section_mends}
 use Rattle.oxc_sourcemap_found.specs.FoundMaps.{found_record, in_order}

@@ -5,28 +5,30 @@ use Rattle.std.specs.Option.{option_map, option_and_then, option_or}
 use Rattle.serde_json.specs.Data.{Data, Items, no_items, item, Members, object}
 use Rattle.serde_json.specs.Find.{get, as_object}
 use Rattle.serde_json.specs.Read.{read}
-use Rattle.oxc_sourcemap_tokens.specs.declared.error.Error.{Error}
-use Rattle.oxc_sourcemap_tokens.specs.declared.error.Error.TheVariants.{OutOfMemory, TooLarge}
-use Rattle.oxc_sourcemap_tokens.specs.declared.error.Field.{Field}
-use Rattle.oxc_sourcemap_tokens.specs.declared.error.Field.TheVariants.{Object, Map as MapField}
-use Rattle.oxc_sourcemap_tokens.specs.declared.error.Field.TheVariants.{Sections as SectionsField}
+use Rattle.oxc_sourcemap_tokens.specs.declared.errors.error.Error.{Error}
+use Rattle.oxc_sourcemap_tokens.specs.declared.errors.error.Error.TheVariants.{OutOfMemory}
+use Rattle.oxc_sourcemap_tokens.specs.declared.errors.error.Error.TheVariants.{TooLarge}
+use Rattle.oxc_sourcemap_tokens.specs.declared.errors.error.Field.{Field}
+use Rattle.oxc_sourcemap_tokens.specs.declared.errors.error.Field.TheVariants.{Object}
+use Rattle.oxc_sourcemap_tokens.specs.declared.errors.error.Field.TheVariants.{Map as MapField}
+use Rattle.oxc_sourcemap_tokens.specs.declared.errors.error.Field.TheVariants.{Sections as SectionsField}
 use Rattle.oxc_sourcemap_tokens.specs.declared.position.Position.{Position}
 use Rattle.oxc_sourcemap_mappings.specs.SegmentPlaces.{fault_place}
 use Rattle.oxc_sourcemap_parts.specs.Record.{Text}
-use Rattle.oxc_sourcemap_json.specs.Json.{JsonRecord}
+use Rattle.oxc_sourcemap_json.specs.JsonRecord.{JsonRecord}
 use Rattle.oxc_sourcemap_json.specs.Shape.{shape, file_of}
 use Rattle.oxc_sourcemap_json.specs.ReadMap.{sections_in}
 use Rattle.oxc_sourcemap_json.specs.Section.{is_indexed, as_plain}
-use Rattle.oxc_sourcemap_tokens.specs.declared.fault.Fault.{Fault}
-use Rattle.oxc_sourcemap_tokens.specs.declared.fault.FaultPlace.{FaultPlace}
-use Rattle.oxc_sourcemap_tokens.specs.declared.fault.FaultSpot.{FaultSpot}
-use Rattle.oxc_sourcemap_tokens.specs.declared.fault.FaultSpot.TheVariants.{Segment, Member}
+use Rattle.oxc_sourcemap_tokens.specs.declared.errors.fault.Fault.{Fault}
+use Rattle.oxc_sourcemap_tokens.specs.declared.errors.fault.FaultPlace.{FaultPlace}
+use Rattle.oxc_sourcemap_tokens.specs.declared.errors.fault.FaultSpot.{FaultSpot}
+use Rattle.oxc_sourcemap_tokens.specs.declared.errors.fault.FaultSpot.TheVariants.{Segment, Member}
 use Rattle.oxc_sourcemap_json.specs.ShapeSpots.{shape_spot, ignored_field}
 use Rattle.oxc_sourcemap_json.specs.ValuePlaces.{ignored_spot, offset_place, or_place, IsReading}
 use Rattle.oxc_sourcemap_tokens.specs.Places.{place_in}
 use Rattle.oxc_sourcemap_found.specs.FoundMaps.{FoundRecord}
 use Rattle.oxc_sourcemap_found.specs.Mended.{mended_members, with_version, as_found}
-use Rattle.oxc_sourcemap_found.specs.MendedSections.{place_from}
+use Rattle.oxc_sourcemap_found.specs.MendedSections.{offset_from}
 use Rattle.oxc_sourcemap_found.specs.Opening.{opened}
 
 -- where the mappings of a map, which may have any ids, have a fault
@@ -70,7 +72,7 @@ section_place number d = option_map (place_in (Some number)) (found_map_spot d)
 abbrev pub found_sections_place : Option Position → ℕ → Items → Option FaultPlace
 found_sections_place before number no_items = None
 found_sections_place before number (item d ds) =
-    or_place (place_from before number d) (λ fault. Some (offset_place number d)) (λ place.
+    or_place (offset_from before number d) (λ fault. Some (offset_place number d)) (λ place.
     option_or (section_place number d) (found_sections_place (Some place) (number + 1) ds))
 
 -- where an indexed map whose version is mended has its first fault: in its version and its file, then in its list of sections, then
@@ -107,8 +109,8 @@ HasPlaceIfRefused (Err fault) None = fault ≡ TooLarge
 
 -- The place of the error of the call is this one, if it does not lack memory; it is none for `TooLarge` alone. Where the call succeeds,
 -- there is no such place.
-abbrev pub Finds : {A : Type 0} → Result A Fault → Option FaultPlace → Type 0
-Finds result place =
+abbrev pub LocatesFault : {A : Type 0} → Result A Fault → Option FaultPlace → Type 0
+LocatesFault result place =
     IfOk result (λ x. place ≡ None)
     × IfErr result (λ f. (f.error ≢ OutOfMemory) → (place ≡ f.place) × HasPlaceIfRefused (Err f.error) f.place)
 
@@ -117,5 +119,5 @@ abbrev pub IsFoundFault : Text → Fault → Type 0
 IsFoundFault text f = (f.error ≢ OutOfMemory) → IsFoundPlace text f.place × HasPlaceIfRefused (Err f.error) f.place
 
 -- The place of the error of the call is that of the fault of this text; where the call succeeds, there is none.
-abbrev pub FindsIn : {A : Type 0} → Text → Result A Fault → Type 0
-FindsIn text result = IfOk result (λ x. IsFoundPlace text None) × IfErr result (IsFoundFault text)
+abbrev pub LocatesFaultIn : {A : Type 0} → Text → Result A Fault → Type 0
+LocatesFaultIn text result = IfOk result (λ x. IsFoundPlace text None) × IfErr result (IsFoundFault text)

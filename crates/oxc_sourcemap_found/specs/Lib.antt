@@ -7,5 +7,5 @@ pub mod MendedSections
 pub mod FoundMaps
 pub mod FoundPlaces
 pub mod FoundLaws
-pub mod States
+pub mod Views
 pub mod Words

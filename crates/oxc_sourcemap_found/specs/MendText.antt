@@ -1,18 +1,22 @@
 -- The lines that tell what was mended, as bytes.
 use Rattle.std.specs.Prelude.{ℕ, List, ◌++◌, codes, Option, Some, None}
 use Rattle.std.specs.Fmt.{decimal}
-use Rattle.oxc_sourcemap_found.specs.declared.mend.Mend.{Mend}
-use Rattle.oxc_sourcemap_found.specs.declared.mend.MendKind.{MendKind}
-use Rattle.oxc_sourcemap_found.specs.declared.mend.MendKind.TheVariants.{ByteOrderMark, JsonPrefix}
-use Rattle.oxc_sourcemap_found.specs.declared.mend.MendKind.TheVariants.{DataUrl}
-use Rattle.oxc_sourcemap_found.specs.declared.mend.MendKind.TheVariants.{Version, NoSources}
-use Rattle.oxc_sourcemap_found.specs.declared.mend.MendKind.TheVariants.{NullSource, NoContents}
-use Rattle.oxc_sourcemap_found.specs.declared.mend.MendKind.TheVariants.{BadContent, NullNames}
-use Rattle.oxc_sourcemap_found.specs.declared.mend.MendKind.TheVariants.{NoIgnoreList, BadIgnoredId}
-use Rattle.oxc_sourcemap_found.specs.declared.mend.MendKind.TheVariants.{NoGoogleIgnoreList}
-use Rattle.oxc_sourcemap_found.specs.declared.mend.MendKind.TheVariants.{BadGoogleIgnoredId}
-use Rattle.oxc_sourcemap_found.specs.declared.mend.MendKind.TheVariants.{SourceIds, NameIds}
-use Rattle.oxc_sourcemap_found.specs.declared.mend.MendKind.TheVariants.{Unsorted, Cut}
+use Rattle.oxc_sourcemap_found.specs.declared.mending.mend.Mend.{Mend}
+use Rattle.oxc_sourcemap_found.specs.declared.mending.mend.MendKind.{MendKind}
+use Rattle.oxc_sourcemap_found.specs.declared.mending.mend.MendKind.TheVariants.{ByteOrderMark}
+use Rattle.oxc_sourcemap_found.specs.declared.mending.mend.MendKind.TheVariants.{JsonPrefix}
+use Rattle.oxc_sourcemap_found.specs.declared.mending.mend.MendKind.TheVariants.{DataUrl, Version}
+use Rattle.oxc_sourcemap_found.specs.declared.mending.mend.MendKind.TheVariants.{NoSources}
+use Rattle.oxc_sourcemap_found.specs.declared.mending.mend.MendKind.TheVariants.{NullSource}
+use Rattle.oxc_sourcemap_found.specs.declared.mending.mend.MendKind.TheVariants.{NoContents}
+use Rattle.oxc_sourcemap_found.specs.declared.mending.mend.MendKind.TheVariants.{BadContent}
+use Rattle.oxc_sourcemap_found.specs.declared.mending.mend.MendKind.TheVariants.{NullNames}
+use Rattle.oxc_sourcemap_found.specs.declared.mending.mend.MendKind.TheVariants.{NoIgnoreList}
+use Rattle.oxc_sourcemap_found.specs.declared.mending.mend.MendKind.TheVariants.{BadIgnoredId}
+use Rattle.oxc_sourcemap_found.specs.declared.mending.mend.MendKind.TheVariants.{NoGoogleIgnoreList}
+use Rattle.oxc_sourcemap_found.specs.declared.mending.mend.MendKind.TheVariants.{BadGoogleIgnoredId}
+use Rattle.oxc_sourcemap_found.specs.declared.mending.mend.MendKind.TheVariants.{SourceIds, NameIds}
+use Rattle.oxc_sourcemap_found.specs.declared.mending.mend.MendKind.TheVariants.{Unsorted, Cut}
 
 -- what was mended
 abbrev pub kind_text : MendKind → List ℕ

@@ -10,17 +10,21 @@ use Rattle.serde_json.specs.Data.{string, array, object, Items, no_items, item, 
 use Rattle.serde_json.specs.Find.{get_member, as_null, as_array}
 use Rattle.serde_json.specs.View.{items_of}
 use Rattle.oxc_sourcemap_json.specs.Shape.{present, as_content, as_id}
-use Rattle.oxc_sourcemap_found.specs.declared.members.TheConstants.{THREE}
-use Rattle.oxc_sourcemap_found.specs.declared.members.Entries.{Entries}
-use Rattle.oxc_sourcemap_found.specs.declared.members.Entries.TheVariants.{Sources, Contents, Ids}
-use Rattle.oxc_sourcemap_found.specs.declared.members.Entries.TheVariants.{GoogleIds}
-use Rattle.oxc_sourcemap_found.specs.declared.mend.MendKind.{MendKind}
-use Rattle.oxc_sourcemap_found.specs.declared.mend.MendKind.TheVariants.{Version, NoSources}
-use Rattle.oxc_sourcemap_found.specs.declared.mend.MendKind.TheVariants.{NullSource, NoContents}
-use Rattle.oxc_sourcemap_found.specs.declared.mend.MendKind.TheVariants.{BadContent, NullNames}
-use Rattle.oxc_sourcemap_found.specs.declared.mend.MendKind.TheVariants.{NoIgnoreList, BadIgnoredId}
-use Rattle.oxc_sourcemap_found.specs.declared.mend.MendKind.TheVariants.{NoGoogleIgnoreList}
-use Rattle.oxc_sourcemap_found.specs.declared.mend.MendKind.TheVariants.{BadGoogleIgnoredId}
+use Rattle.oxc_sourcemap_found.specs.declared.mending.members.TheConstants.{THREE}
+use Rattle.oxc_sourcemap_found.specs.declared.mending.members.Entries.{Entries}
+use Rattle.oxc_sourcemap_found.specs.declared.mending.members.Entries.TheVariants.{Sources}
+use Rattle.oxc_sourcemap_found.specs.declared.mending.members.Entries.TheVariants.{Contents, Ids}
+use Rattle.oxc_sourcemap_found.specs.declared.mending.members.Entries.TheVariants.{GoogleIds}
+use Rattle.oxc_sourcemap_found.specs.declared.mending.mend.MendKind.{MendKind}
+use Rattle.oxc_sourcemap_found.specs.declared.mending.mend.MendKind.TheVariants.{Version, NoSources}
+use Rattle.oxc_sourcemap_found.specs.declared.mending.mend.MendKind.TheVariants.{NullSource}
+use Rattle.oxc_sourcemap_found.specs.declared.mending.mend.MendKind.TheVariants.{NoContents}
+use Rattle.oxc_sourcemap_found.specs.declared.mending.mend.MendKind.TheVariants.{BadContent}
+use Rattle.oxc_sourcemap_found.specs.declared.mending.mend.MendKind.TheVariants.{NullNames}
+use Rattle.oxc_sourcemap_found.specs.declared.mending.mend.MendKind.TheVariants.{NoIgnoreList}
+use Rattle.oxc_sourcemap_found.specs.declared.mending.mend.MendKind.TheVariants.{BadIgnoredId}
+use Rattle.oxc_sourcemap_found.specs.declared.mending.mend.MendKind.TheVariants.{NoGoogleIgnoreList}
+use Rattle.oxc_sourcemap_found.specs.declared.mending.mend.MendKind.TheVariants.{BadGoogleIgnoredId}
 
 -- ---- members
 

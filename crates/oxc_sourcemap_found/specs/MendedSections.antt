@@ -4,18 +4,18 @@ use Rattle.std.specs.Prelude.{Option, Some, None, Result, Ok, Err, if◌then◌e
 use Rattle.std.specs.Option.{option_map_or}
 use Rattle.serde_json.specs.Data.{Data, Items, no_items, item}
 use Rattle.serde_json.specs.Find.{as_object}
-use Rattle.oxc_sourcemap_tokens.specs.declared.error.Error.{Error}
-use Rattle.oxc_sourcemap_tokens.specs.declared.error.Error.TheVariants.{SectionOrder}
-use Rattle.oxc_sourcemap_tokens.specs.declared.error.Field.TheVariants.{Object}
+use Rattle.oxc_sourcemap_tokens.specs.declared.errors.error.Error.{Error}
+use Rattle.oxc_sourcemap_tokens.specs.declared.errors.error.Error.TheVariants.{SectionOrder}
+use Rattle.oxc_sourcemap_tokens.specs.declared.errors.error.Field.TheVariants.{Object}
 use Rattle.oxc_sourcemap_tokens.specs.declared.position.Position.{Position}
 use Rattle.oxc_sourcemap_tokens.specs.Token.{TokenRecord, last}
 use Rattle.oxc_sourcemap_parts.specs.Record.{MapRecord}
 use Rattle.oxc_sourcemap_json.specs.Shape.{◌>>=◌, or_misshapen}
-use Rattle.oxc_sourcemap_json.specs.Section.{place_in, map_in}
+use Rattle.oxc_sourcemap_json.specs.Section.{offset_in, map_in}
 use Rattle.oxc_sourcemap_json.specs.Sections.{may_follow, moved_position}
-use Rattle.oxc_sourcemap_found.specs.declared.mend.Mend.{Mend}
-use Rattle.oxc_sourcemap_found.specs.declared.mend.MendKind.{MendKind}
-use Rattle.oxc_sourcemap_found.specs.declared.mend.MendKind.TheVariants.{Cut}
+use Rattle.oxc_sourcemap_found.specs.declared.mending.mend.Mend.{Mend}
+use Rattle.oxc_sourcemap_found.specs.declared.mending.mend.MendKind.{MendKind}
+use Rattle.oxc_sourcemap_found.specs.declared.mending.mend.MendKind.TheVariants.{Cut}
 use Rattle.oxc_sourcemap_found.specs.MendedMaps.{MendedMap, plain_map, mends_in}
 
 -- ---- sections, as they are read
@@ -29,8 +29,8 @@ abbrev pub in_order_after : Option Position → ℕ → Position → Result Posi
 in_order_after before number place = if may_follow before place then Ok place else Err (SectionOrder number)
 
 -- its offset, or the first fault of that
-abbrev pub place_from : Option Position → ℕ → Data → Result Position Error
-place_from before number d = place_in d >>= in_order_after before number
+abbrev pub offset_from : Option Position → ℕ → Data → Result Position Error
+offset_from before number d = offset_in d >>= in_order_after before number
 
 -- the map of a section, mended, or its first fault
 abbrev pub map_from : Data → Result MendedMap Error
@@ -42,7 +42,7 @@ map_from d = do
 -- the section of this number, behind one at this offset, or its first fault
 abbrev pub section_from : Option Position → ℕ → Data → Result MendedSection Error
 section_from before number d = do
-  place ← place_from before number d
+  place ← offset_from before number d
   m ← map_from d
   Ok (m, place)
 

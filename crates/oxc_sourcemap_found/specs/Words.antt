@@ -5,7 +5,7 @@ pub use Rattle.serde_json.specs.Find.{get_member, as_array, as_object}
 pub use Rattle.serde_json.specs.View.{view, items_view, members_view}
 pub use Rattle.oxc_sourcemap_join.specs.Joined.{owned_records}
 pub use Rattle.oxc_sourcemap_json.specs.ReadMap.{indexed_record}
-pub use Rattle.oxc_sourcemap_json.specs.Json.{json_record}
+pub use Rattle.oxc_sourcemap_json.specs.JsonRecord.{json_record}
 pub use Rattle.oxc_sourcemap_json.specs.Members.{lent_member}
 pub use Rattle.oxc_sourcemap_json.specs.Shape.{present}
 pub use Rattle.oxc_sourcemap_json.specs.ShapeSpots.{misshapen}
@@ -13,9 +13,12 @@ pub use Rattle.oxc_sourcemap_parts.specs.Views.{record_of_parts}
 pub use Rattle.oxc_sourcemap_steps.specs.Sorting.{sorted_map}
 pub use Rattle.oxc_sourcemap_tokens.specs.Places.{Reads, Locates, no_place}
 pub use Rattle.oxc_sourcemap_tokens.specs.Results.{Answers, OnlyMemory, lent_item}
-pub use Rattle.oxc_sourcemap_tokens.specs.declared.error.Error.TheVariants.{OutOfMemory, TooLarge}
-pub use Rattle.oxc_sourcemap_tokens.specs.declared.error.Error.TheVariants.{BadJson}
-pub use Rattle.oxc_sourcemap_tokens.specs.declared.error.JsonFault.TheVariants.{Reading}
+pub use Rattle.oxc_sourcemap_tokens.specs.declared.errors.error.Error.TheVariants.{OutOfMemory}
+pub use Rattle.oxc_sourcemap_tokens.specs.declared.errors.error.Error.TheVariants.{TooLarge}
+pub use Rattle.oxc_sourcemap_tokens.specs.declared.errors.error.Error.TheVariants.{BadJson}
+pub use Rattle.oxc_sourcemap_tokens.specs.declared.errors.error.JsonFault.TheVariants.{Reading}
+pub use Rattle.oxc_sourcemap_json.specs.ValuePlaces.{place_at, offset_place, or_place, IsReading}
+pub use Rattle.serde_json.specs.Errors.{IsMemory}
 pub use Rattle.oxc_sourcemap_found.specs.FoundMaps.{found_record, found_map, joined_map}
 pub use Rattle.oxc_sourcemap_found.specs.FoundMaps.{found_sections, found_value, found, order_mends}
 pub use Rattle.oxc_sourcemap_found.specs.FoundMaps.{in_order}
@@ -32,20 +35,18 @@ pub use Rattle.oxc_sourcemap_found.specs.Mended.{with_google_ignore_list, source
 pub use Rattle.oxc_sourcemap_found.specs.Mended.{mended_members, as_found}
 pub use Rattle.oxc_sourcemap_found.specs.MendedMaps.{mends_in, decoded_with_any_ids, mended_map}
 pub use Rattle.oxc_sourcemap_found.specs.MendedMaps.{plain_map}
-pub use Rattle.oxc_sourcemap_found.specs.MendedSections.{place_from, map_from, section_from}
+pub use Rattle.oxc_sourcemap_found.specs.MendedSections.{offset_from, map_from, section_from}
 pub use Rattle.oxc_sourcemap_found.specs.MendedSections.{sections_from, is_behind, cut_map}
 pub use Rattle.oxc_sourcemap_found.specs.MendedSections.{reaches_into, cut_kinds, cut_maps}
 pub use Rattle.oxc_sourcemap_found.specs.MendedSections.{section_mends}
 pub use Rattle.oxc_sourcemap_found.specs.Opening.{Opened, behind, without_mark, without_prefix}
 pub use Rattle.oxc_sourcemap_found.specs.Opening.{data_in, opened}
-pub use Rattle.oxc_sourcemap_found.specs.States.{state_of, found_view, opened_view, mended_view}
-pub use Rattle.oxc_sourcemap_found.specs.States.{section_view}
+pub use Rattle.oxc_sourcemap_found.specs.Views.{state_of, found_view, opened_view, mended_view}
+pub use Rattle.oxc_sourcemap_found.specs.Views.{section_view}
 pub use Rattle.oxc_sourcemap_found.specs.FoundLaws.{ExactIsFound, ExactIsSorted, MendedIsMended}
 pub use Rattle.oxc_sourcemap_found.specs.FoundLaws.{FoundIsSound}
 pub use Rattle.oxc_sourcemap_found.specs.FoundPlaces.{found_fields_spot, plain_spot, found_map_spot}
 pub use Rattle.oxc_sourcemap_found.specs.FoundPlaces.{section_place, found_sections_place}
 pub use Rattle.oxc_sourcemap_found.specs.FoundPlaces.{found_indexed_place, found_value_place}
-pub use Rattle.oxc_sourcemap_found.specs.FoundPlaces.{IsFoundPlace, HasPlaceIfRefused, Finds}
-pub use Rattle.oxc_sourcemap_found.specs.FoundPlaces.{FindsIn, IsFoundFault}
-pub use Rattle.oxc_sourcemap_json.specs.ValuePlaces.{place_at, offset_place, or_place, IsReading}
-pub use Rattle.serde_json.specs.Errors.{IsMemory}
+pub use Rattle.oxc_sourcemap_found.specs.FoundPlaces.{IsFoundPlace, HasPlaceIfRefused, LocatesFault}
+pub use Rattle.oxc_sourcemap_found.specs.FoundPlaces.{LocatesFaultIn, IsFoundFault}

@@ -4,21 +4,20 @@ ghost use Rattle.oxc_sourcemap_found.specs.Words.{view, Answers, record_of_parts
 ghost use Rattle.oxc_sourcemap_found.specs.Words.{joined_map, found_record, found_sections};
 ghost use Rattle.oxc_sourcemap_found.specs.Words.{indexed_record, Reads, OutOfMemory, OnlyMemory};
 ghost use Rattle.oxc_sourcemap_found.specs.Words.{found_value, found, found_view, found_map};
-ghost use Rattle.oxc_sourcemap_found.specs.Words.{with_version, as_found, members_view};
-ghost use Rattle.oxc_sourcemap_found.specs.Words.{plain_spot, place_at, found_indexed_place};
-ghost use Rattle.oxc_sourcemap_found.specs.Words.{found_value_place, Finds, FindsIn, no_place};
-ghost use Rattle.oxc_sourcemap_found.specs.Words.{in_order};
-ghost use Rattle.oxc_sourcemap_found.specs.Words.{IsFoundPlace, HasPlaceIfRefused, TooLarge};
-ghost use Rattle.oxc_sourcemap_found.specs.Words.{IsFoundFault};
+ghost use Rattle.oxc_sourcemap_found.specs.Words.{with_version, as_found, members_view, plain_spot};
+ghost use Rattle.oxc_sourcemap_found.specs.Words.{place_at, found_indexed_place, found_value_place};
+ghost use Rattle.oxc_sourcemap_found.specs.Words.{LocatesFault, LocatesFaultIn, no_place, in_order};
+ghost use Rattle.oxc_sourcemap_found.specs.Words.{IsFoundPlace};
+ghost use Rattle.oxc_sourcemap_found.specs.Words.{HasPlaceIfRefused, TooLarge, IsFoundFault};
 
-use crate::cut::{cut_sections, mends_in};
-use crate::members::mend_version;
-use crate::mend::Mend;
+use crate::mending::cut::{cut_sections, mends_in};
+use crate::mending::members::mend_version;
+use crate::mending::mend::Mend;
+use crate::mending::plain::{into_object, mend_plain};
+use crate::mending::sections::{misshapen, read_sections};
+use crate::mending::tokens::mend_order;
 use crate::opening::open;
-use crate::plain::{into_object, mend_plain};
 use crate::reading::text_fault;
-use crate::sections::{misshapen, read_sections};
-use crate::tokens::mend_order;
 use oxc_sourcemap_join::join_owned_parts;
 use oxc_sourcemap_json::{decode_parts_from_string, into_member, is_indexed, place_of, read_file};
 use oxc_sourcemap_map::SourceMap;
@@ -72,7 +71,7 @@ fn parts_of_indexed(
 ) -> Located<SourceMapParts<'static>>
     ensures map { Reads (λ parts. found_record mends.new.items (record_of_parts parts)) result
         (found_sections mends.old.items (with_version (as_found (members_view object.entries)))) }
-    ensures place { Finds result
+    ensures place { LocatesFault result
         (found_indexed_place (with_version (as_found (members_view object.entries))).members) }
 {
     let (object, kinds) = mend_version(alloc, object)?;
@@ -97,7 +96,8 @@ fn parts_of_plain(
 ) -> Located<SourceMapParts<'static>>
     ensures map { Reads (λ parts. found_record mends.new.items (record_of_parts parts)) result
         (found_map mends.old.items (members_view object.entries)) }
-    ensures place { Finds result (option_map place_at (plain_spot (members_view object.entries))) }
+    ensures place { LocatesFault result (option_map place_at
+        (plain_spot (members_view object.entries))) }
 {
     let map = mend_plain(alloc, object)?;
     let mut told = mends_in(alloc, None, map.kinds.as_slice())?;
@@ -113,7 +113,7 @@ fn parts_of_value(
 ) -> Located<SourceMapParts<'static>>
     ensures map { Reads (λ parts. found_record mends.new.items (record_of_parts parts)) result
         (found_value mends.old.items (view value)) }
-    ensures place { Finds result (found_value_place (view value)) }
+    ensures place { LocatesFault result (found_value_place (view value)) }
 {
     let has_sections = is_indexed(&value);
     let Some(object) = into_object(value) else {
@@ -144,7 +144,7 @@ fn in_order(
 #[tactic(auto, unfolding(crate::specs::FoundMaps::found))]
 fn read_text(alloc: Global, text: &str) -> Located<Found>
     ensures map { Reads found_view result (found text.now) }
-    ensures place { FindsIn text.now result }
+    ensures place { LocatesFaultIn text.now result }
 {
     let (json, kinds) = open(alloc, text)?;
     let mut mends = mends_in(alloc, None, kinds.as_slice())?;

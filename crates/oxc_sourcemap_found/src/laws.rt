@@ -1,6 +1,6 @@
 //! The laws of maps as they are found.
-ghost use Rattle.oxc_sourcemap_found.specs.Words.{ExactIsFound, ExactIsSorted};
-ghost use Rattle.oxc_sourcemap_found.specs.Words.{MendedIsMended, FoundIsSound};
+ghost use Rattle.oxc_sourcemap_found.specs.Words.{ExactIsFound, ExactIsSorted, MendedIsMended};
+ghost use Rattle.oxc_sourcemap_found.specs.Words.{FoundIsSound};
 
 /// Mending harms no map.
 /// - A text that the exact reader reads as a sorted map is read as this map, and nothing is mended (`exact`).

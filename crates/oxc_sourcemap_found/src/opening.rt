@@ -5,7 +5,7 @@ ghost use Rattle.std.specs.List.{after_first};
 ghost use Rattle.oxc_sourcemap_found.specs.Words.{Opened, lent_item, behind, opened, opened_view};
 ghost use Rattle.oxc_sourcemap_found.specs.Words.{without_mark, without_prefix, data_in};
 
-use crate::mend::MendKind;
+use crate::mending::MendKind;
 use oxc_sourcemap_text::{DataUrlError, decode_data_url};
 use oxc_sourcemap_tokens::Memory;
 use std::alloc::{AllocError, Global};

@@ -1,7 +1,7 @@
 //! Where a text that was opened is not JSON.
 ghost use Rattle.std.specs.Prelude.{◌≡◌, IsSomeAnd};
-ghost use Rattle.oxc_sourcemap_found.specs.Words.{OutOfMemory, BadJson, Reading};
-ghost use Rattle.oxc_sourcemap_found.specs.Words.{IsReading, IsMemory};
+ghost use Rattle.oxc_sourcemap_found.specs.Words.{OutOfMemory, BadJson, Reading, IsReading};
+ghost use Rattle.oxc_sourcemap_found.specs.Words.{IsMemory};
 
 use oxc_sourcemap_json::reading_place;
 use oxc_sourcemap_tokens::{Error, Fault, FaultPlace, FaultSpot, JsonFault};

@@ -1,11 +1,10 @@
 -- Arrays whose entries are written one by one, from the first on.
-use Rattle.std.proofs.Common.{◌≡◌, refl, sym, ap, ◌∙◌, ℕ, zero, suc, ◌+◌, ◌<◌, List, [], ◌∷◌}
-use Rattle.std.proofs.Common.{◌++◌, length}
-use Rattle.std.proofs.Common.{take, drop, map, get_or, slice_set, min, inl, inr, arith, subst}
+use Rattle.std.proofs.Common.{◌≡◌, refl, sym, ap, ◌∙◌, ℕ, zero, suc, ◌+◌, ◌<◌, List, [], ◌∷◌, ◌++◌}
+use Rattle.std.proofs.Common.{length, take, drop, map, get_or, slice_set, min, inl, inr, arith}
+use Rattle.std.proofs.Common.{subst}
 use Rattle.std.proofs.lemmas.Bool.{cases_lt}
 use Rattle.std.proofs.lemmas.List.{drop_more, take_more_set, drop-set-lt, map_more}
-use Rattle.std.proofs.lemmas.List.{take-append-drop}
-use Rattle.std.proofs.lemmas.List.{take_all, drop_all, length-take, get_or-take}
+use Rattle.std.proofs.lemmas.List.{take-append-drop, take_all, drop_all, length-take, get_or-take}
 use Rattle.std.specs.List.{AllZip}
 use Rattle.oxc_sourcemap_handles.specs.Listed.{filled, AreFilled}
 

@@ -30,8 +30,8 @@ use denote.Struct.Owning.{shape, to}
 use denote.Struct.Struct.{Struct}
 use Rattle.std.specs.Prelude.{Option, None, Some, ⊤}
 use mathlib.Core.Option.{none}
-use Rattle.oxc_sourcemap_handles.specs.contracts.lent.Lent as lent
-use Rattle.oxc_sourcemap_handles.proofs.held.Held.TheLaws as held_laws
+use Rattle.oxc_sourcemap_handles.specs.contracts.holding.lent.Lent as lent
+use Rattle.oxc_sourcemap_handles.proofs.holding.held.Held.TheLaws as held_laws
 use Rattle.oxc_sourcemap_handles.specs.Lent.{lent_owns}
 use Rattle.oxc_sourcemap_handles.proofs.Values.{HeldRow}
 use Rattle.oxc_sourcemap_handles.specs.Back.{IsBack}

@@ -1,37 +1,46 @@
 -- The error with the numbers of an error is that error.
 use Rattle.std.proofs.Common.{◌≡◌, Some, refl, ap}
 use Rattle.std.proofs.Math.Nat.{mod-eq_of_lt}
-use Rattle.oxc_sourcemap_tokens.specs.declared.error.Field.{Field}
-use Rattle.oxc_sourcemap_tokens.specs.declared.error.Field.TheVariants.{Object}
-use Rattle.oxc_sourcemap_tokens.specs.declared.error.Field.TheVariants.{Version as VersionField}
-use Rattle.oxc_sourcemap_tokens.specs.declared.error.Field.TheVariants.{File, Mappings, SourceRoot}
-use Rattle.oxc_sourcemap_tokens.specs.declared.error.Field.TheVariants.{Sources, SourcesContent}
-use Rattle.oxc_sourcemap_tokens.specs.declared.error.Field.TheVariants.{Names, DebugId, IgnoreList}
-use Rattle.oxc_sourcemap_tokens.specs.declared.error.Field.TheVariants.{GoogleIgnoreList, Sections}
-use Rattle.oxc_sourcemap_tokens.specs.declared.error.Field.TheVariants.{Offset, Map as MapField}
-use Rattle.oxc_sourcemap_tokens.specs.declared.error.JsonFault.TheVariants.{Reading, Shape, Version}
-use Rattle.oxc_sourcemap_tokens.specs.declared.error.Error.TheVariants.{VlqLeftover, VlqNoValues}
-use Rattle.oxc_sourcemap_tokens.specs.declared.error.Error.TheVariants.{VlqOverflow, BadJson}
-use Rattle.oxc_sourcemap_tokens.specs.declared.error.Error.TheVariants.{BadSegmentSize}
-use Rattle.oxc_sourcemap_tokens.specs.declared.error.Error.TheVariants.{BadSourceReference}
-use Rattle.oxc_sourcemap_tokens.specs.declared.error.Error.TheVariants.{BadNameReference}
-use Rattle.oxc_sourcemap_tokens.specs.declared.error.Error.TheVariants.{OutOfMemory, TooLarge}
-use Rattle.oxc_sourcemap_tokens.specs.declared.error.Error.TheVariants.{LineOrder, BadChunks}
-use Rattle.oxc_sourcemap_tokens.specs.declared.error.Error.TheVariants.{SeveralSources}
-use Rattle.oxc_sourcemap_tokens.specs.declared.error.Error.TheVariants.{SectionOrder}
-use Rattle.oxc_sourcemap_tokens.specs.declared.error.Error.TheVariants.{InputLineOrder}
-use Rattle.oxc_sourcemap_tokens.specs.declared.plan_error.PlanError.TheVariants.{Map, Unsorted}
-use Rattle.oxc_sourcemap_tokens.specs.declared.plan_error.PlanError.TheVariants.{TooDeep}
-use Rattle.oxc_sourcemap_handles.specs.declared.call_error.CallError.{CallError}
-use Rattle.oxc_sourcemap_handles.specs.declared.call_error.CallError.TheVariants.{Plan, Words}
-use Rattle.oxc_sourcemap_handles.specs.declared.call_error.CallError.TheVariants.{NoText}
-use Rattle.oxc_sourcemap_handles.specs.declared.call_error.CallError.TheVariants.{NullHandle}
-use Rattle.oxc_sourcemap_handles.specs.declared.call_error.CallError.TheVariants.{NotUtf8}
-use Rattle.oxc_sourcemap_handles.specs.declared.call_error.CallError.TheVariants.{Lengths, NoEntry}
-use Rattle.oxc_sourcemap_handles.specs.declared.call_error.CallError.TheVariants.{NoIndex}
-use Rattle.oxc_sourcemap_handles.specs.declared.call_error.CallError.TheVariants.{BadOption}
-use Rattle.oxc_sourcemap_handles.specs.declared.call_error.CallError.TheVariants.{BadBase64}
-use Rattle.oxc_sourcemap_handles.specs.declared.call_error.CallError.TheVariants.{BadDataUtf8}
+use Rattle.oxc_sourcemap_tokens.specs.declared.errors.error.Field.{Field}
+use Rattle.oxc_sourcemap_tokens.specs.declared.errors.error.Field.TheVariants.{Object}
+use Rattle.oxc_sourcemap_tokens.specs.declared.errors.error.Field.TheVariants.{Version as VersionField}
+use Rattle.oxc_sourcemap_tokens.specs.declared.errors.error.Field.TheVariants.{File, Mappings}
+use Rattle.oxc_sourcemap_tokens.specs.declared.errors.error.Field.TheVariants.{SourceRoot, Sources}
+use Rattle.oxc_sourcemap_tokens.specs.declared.errors.error.Field.TheVariants.{SourcesContent}
+use Rattle.oxc_sourcemap_tokens.specs.declared.errors.error.Field.TheVariants.{Names, DebugId}
+use Rattle.oxc_sourcemap_tokens.specs.declared.errors.error.Field.TheVariants.{IgnoreList}
+use Rattle.oxc_sourcemap_tokens.specs.declared.errors.error.Field.TheVariants.{GoogleIgnoreList}
+use Rattle.oxc_sourcemap_tokens.specs.declared.errors.error.Field.TheVariants.{Sections, Offset}
+use Rattle.oxc_sourcemap_tokens.specs.declared.errors.error.Field.TheVariants.{Map as MapField}
+use Rattle.oxc_sourcemap_tokens.specs.declared.errors.error.JsonFault.TheVariants.{Reading, Shape}
+use Rattle.oxc_sourcemap_tokens.specs.declared.errors.error.JsonFault.TheVariants.{Version}
+use Rattle.oxc_sourcemap_tokens.specs.declared.errors.error.Error.TheVariants.{VlqLeftover}
+use Rattle.oxc_sourcemap_tokens.specs.declared.errors.error.Error.TheVariants.{VlqNoValues}
+use Rattle.oxc_sourcemap_tokens.specs.declared.errors.error.Error.TheVariants.{VlqOverflow, BadJson}
+use Rattle.oxc_sourcemap_tokens.specs.declared.errors.error.Error.TheVariants.{BadSegmentSize}
+use Rattle.oxc_sourcemap_tokens.specs.declared.errors.error.Error.TheVariants.{BadSourceReference}
+use Rattle.oxc_sourcemap_tokens.specs.declared.errors.error.Error.TheVariants.{BadNameReference}
+use Rattle.oxc_sourcemap_tokens.specs.declared.errors.error.Error.TheVariants.{OutOfMemory}
+use Rattle.oxc_sourcemap_tokens.specs.declared.errors.error.Error.TheVariants.{TooLarge, LineOrder}
+use Rattle.oxc_sourcemap_tokens.specs.declared.errors.error.Error.TheVariants.{BadChunks}
+use Rattle.oxc_sourcemap_tokens.specs.declared.errors.error.Error.TheVariants.{SeveralSources}
+use Rattle.oxc_sourcemap_tokens.specs.declared.errors.error.Error.TheVariants.{SectionOrder}
+use Rattle.oxc_sourcemap_tokens.specs.declared.errors.error.Error.TheVariants.{InputLineOrder}
+use Rattle.oxc_sourcemap_tokens.specs.declared.errors.plan_error.PlanError.TheVariants.{Map}
+use Rattle.oxc_sourcemap_tokens.specs.declared.errors.plan_error.PlanError.TheVariants.{Unsorted}
+use Rattle.oxc_sourcemap_tokens.specs.declared.errors.plan_error.PlanError.TheVariants.{TooDeep}
+use Rattle.oxc_sourcemap_handles.specs.declared.numbers.call_error.CallError.{CallError}
+use Rattle.oxc_sourcemap_handles.specs.declared.numbers.call_error.CallError.TheVariants.{Plan}
+use Rattle.oxc_sourcemap_handles.specs.declared.numbers.call_error.CallError.TheVariants.{Words}
+use Rattle.oxc_sourcemap_handles.specs.declared.numbers.call_error.CallError.TheVariants.{NoText}
+use Rattle.oxc_sourcemap_handles.specs.declared.numbers.call_error.CallError.TheVariants.{NullHandle}
+use Rattle.oxc_sourcemap_handles.specs.declared.numbers.call_error.CallError.TheVariants.{NotUtf8}
+use Rattle.oxc_sourcemap_handles.specs.declared.numbers.call_error.CallError.TheVariants.{Lengths}
+use Rattle.oxc_sourcemap_handles.specs.declared.numbers.call_error.CallError.TheVariants.{NoEntry}
+use Rattle.oxc_sourcemap_handles.specs.declared.numbers.call_error.CallError.TheVariants.{NoIndex}
+use Rattle.oxc_sourcemap_handles.specs.declared.numbers.call_error.CallError.TheVariants.{BadOption}
+use Rattle.oxc_sourcemap_handles.specs.declared.numbers.call_error.CallError.TheVariants.{BadBase64}
+use Rattle.oxc_sourcemap_handles.specs.declared.numbers.call_error.CallError.TheVariants.{BadDataUtf8}
 use Rattle.oxc_sourcemap_handles.specs.Codes.{fault_of, call_error_of, IsSmall}
 
 shape_back : (f : Field) → call_error_of (fault_of (Plan (Map (BadJson (Shape f))))) ≡ Some (Plan (Map (BadJson (Shape f))))

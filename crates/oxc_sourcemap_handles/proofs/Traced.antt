@@ -6,6 +6,7 @@ use Rattle.oxc_sourcemap_parts.specs.Sorted.{are_tokens_sorted}
 use Rattle.oxc_sourcemap_tokens.specs.LineOrder.{IsInLineOrder}
 use Rattle.oxc_sourcemap_tokens.specs.Token.{TokenRecord}
 use Rattle.oxc_sourcemap_tokens.specs.declared.position.Position.{Position}
+use Rattle.oxc_sourcemap_lookup.specs.Biased.{index_by}
 use Rattle.oxc_sourcemap_lookup.specs.LineSpans.{AreLines, IsIndexOf}
 use Rattle.oxc_sourcemap_lookup.specs.Trace.{original_in}
 use Rattle.oxc_sourcemap_lookup.specs.declared.line_index.LineIndex.{LineIndex}
@@ -13,21 +14,21 @@ use Rattle.oxc_sourcemap_lookup.specs.declared.line_index.Lines.{Lines}
 use Rattle.oxc_sourcemap_lookup.specs.declared.line_index.Lines.TheVariants.{Starts, Spans, Few}
 use Rattle.oxc_sourcemap_lookup.proofs.Numbers.{token_of-index_for, token_of-clamped_index_for}
 use Rattle.oxc_sourcemap_lookup.proofs.Numbers.{token_of-index_after}
-use Rattle.oxc_sourcemap_lookup.proofs.Traced.{token_traced, token_clamped_traced}
-use Rattle.oxc_sourcemap_handles.specs.declared.options.Bias.{Bias}
-use Rattle.oxc_sourcemap_handles.specs.declared.options.Bias.TheVariants.{Before, Clamped, After}
-use Rattle.oxc_sourcemap_handles.specs.declared.text.Original.{Original}
-use Rattle.oxc_sourcemap_handles.specs.Places.{IsSeen, HasOriginal}
-use Rattle.oxc_sourcemap_handles.specs.Traces.{index_found, traced_at, IsTraceOf}
+use Rattle.oxc_sourcemap_lookup.proofs.Traces.{token_traced, token_clamped_traced}
+use Rattle.oxc_sourcemap_lookup.specs.declared.bias.Bias.{Bias}
+use Rattle.oxc_sourcemap_lookup.specs.declared.bias.Bias.TheVariants.{Before, Clamped, After}
+use Rattle.oxc_sourcemap_handles.specs.declared.texts.text.Original.{Original}
+use Rattle.oxc_sourcemap_handles.specs.Structs.{IsSeen, HasOriginal}
+use Rattle.oxc_sourcemap_handles.specs.Traces.{traced_at, IsTraceOf}
 
 -- what the token that answers points to is the trace of the map
-traced_by : (bias : Bias) (m : MapRecord) (at : Position) → option_map (original_in m) (option_and_then (slice_get m.tokens) (index_found bias m.tokens at)) ≡ traced_at bias m at
+traced_by : (bias : Bias) (m : MapRecord) (at : Position) → option_map (original_in m) (option_and_then (slice_get m.tokens) (index_by bias m.tokens at.line at.column)) ≡ traced_at bias m at
 traced_by Before m at = ap (option_map (original_in m)) (token_of-index_for m.tokens at.line at.column) ∙ token_traced m at.line at.column
 traced_by Clamped m at = ap (option_map (original_in m)) (token_of-clamped_index_for m.tokens at.line at.column) ∙ token_clamped_traced m at.line at.column
 traced_by After m at = ap (option_map (original_in m)) (token_of-index_after m.tokens at.line at.column)
 
 -- what the token says that answers for a position is the trace there
-pub is_trace : (bias : Bias) (m : MapRecord) (at : Position) (p : Original) (found : Option ℕ) → IsSeen m found p → (are_tokens_sorted m.tokens ≡ true → found ≡ index_found bias m.tokens at) → IsTraceOf bias m at p
+pub is_trace : (bias : Bias) (m : MapRecord) (at : Position) (p : Original) (found : Option ℕ) → IsSeen m found p → (are_tokens_sorted m.tokens ≡ true → found ≡ index_by bias m.tokens at.line at.column) → IsTraceOf bias m at p
 is_trace bias m at p found seen is = record {
   found = found;
   seen = seen;

@@ -30,14 +30,14 @@ use Rattle.std.proofs.alloc.Calls.{Al, handle_tells}
 use Rattle.std.proofs.cell.Inside.{Good, one}
 use Rattle.std_alloc.specs.Box.Ownership.{box_owns}
 use Rattle.std_alloc.proofs.ResultValues.{and_tt}
-use Rattle.oxc_sourcemap_handles.specs.contracts.loose.Loose as loose
+use Rattle.oxc_sourcemap_handles.specs.contracts.holding.loose.Loose as loose
 use Rattle.std.proofs.Common.{lit<}
 use Rattle.std.specs.Prelude.{Option, None, Some}
 use Rattle.std_heap.specs.contracts.Global as heap
 use Rattle.std_heap.specs.contracts.GlobalAllocator.TheImpl.{ghosts}
 use Rattle.std_heap.proofs.Global.TheLaws as heap_laws
-use Rattle.oxc_sourcemap_handles.specs.contracts.held.Held as held
-use Rattle.oxc_sourcemap_handles.specs.contracts.handle.Handle as handle
+use Rattle.oxc_sourcemap_handles.specs.contracts.holding.held.Held as held
+use Rattle.oxc_sourcemap_handles.specs.contracts.holding.handle.Handle as handle
 use Rattle.oxc_sourcemap_handles.specs.Handles.{handle_owns}
 
 abbrev pub both : Val → Val → Val

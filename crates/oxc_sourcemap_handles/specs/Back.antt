@@ -1,6 +1,7 @@
+-- What is lent to a call, given back.
 use Rattle.std.specs.Prelude.{◌≡◌}
-use Rattle.oxc_sourcemap_handles.specs.declared.lent.GivenBack.{GivenBack}
-use Rattle.oxc_sourcemap_handles.specs.declared.lent.Lent.{Lent}
+use Rattle.oxc_sourcemap_handles.specs.declared.holding.lent.GivenBack.{GivenBack}
+use Rattle.oxc_sourcemap_handles.specs.declared.holding.lent.Lent.{Lent}
 
 -- what was lent is given back
 abbrev pub IsBack : Lent → Lent → Type 0

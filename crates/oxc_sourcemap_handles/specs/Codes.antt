@@ -1,34 +1,40 @@
 -- The numbers of errors. `fault_of` is the definition of codes; `call_error_of` goes back.
-use Rattle.std.specs.Prelude.{◌≡◌, ◌≢◌}
-use Rattle.std.specs.Prelude.{ℕ, ◌%◌, ◌<◌, Option, Some, None, option_map, if◌then◌else◌, ◌==◌}
-use Rattle.oxc_sourcemap_tokens.specs.declared.error.JsonFault.{JsonFault}
-use Rattle.oxc_sourcemap_tokens.specs.declared.error.JsonFault.TheVariants.{Reading, Shape, Version}
-use Rattle.oxc_sourcemap_tokens.specs.declared.error.Error.{Error}
-use Rattle.oxc_sourcemap_tokens.specs.declared.error.Error.TheVariants.{VlqLeftover, VlqNoValues}
-use Rattle.oxc_sourcemap_tokens.specs.declared.error.Error.TheVariants.{VlqOverflow, BadJson}
-use Rattle.oxc_sourcemap_tokens.specs.declared.error.Error.TheVariants.{BadSegmentSize}
-use Rattle.oxc_sourcemap_tokens.specs.declared.error.Error.TheVariants.{BadSourceReference}
-use Rattle.oxc_sourcemap_tokens.specs.declared.error.Error.TheVariants.{BadNameReference}
-use Rattle.oxc_sourcemap_tokens.specs.declared.error.Error.TheVariants.{OutOfMemory, TooLarge}
-use Rattle.oxc_sourcemap_tokens.specs.declared.error.Error.TheVariants.{LineOrder, BadChunks}
-use Rattle.oxc_sourcemap_tokens.specs.declared.error.Error.TheVariants.{SeveralSources}
-use Rattle.oxc_sourcemap_tokens.specs.declared.error.Error.TheVariants.{SectionOrder}
-use Rattle.oxc_sourcemap_tokens.specs.declared.error.Error.TheVariants.{InputLineOrder}
-use Rattle.oxc_sourcemap_tokens.specs.declared.plan_error.PlanError.{PlanError}
-use Rattle.oxc_sourcemap_tokens.specs.declared.plan_error.PlanError.TheVariants.{Map, Unsorted}
-use Rattle.oxc_sourcemap_tokens.specs.declared.plan_error.PlanError.TheVariants.{TooDeep}
-use Rattle.oxc_sourcemap_handles.specs.declared.call_error.CallError.{CallError}
-use Rattle.oxc_sourcemap_handles.specs.declared.call_error.CallError.TheVariants.{Plan, Words}
-use Rattle.oxc_sourcemap_handles.specs.declared.call_error.CallError.TheVariants.{NoText}
-use Rattle.oxc_sourcemap_handles.specs.declared.call_error.CallError.TheVariants.{NullHandle}
-use Rattle.oxc_sourcemap_handles.specs.declared.call_error.CallError.TheVariants.{NotUtf8}
-use Rattle.oxc_sourcemap_handles.specs.declared.call_error.CallError.TheVariants.{Lengths, NoEntry}
-use Rattle.oxc_sourcemap_handles.specs.declared.call_error.CallError.TheVariants.{NoIndex}
-use Rattle.oxc_sourcemap_handles.specs.declared.call_error.CallError.TheVariants.{BadOption}
-use Rattle.oxc_sourcemap_handles.specs.declared.call_error.CallError.TheVariants.{BadBase64}
-use Rattle.oxc_sourcemap_handles.specs.declared.call_error.CallError.TheVariants.{BadDataUtf8}
-use Rattle.oxc_sourcemap_handles.specs.declared.fault.Fault.{Fault}
-use Rattle.oxc_sourcemap_tokens.specs.declared.fault.FaultPlace.{FaultPlace}
+use Rattle.std.specs.Prelude.{◌≡◌, ◌≢◌, ℕ, ◌%◌, ◌<◌, Option, Some, None, option_map, if◌then◌else◌}
+use Rattle.std.specs.Prelude.{◌==◌}
+use Rattle.oxc_sourcemap_tokens.specs.declared.errors.error.JsonFault.{JsonFault}
+use Rattle.oxc_sourcemap_tokens.specs.declared.errors.error.JsonFault.TheVariants.{Reading, Shape}
+use Rattle.oxc_sourcemap_tokens.specs.declared.errors.error.JsonFault.TheVariants.{Version}
+use Rattle.oxc_sourcemap_tokens.specs.declared.errors.error.Error.{Error}
+use Rattle.oxc_sourcemap_tokens.specs.declared.errors.error.Error.TheVariants.{VlqLeftover}
+use Rattle.oxc_sourcemap_tokens.specs.declared.errors.error.Error.TheVariants.{VlqNoValues}
+use Rattle.oxc_sourcemap_tokens.specs.declared.errors.error.Error.TheVariants.{VlqOverflow, BadJson}
+use Rattle.oxc_sourcemap_tokens.specs.declared.errors.error.Error.TheVariants.{BadSegmentSize}
+use Rattle.oxc_sourcemap_tokens.specs.declared.errors.error.Error.TheVariants.{BadSourceReference}
+use Rattle.oxc_sourcemap_tokens.specs.declared.errors.error.Error.TheVariants.{BadNameReference}
+use Rattle.oxc_sourcemap_tokens.specs.declared.errors.error.Error.TheVariants.{OutOfMemory}
+use Rattle.oxc_sourcemap_tokens.specs.declared.errors.error.Error.TheVariants.{TooLarge, LineOrder}
+use Rattle.oxc_sourcemap_tokens.specs.declared.errors.error.Error.TheVariants.{BadChunks}
+use Rattle.oxc_sourcemap_tokens.specs.declared.errors.error.Error.TheVariants.{SeveralSources}
+use Rattle.oxc_sourcemap_tokens.specs.declared.errors.error.Error.TheVariants.{SectionOrder}
+use Rattle.oxc_sourcemap_tokens.specs.declared.errors.error.Error.TheVariants.{InputLineOrder}
+use Rattle.oxc_sourcemap_tokens.specs.declared.errors.plan_error.PlanError.{PlanError}
+use Rattle.oxc_sourcemap_tokens.specs.declared.errors.plan_error.PlanError.TheVariants.{Map}
+use Rattle.oxc_sourcemap_tokens.specs.declared.errors.plan_error.PlanError.TheVariants.{Unsorted}
+use Rattle.oxc_sourcemap_tokens.specs.declared.errors.plan_error.PlanError.TheVariants.{TooDeep}
+use Rattle.oxc_sourcemap_handles.specs.declared.numbers.call_error.CallError.{CallError}
+use Rattle.oxc_sourcemap_handles.specs.declared.numbers.call_error.CallError.TheVariants.{Plan}
+use Rattle.oxc_sourcemap_handles.specs.declared.numbers.call_error.CallError.TheVariants.{Words}
+use Rattle.oxc_sourcemap_handles.specs.declared.numbers.call_error.CallError.TheVariants.{NoText}
+use Rattle.oxc_sourcemap_handles.specs.declared.numbers.call_error.CallError.TheVariants.{NullHandle}
+use Rattle.oxc_sourcemap_handles.specs.declared.numbers.call_error.CallError.TheVariants.{NotUtf8}
+use Rattle.oxc_sourcemap_handles.specs.declared.numbers.call_error.CallError.TheVariants.{Lengths}
+use Rattle.oxc_sourcemap_handles.specs.declared.numbers.call_error.CallError.TheVariants.{NoEntry}
+use Rattle.oxc_sourcemap_handles.specs.declared.numbers.call_error.CallError.TheVariants.{NoIndex}
+use Rattle.oxc_sourcemap_handles.specs.declared.numbers.call_error.CallError.TheVariants.{BadOption}
+use Rattle.oxc_sourcemap_handles.specs.declared.numbers.call_error.CallError.TheVariants.{BadBase64}
+use Rattle.oxc_sourcemap_handles.specs.declared.numbers.call_error.CallError.TheVariants.{BadDataUtf8}
+use Rattle.oxc_sourcemap_handles.specs.declared.numbers.fault.Fault.{Fault}
+use Rattle.oxc_sourcemap_tokens.specs.declared.errors.fault.FaultPlace.{FaultPlace}
 use Rattle.oxc_sourcemap_handles.specs.FieldNumbers.{number_of_field, field_of}
 use Rattle.oxc_sourcemap_handles.specs.PlaceNumbers.{no_place, numbers_of_place}
 use Rattle.oxc_sourcemap_handles.specs.CallErrors.{out_of_memory}

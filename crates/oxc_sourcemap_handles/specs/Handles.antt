@@ -7,7 +7,7 @@ use denote.RawPtr.{Ptr, block_ptr, null_ptr}
 use Rattle.std.specs.Box.Ownership.{box_owns}
 use Rattle.std_heap.specs.contracts.GlobalAllocator.TheImpl.{ghosts}
 use Rattle.std.specs.Global.{Global}
-use Rattle.oxc_sourcemap_handles.specs.contracts.held.Held.{the_row}
+use Rattle.oxc_sourcemap_handles.specs.contracts.holding.held.Held.{the_row}
 
 abbrev pub handle_owns : Global → Ptr → Option the_row.Denot → Fml
 handle_owns alloc null_ptr None = ftrue

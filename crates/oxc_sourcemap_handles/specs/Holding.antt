@@ -3,11 +3,12 @@
 use Rattle.std.specs.Prelude.{◌≡◌, true, List, Option, Some, None, string_bytes, MatchOption}
 use Rattle.oxc_sourcemap_parts.specs.Record.{Text, MapRecord}
 use Rattle.oxc_sourcemap_map.specs.Built.{Built}
-use Rattle.oxc_sourcemap_handles.specs.Indexed.{Loaded}
-use Rattle.oxc_sourcemap_found.specs.declared.mend.Mend.{Mend}
-use Rattle.oxc_sourcemap_handles.specs.declared.held.Held.{Held}
-use Rattle.oxc_sourcemap_handles.specs.declared.held.Held.TheVariants.{Map, Written, Building}
-use Rattle.oxc_sourcemap_handles.specs.declared.held.Held.TheVariants.{Joining, Mended}
+use Rattle.oxc_sourcemap_handles.specs.Indices.{Loaded}
+use Rattle.oxc_sourcemap_found.specs.declared.mending.mend.Mend.{Mend}
+use Rattle.oxc_sourcemap_handles.specs.declared.holding.held.Held.{Held}
+use Rattle.oxc_sourcemap_handles.specs.declared.holding.held.Held.TheVariants.{Map, Written}
+use Rattle.oxc_sourcemap_handles.specs.declared.holding.held.Held.TheVariants.{Building, Joining}
+use Rattle.oxc_sourcemap_handles.specs.declared.holding.held.Held.TheVariants.{Mended}
 
 -- the map that a handle holds, if it holds one, with what is kept beside it
 abbrev pub held_loaded : Option Held → Option Loaded

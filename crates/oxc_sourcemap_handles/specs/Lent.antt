@@ -6,7 +6,7 @@ use denote.RawPtr.{Ptr, block_ptr, null_ptr, Testable}
 use denote.Ref.{ShrRef}
 use mir.Syntax.{named}
 use mir.Val.{vptr}
-use Rattle.oxc_sourcemap_handles.specs.contracts.held.Held.{the_row}
+use Rattle.oxc_sourcemap_handles.specs.contracts.holding.held.Held.{the_row}
 
 -- nothing at null, and else what a `&Held` of this lifetime owns, and that its pointer may be compared with null
 abbrev pub shared_at : Lft → Ptr → Option the_row.Denot → Fml

@@ -6,10 +6,10 @@ pub mod Handles
 pub mod Back
 pub mod Lent
 pub mod Holding
-pub mod Indexed
+pub mod Indices
 pub mod Options
 pub mod Listed
-pub mod Places
+pub mod Structs
 pub mod Traces
 pub mod Lists
 pub mod Words

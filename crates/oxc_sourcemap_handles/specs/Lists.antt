@@ -3,10 +3,10 @@ use Rattle.std.specs.Prelude.{◌⊎◌, ℕ, List, [], ◌∷◌, Option, Some,
 use Rattle.std.specs.Prelude.{IsUtf8, IfSome}
 use Rattle.std.specs.List.{All}
 use Rattle.oxc_sourcemap_parts.specs.Record.{Text}
-use Rattle.oxc_sourcemap_handles.specs.declared.call_error.CallError.{CallError}
+use Rattle.oxc_sourcemap_handles.specs.declared.numbers.call_error.CallError.{CallError}
 use Rattle.oxc_sourcemap_handles.specs.CallErrors.{IsNotText}
 use Rattle.oxc_sourcemap_tokens.specs.Token.{TokenRecord, id_of}
-use Rattle.oxc_sourcemap_handles.specs.declared.text.TokenNumbers.{TokenNumbers}
+use Rattle.oxc_sourcemap_handles.specs.declared.texts.text.TokenNumbers.{TokenNumbers}
 
 -- all of these are UTF-8
 abbrev pub AreTexts : List Text → Type 0

@@ -1,10 +1,10 @@
 -- Choices of calls, by their numbers.
 use Rattle.std.specs.Prelude.{ℕ, Option, Some, None, if◌then◌else◌, ◌==◌}
-use Rattle.oxc_sourcemap_handles.specs.declared.options.Bias.{Bias}
-use Rattle.oxc_sourcemap_handles.specs.declared.options.Bias.TheVariants.{Before, Clamped, After}
-use Rattle.oxc_sourcemap_handles.specs.declared.options.Direction.{Direction}
-use Rattle.oxc_sourcemap_handles.specs.declared.options.Direction.TheVariants.{At, For, From}
-use Rattle.oxc_sourcemap_handles.specs.declared.options.Direction.TheVariants.{OnLine}
+use Rattle.oxc_sourcemap_lookup.specs.declared.bias.Bias.{Bias}
+use Rattle.oxc_sourcemap_lookup.specs.declared.bias.Bias.TheVariants.{Before, Clamped, After}
+use Rattle.oxc_sourcemap_handles.specs.declared.numbers.options.Direction.{Direction}
+use Rattle.oxc_sourcemap_handles.specs.declared.numbers.options.Direction.TheVariants.{At, For}
+use Rattle.oxc_sourcemap_handles.specs.declared.numbers.options.Direction.TheVariants.{From, OnLine}
 
 -- which token answers for a generated position
 abbrev pub bias_of : ℕ → Option Bias

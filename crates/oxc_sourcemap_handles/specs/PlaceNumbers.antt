@@ -1,12 +1,12 @@
 -- Places of faults as numbers, and back.
 use Rattle.std.specs.Prelude.{ℕ, Option, Some, None, option_map, if◌then◌else◌, ◌==◌, ◌%◌}
 use Rattle.std.specs.Option.{unwrap_or}
-use Rattle.oxc_sourcemap_tokens.specs.declared.fault.FaultPlace.{FaultPlace}
-use Rattle.oxc_sourcemap_tokens.specs.declared.fault.FaultSpot.{FaultSpot}
-use Rattle.oxc_sourcemap_tokens.specs.declared.fault.FaultSpot.TheVariants.{Segment, Reading}
-use Rattle.oxc_sourcemap_tokens.specs.declared.fault.FaultSpot.TheVariants.{Member, Entry}
+use Rattle.oxc_sourcemap_tokens.specs.declared.errors.fault.FaultPlace.{FaultPlace}
+use Rattle.oxc_sourcemap_tokens.specs.declared.errors.fault.FaultSpot.{FaultSpot}
+use Rattle.oxc_sourcemap_tokens.specs.declared.errors.fault.FaultSpot.TheVariants.{Segment, Reading}
+use Rattle.oxc_sourcemap_tokens.specs.declared.errors.fault.FaultSpot.TheVariants.{Member, Entry}
 use Rattle.oxc_sourcemap_handles.specs.FieldNumbers.{number_of_field, field_of}
-use Rattle.oxc_sourcemap_handles.specs.declared.place_numbers.PlaceNumbers.{PlaceNumbers}
+use Rattle.oxc_sourcemap_handles.specs.declared.numbers.place_numbers.PlaceNumbers.{PlaceNumbers}
 
 -- no place
 abbrev pub no_place : PlaceNumbers

@@ -2,33 +2,26 @@
 use Rattle.std.specs.Prelude.{◌≡◌, ◌≢◌, ◌⊎◌, ℕ, true, List, length, Option, Some, None, option_map}
 use Rattle.std.specs.Prelude.{MatchOption}
 use Rattle.std.specs.List.{AllZip}
-use Rattle.oxc_sourcemap_tokens.specs.declared.error.Error.{Error}
+use Rattle.oxc_sourcemap_tokens.specs.declared.errors.error.Error.{Error}
 use Rattle.oxc_sourcemap_tokens.specs.declared.position.Position.{Position}
 use Rattle.oxc_sourcemap_parts.specs.Record.{MapRecord}
-use Rattle.oxc_sourcemap_tokens.specs.Token.{TokenRecord}
 use Rattle.oxc_sourcemap_tokens.specs.LineOrder.{IsInLineOrder}
 use Rattle.oxc_sourcemap_parts.specs.Sorted.{are_tokens_sorted}
 use Rattle.oxc_sourcemap_parts.specs.DecodedMap.{OriginalPosition, decoded_map_of}
-use Rattle.oxc_sourcemap_lookup.specs.Lookup.{index_for, clamped_index_for, index_after}
+use Rattle.oxc_sourcemap_lookup.specs.Biased.{index_by}
 use Rattle.oxc_sourcemap_lookup.specs.Lookup.{token_after}
 use Rattle.oxc_sourcemap_lookup.specs.Trace.{trace, clamped_trace, original_in}
-use Rattle.oxc_sourcemap_handles.specs.declared.call_error.CallError.{CallError}
-use Rattle.oxc_sourcemap_handles.specs.declared.call_error.CallError.TheVariants.{NullHandle}
-use Rattle.oxc_sourcemap_handles.specs.declared.call_error.CallError.TheVariants.{Lengths}
-use Rattle.oxc_sourcemap_handles.specs.declared.call_error.CallError.TheVariants.{BadOption}
-use Rattle.oxc_sourcemap_handles.specs.declared.options.Bias.{Bias}
-use Rattle.oxc_sourcemap_handles.specs.declared.options.Bias.TheVariants.{Before, Clamped, After}
-use Rattle.oxc_sourcemap_handles.specs.declared.text.Original.{Original}
+use Rattle.oxc_sourcemap_handles.specs.declared.numbers.call_error.CallError.{CallError}
+use Rattle.oxc_sourcemap_handles.specs.declared.numbers.call_error.CallError.TheVariants.{NullHandle}
+use Rattle.oxc_sourcemap_handles.specs.declared.numbers.call_error.CallError.TheVariants.{Lengths}
+use Rattle.oxc_sourcemap_handles.specs.declared.numbers.call_error.CallError.TheVariants.{BadOption}
+use Rattle.oxc_sourcemap_lookup.specs.declared.bias.Bias.{Bias}
+use Rattle.oxc_sourcemap_lookup.specs.declared.bias.Bias.TheVariants.{Before, Clamped, After}
+use Rattle.oxc_sourcemap_handles.specs.declared.texts.text.Original.{Original}
 use Rattle.oxc_sourcemap_handles.specs.CallErrors.{of_map}
-use Rattle.oxc_sourcemap_handles.specs.Indexed.{IsOutOfOrder}
+use Rattle.oxc_sourcemap_handles.specs.Indices.{IsOutOfOrder}
 use Rattle.oxc_sourcemap_handles.specs.Options.{bias_of}
-use Rattle.oxc_sourcemap_handles.specs.Places.{IsSeen, HasOriginal, index_number}
-
--- the index of the token that answers for a position
-abbrev pub index_found : Bias → List TokenRecord → Position → Option ℕ
-index_found Before tokens at = index_for tokens at.line at.column
-index_found Clamped tokens at = clamped_index_for tokens at.line at.column
-index_found After tokens at = index_after tokens at.line at.column
+use Rattle.oxc_sourcemap_handles.specs.Structs.{IsSeen, HasOriginal, index_number}
 
 -- the trace of a map at a position: what the token that answers points to
 abbrev pub traced_at : Bias → MapRecord → Position → Option (Option OriginalPosition)
@@ -41,7 +34,7 @@ traced_at After m at = option_map (original_in m) (token_after m.tokens at.line 
 pub record IsTraceOf (bias : Bias) (m : MapRecord) (at : Position) (p : Original) : Type 0 where
   pub found : Option ℕ
   pub seen : IsSeen m found p
-  pub is : are_tokens_sorted m.tokens ≡ true → found ≡ index_found bias m.tokens at
+  pub is : are_tokens_sorted m.tokens ≡ true → found ≡ index_by bias m.tokens at.line at.column
   pub traced : are_tokens_sorted m.tokens ≡ true → HasOriginal p (traced_at bias m at)
 
 -- the tokens are in line order, there are as many answers as positions, and each is the trace at the position of its index
@@ -50,7 +43,7 @@ AreTracesOf bias positions out m = IsInLineOrder m.tokens × AllZip (IsTraceOf b
 
 -- a number is the index of the token that answers for a position
 abbrev pub IsFoundAt : Bias → MapRecord → Position → ℕ → Type 0
-IsFoundAt bias m at n = are_tokens_sorted m.tokens ≡ true → n ≡ index_number (index_found bias m.tokens at)
+IsFoundAt bias m at n = are_tokens_sorted m.tokens ≡ true → n ≡ index_number (index_by bias m.tokens at.line at.column)
 
 -- the same for many positions
 abbrev pub AreFoundIn : Bias → List Position → List ℕ → MapRecord → Type 0

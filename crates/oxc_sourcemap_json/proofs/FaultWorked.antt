@@ -1,12 +1,13 @@
--- Worked examples, computed by the definitions themselves.
+-- Worked examples of places of faults, computed by the definitions themselves.
 use Rattle.std.specs.Prelude.{◌≡◌, refl, [], codes, Some, None}
 use Rattle.std.specs.Fmt.{digits}
 use Rattle.serde_json.specs.Data.{Data, null, number, array, object, unsigned, no_items, item}
 use Rattle.serde_json.specs.Data.{no_members, member}
-use Rattle.oxc_sourcemap_tokens.specs.declared.error.Field.TheVariants.{Sources, Object, Sections}
-use Rattle.oxc_sourcemap_tokens.specs.declared.error.Field.TheVariants.{Version, Offset, Map}
-use Rattle.oxc_sourcemap_tokens.specs.declared.fault.FaultSpot.TheVariants.{Segment, Reading}
-use Rattle.oxc_sourcemap_tokens.specs.declared.fault.FaultSpot.TheVariants.{Member, Entry}
+use Rattle.oxc_sourcemap_tokens.specs.declared.errors.error.Field.TheVariants.{Sources, Object}
+use Rattle.oxc_sourcemap_tokens.specs.declared.errors.error.Field.TheVariants.{Sections, Version}
+use Rattle.oxc_sourcemap_tokens.specs.declared.errors.error.Field.TheVariants.{Offset, Map}
+use Rattle.oxc_sourcemap_tokens.specs.declared.errors.fault.FaultSpot.TheVariants.{Segment, Reading}
+use Rattle.oxc_sourcemap_tokens.specs.declared.errors.fault.FaultSpot.TheVariants.{Member, Entry}
 use Rattle.oxc_sourcemap_tokens.specs.PlaceMessages.{place_text}
 use Rattle.oxc_sourcemap_json.specs.ValuePlaces.{sections_place, indexed_place}
 

@@ -8,11 +8,13 @@ use Rattle.std.specs.Cow.{cow_str_bytes}
 use Rattle.std.specs.declared.borrow.CowStr.{CowStr}
 use Rattle.serde_json.specs.Data.{string, number, unsigned, object, Members}
 use Rattle.serde_json.specs.Find.{as_str, get_member}
-use Rattle.oxc_sourcemap_tokens.specs.declared.error.Field.{Field}
-use Rattle.oxc_sourcemap_tokens.specs.declared.error.Field.TheVariants.{File, Mappings, SourceRoot}
-use Rattle.oxc_sourcemap_tokens.specs.declared.error.Field.TheVariants.{Sources, SourcesContent}
-use Rattle.oxc_sourcemap_tokens.specs.declared.error.Field.TheVariants.{Names, DebugId, IgnoreList}
-use Rattle.oxc_sourcemap_tokens.specs.declared.error.Field.TheVariants.{GoogleIgnoreList}
+use Rattle.oxc_sourcemap_tokens.specs.declared.errors.error.Field.{Field}
+use Rattle.oxc_sourcemap_tokens.specs.declared.errors.error.Field.TheVariants.{File, Mappings}
+use Rattle.oxc_sourcemap_tokens.specs.declared.errors.error.Field.TheVariants.{SourceRoot, Sources}
+use Rattle.oxc_sourcemap_tokens.specs.declared.errors.error.Field.TheVariants.{SourcesContent}
+use Rattle.oxc_sourcemap_tokens.specs.declared.errors.error.Field.TheVariants.{Names, DebugId}
+use Rattle.oxc_sourcemap_tokens.specs.declared.errors.error.Field.TheVariants.{IgnoreList}
+use Rattle.oxc_sourcemap_tokens.specs.declared.errors.error.Field.TheVariants.{GoogleIgnoreList}
 use Rattle.oxc_sourcemap_parts.specs.Views.{texts_of, contents_of}
 use Rattle.oxc_sourcemap_json.specs.Shape.{all_items, onto_read, as_content, as_id, text_in}
 use Rattle.oxc_sourcemap_json.specs.Shape.{texts_in, ◌>>=◌, contents_in, optional, required}

@@ -11,16 +11,16 @@ use Rattle.oxc_sourcemap_json.proofs.JsonTexts.{four_added}
 use Rattle.oxc_sourcemap_json.proofs.Separated.{separated}
 
 -- a comma is stored, and counts unless the list begins here
-pub comma_placed : (buf : List ℕ) (at n : ℕ) (is_first : Bool) → at < length buf → n ≡ (if is_first then 0 else 1) → take (at + n) (set buf at 44) ≡ take at buf ++ comma_text is_first
-comma_placed buf at n true l e =
+pub comma_written : (buf : List ℕ) (at n : ℕ) (is_first : Bool) → at < length buf → n ≡ (if is_first then 0 else 1) → take (at + n) (set buf at 44) ≡ take at buf ++ comma_text is_first
+comma_written buf at n true l e =
     let same : at + n ≡ at = omega (arith, e) in
     ap (λ k. take k (set buf at 44)) same ∙ take-set-le at buf at 44 (omega arith) ∙ sym (append-nil (take at buf))
-comma_placed buf at n false l e = ap (λ k. take (at + k) (set buf at 44)) e ∙ take_more_set buf at 44 l
+comma_written buf at n false l e = ap (λ k. take (at + k) (set buf at 44)) e ∙ take_more_set buf at 44 l
 
-pub item_placed : (kept : List ℕ) (is_first : Bool) (text t1 t2 t3 t4 : List ℕ) → t1 ≡ kept ++ comma_text is_first → t2 ≡ t1 ++ 34 ∷ [] → t3 ≡ t2 ++ flat_map escaped text → t4 ≡ t3 ++ 34 ∷ []
+pub item_written : (kept : List ℕ) (is_first : Bool) (text t1 t2 t3 t4 : List ℕ) → t1 ≡ kept ++ comma_text is_first → t2 ≡ t1 ++ 34 ∷ [] → t3 ≡ t2 ++ flat_map escaped text → t4 ≡ t3 ++ 34 ∷ []
     → t4 ≡ kept ++ item_text is_first text
 unfolding json_string
-item_placed kept is_first text t1 t2 t3 t4 p1 p2 p3 p4 =
+item_written kept is_first text t1 t2 t3 t4 p1 p2 p3 p4 =
     four_added kept (comma_text is_first) (34 ∷ []) (flat_map escaped text) (34 ∷ []) t1 t2 t3 t4 p1 p2 p3 p4
 
 utf8-comma : (is_first : Bool) → IsUtf8 (comma_text is_first)

@@ -12,7 +12,7 @@ use Rattle.std.specs.Str.{IsUtf8, IsCharBoundary}
 use Rattle.std.specs.List.{prefix_len}
 use lib.Utf8.{encodes}
 use Rattle.oxc_sourcemap_json.specs.JsonString.{escaped}
-use Rattle.oxc_sourcemap_json.specs.WritePlain.{needs_escape, is_plain}
+use Rattle.oxc_sourcemap_json.specs.UnescapedBytes.{needs_escape, is_plain}
 
 -- ---- a byte
 pub escaped-plain : (b : ℕ) → needs_escape b ≡ false → escaped b ≡ b ∷ []
@@ -46,16 +46,16 @@ run_escaped text i n run =
     ∙ ap (λ bs. flat_map escaped (take i text) ++ bs) (run_plain n (drop i text) run)
 
 -- ---- what is placed
-pub run_placed : (front text before after rest : List ℕ) (i n : ℕ) → rest ≡ drop i text → before ≡ front ++ flat_map escaped (take i text) → after ≡ before ++ take n rest
+pub run_written : (front text before after rest : List ℕ) (i n : ℕ) → rest ≡ drop i text → before ≡ front ++ flat_map escaped (take i text) → after ≡ before ++ take n rest
     → n ≤ prefix_len is_plain rest → after ≡ front ++ flat_map escaped (take (i + n) text)
-run_placed front text before after rest i n r b a run =
+run_written front text before after rest i n r b a run =
     a ∙ ap₂ (λ (xs ys : List ℕ). xs ++ take n ys) b r
     ∙ append_assoc front (flat_map escaped (take i text)) (take n (drop i text))
     ∙ ap (λ bs. front ++ bs) (sym (run_escaped text i n (subst (λ bs. n ≤ prefix_len is_plain bs) r run)))
 
-pub byte_placed : (front text before after : List ℕ) (i : ℕ) → i < length text → before ≡ front ++ flat_map escaped (take i text) → after ≡ before ++ escaped (get_or text i 0)
+pub byte_written : (front text before after : List ℕ) (i : ℕ) → i < length text → before ≡ front ++ flat_map escaped (take i text) → after ≡ before ++ escaped (get_or text i 0)
     → after ≡ front ++ flat_map escaped (take (i + 1) text)
-byte_placed front text before after i l b a =
+byte_written front text before after i l b a =
     a ∙ ap (λ bs. bs ++ escaped (get_or text i 0)) b
     ∙ append_assoc front (flat_map escaped (take i text)) (escaped (get_or text i 0))
     ∙ ap (λ bs. front ++ bs) (sym (byte_escaped text i l))

@@ -1,13 +1,13 @@
-mod Blocks
+mod PlainBlocks
 mod Converted
 mod HeldMembers
 mod HeldShape
 pub mod Moving
 mod PlainTokens
-pub mod Spots
+pub mod ShapeSpots
 mod Tokens
-mod Worked
-pub mod Plain
+mod ObjectWorked
+pub mod UnescapedBlocks
 pub mod JsonString
 pub mod EscapedText
 pub mod CanonicalPlain
@@ -18,14 +18,14 @@ pub mod Items
 pub mod ManyLines
 mod WriteWorked
 pub mod ReadSound
-pub mod Limits
+pub mod JoinLimits
 pub mod LineOrder
 pub mod InRange
 pub mod Ends
-pub mod Steps
+pub mod SectionSteps
 pub mod SectionPlaces
 pub mod ReadPlaces
 pub mod WellRead
 mod ReadWorked
-pub mod Found
+pub mod NotJson
 mod FaultWorked

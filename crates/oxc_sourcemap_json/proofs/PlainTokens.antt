@@ -17,8 +17,8 @@ use Rattle.json.specs.Lex.{begins_colon, place_token, punctuate}
 use Rattle.oxc_sourcemap_json.specs.declared.object.plain.Place.{Place}
 use Rattle.oxc_sourcemap_json.specs.declared.object.plain.Place.TheVariants.{Fresh, AfterValue}
 use Rattle.oxc_sourcemap_json.specs.declared.object.plain.Place.TheVariants.{AfterComma}
-use Rattle.oxc_sourcemap_json.specs.Plain.{place_of, tokens_at, opening, is_plain, MayBegin}
-use Rattle.oxc_sourcemap_json.specs.Plain.{MayClose, EndsValue, IsRead}
+use Rattle.oxc_sourcemap_json.specs.PlainReader.{place_of, tokens_at, opening, is_plain, MayBegin}
+use Rattle.oxc_sourcemap_json.specs.PlainReader.{MayClose, EndsValue, IsRead}
 
 -- ---- the byte at an index
 

@@ -9,21 +9,23 @@ use Rattle.std.proofs.lemmas.Bool.Decides.{nat_tests}
 use Rattle.serde_json.specs.Data.{Data}
 use Rattle.serde_json.specs.Find.{get, as_object}
 use Rattle.serde_json.specs.Read.{read}
-use Rattle.oxc_sourcemap_tokens.specs.declared.error.Error.{Error}
-use Rattle.oxc_sourcemap_tokens.specs.declared.fault.Fault.{Fault}
-use Rattle.oxc_sourcemap_tokens.specs.declared.error.Field.{Field}
-use Rattle.oxc_sourcemap_tokens.specs.declared.error.Field.TheVariants.{Version as VersionField}
-use Rattle.oxc_sourcemap_tokens.specs.declared.error.Field.TheVariants.{Object, File, Mappings}
-use Rattle.oxc_sourcemap_tokens.specs.declared.error.Field.TheVariants.{SourceRoot, Sources}
-use Rattle.oxc_sourcemap_tokens.specs.declared.error.Field.TheVariants.{SourcesContent, DebugId}
-use Rattle.oxc_sourcemap_tokens.specs.declared.fault.FaultPlace.{FaultPlace}
-use Rattle.oxc_sourcemap_tokens.specs.declared.fault.FaultSpot.{FaultSpot}
-use Rattle.oxc_sourcemap_tokens.specs.declared.fault.FaultSpot.TheVariants.{Segment, Entry}
-use Rattle.oxc_sourcemap_tokens.specs.declared.fault.SegmentPlace.{SegmentPlace}
+use Rattle.oxc_sourcemap_tokens.specs.declared.errors.error.Error.{Error}
+use Rattle.oxc_sourcemap_tokens.specs.declared.errors.fault.Fault.{Fault}
+use Rattle.oxc_sourcemap_tokens.specs.declared.errors.error.Field.{Field}
+use Rattle.oxc_sourcemap_tokens.specs.declared.errors.error.Field.TheVariants.{Version as VersionField}
+use Rattle.oxc_sourcemap_tokens.specs.declared.errors.error.Field.TheVariants.{Object, File}
+use Rattle.oxc_sourcemap_tokens.specs.declared.errors.error.Field.TheVariants.{Mappings, SourceRoot}
+use Rattle.oxc_sourcemap_tokens.specs.declared.errors.error.Field.TheVariants.{Sources}
+use Rattle.oxc_sourcemap_tokens.specs.declared.errors.error.Field.TheVariants.{SourcesContent}
+use Rattle.oxc_sourcemap_tokens.specs.declared.errors.error.Field.TheVariants.{DebugId}
+use Rattle.oxc_sourcemap_tokens.specs.declared.errors.fault.FaultPlace.{FaultPlace}
+use Rattle.oxc_sourcemap_tokens.specs.declared.errors.fault.FaultSpot.{FaultSpot}
+use Rattle.oxc_sourcemap_tokens.specs.declared.errors.fault.FaultSpot.TheVariants.{Segment, Entry}
+use Rattle.oxc_sourcemap_tokens.specs.declared.errors.fault.SegmentPlace.{SegmentPlace}
 use Rattle.oxc_sourcemap_tokens.specs.Places.{place_in, placed_in, Locates}
 use Rattle.oxc_sourcemap_mappings.specs.SegmentPlaces.{fault_place, mappings_place}
 use Rattle.oxc_sourcemap_parts.specs.Record.{Text}
-use Rattle.oxc_sourcemap_json.specs.Json.{JsonRecord}
+use Rattle.oxc_sourcemap_json.specs.JsonRecord.{JsonRecord}
 use Rattle.oxc_sourcemap_json.specs.Shape.{◌>>=◌, shape, version_three, version_of, as_id, present}
 use Rattle.oxc_sourcemap_json.specs.Shape.{or_misshapen, optional, required, text_in, texts_in}
 use Rattle.oxc_sourcemap_json.specs.Shape.{contents_in, names_of, ignore_list_of}

@@ -4,17 +4,18 @@ use Rattle.std.proofs.Common.{subst, Option, Some, None, option_map, Result, Ok,
 use Rattle.std.proofs.lemmas.Bool.{false_from_ne_true}
 use Rattle.std.specs.Option.{unwrap_or}
 use Rattle.serde_json.specs.Data.{Data, Items, no_items, item}
-use Rattle.oxc_sourcemap_tokens.specs.declared.error.Error.{Error}
+use Rattle.oxc_sourcemap_tokens.specs.declared.errors.error.Error.{Error}
 use Rattle.oxc_sourcemap_tokens.specs.declared.position.Position.{Position}
 use Rattle.oxc_sourcemap_parts.specs.Record.{MapRecord}
 use Rattle.oxc_sourcemap_join.specs.Joined.{added, nothing_joined, joined, IsWithinLimits}
 use Rattle.oxc_sourcemap_join.proofs.Adding.{nothing-within}
 use Rattle.oxc_sourcemap_json.specs.Sections.{section_map}
 use Rattle.oxc_sourcemap_json.specs.JoinLimits.{is_map_within_limits}
-use Rattle.oxc_sourcemap_json.proofs.Limits.{limits_decided}
-use Rattle.oxc_sourcemap_json.proofs.Steps.{Placed, SoFar, SaysOfPlace, chunk-count, joined-more}
-use Rattle.oxc_sourcemap_json.proofs.Steps.{last-more, taken}
-use Rattle.oxc_sourcemap_tokens.specs.declared.fault.FaultPlace.{FaultPlace}
+use Rattle.oxc_sourcemap_json.proofs.JoinLimits.{limits_decided}
+use Rattle.oxc_sourcemap_json.proofs.SectionSteps.{Placed, SoFar, SaysOfPlace, chunk-count}
+use Rattle.oxc_sourcemap_json.proofs.SectionSteps.{joined-more}
+use Rattle.oxc_sourcemap_json.proofs.SectionSteps.{last-more, taken}
+use Rattle.oxc_sourcemap_tokens.specs.declared.errors.fault.FaultPlace.{FaultPlace}
 use Rattle.oxc_sourcemap_json.specs.ValuePlaces.{or_place, offset_place, map_place, limit_place}
 use Rattle.oxc_sourcemap_json.specs.ValuePlaces.{sections_place}
 

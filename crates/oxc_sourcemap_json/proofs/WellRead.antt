@@ -6,8 +6,9 @@ use Rattle.std.specs.List.{AllByRecursion}
 use Rattle.std.specs.Option.{IfSome}
 use Rattle.serde_json.specs.Data.{Data, Items, no_items, item}
 use Rattle.serde_json.specs.Read.{read}
-use Rattle.oxc_sourcemap_tokens.specs.declared.error.Error.{Error}
-use Rattle.oxc_sourcemap_tokens.specs.declared.error.Error.TheVariants.{SectionOrder, TooLarge}
+use Rattle.oxc_sourcemap_tokens.specs.declared.errors.error.Error.{Error}
+use Rattle.oxc_sourcemap_tokens.specs.declared.errors.error.Error.TheVariants.{SectionOrder}
+use Rattle.oxc_sourcemap_tokens.specs.declared.errors.error.Error.TheVariants.{TooLarge}
 use Rattle.oxc_sourcemap_tokens.specs.Errors.{unless}
 use Rattle.oxc_sourcemap_tokens.specs.Token.{AreInBounds, last}
 use Rattle.oxc_sourcemap_tokens.specs.LineOrder.{IsInLineOrder}
@@ -15,26 +16,26 @@ use Rattle.oxc_sourcemap_tokens.specs.Chunks.{ChunksFit}
 use Rattle.oxc_sourcemap_parts.specs.Record.{Text, MapRecord}
 use Rattle.oxc_sourcemap_parts.specs.Sorted.{are_tokens_sorted}
 use Rattle.oxc_sourcemap_parts.specs.Sound.{AreIdsInRange, IsSound}
-use Rattle.oxc_sourcemap_json.specs.Json.{JsonRecord}
+use Rattle.oxc_sourcemap_json.specs.JsonRecord.{JsonRecord}
 use Rattle.oxc_sourcemap_json.specs.Shape.{◌>>=◌, shape, file_of}
 use Rattle.oxc_sourcemap_json.specs.Decoded.{decoded}
 use Rattle.oxc_sourcemap_json.proofs.ReadSound.{IsWellRead as IsWellDecoded, decoded-well}
 use Rattle.oxc_sourcemap_tokens.specs.declared.position.Position.{Position}
 use Rattle.oxc_sourcemap_join.specs.Joined.{is_same_token, joined}
-use Rattle.oxc_sourcemap_json.specs.Section.{is_indexed, place_in, map_in}
+use Rattle.oxc_sourcemap_json.specs.Section.{is_indexed, offset_in, map_in}
 use Rattle.oxc_sourcemap_json.specs.Sections.{Sections, may_follow, may_begin, token_positions}
-use Rattle.oxc_sourcemap_json.specs.Sections.{in_order, place_after, section_map, section_after}
+use Rattle.oxc_sourcemap_json.specs.Sections.{in_order, offset_after, section_map, section_after}
 use Rattle.oxc_sourcemap_json.specs.Sections.{onto_section, sections_after, all_sections}
 use Rattle.oxc_sourcemap_json.specs.Sections.{joined_sections}
 use Rattle.oxc_sourcemap_json.specs.JoinLimits.{is_map_within_limits}
-use Rattle.oxc_sourcemap_json.specs.ReadMap.{plain, indexed, sections_in, indexed_said, said_by}
-use Rattle.oxc_sourcemap_json.specs.ReadMap.{indexed_record, map_said, said_of, said_in, read_map}
-use Rattle.oxc_sourcemap_json.specs.ReadMap.{read_value}
+use Rattle.oxc_sourcemap_json.specs.ReadMap.{plain, indexed, sections_in, indexed_form}
+use Rattle.oxc_sourcemap_json.specs.ReadMap.{form_of_value, indexed_record, map_of_form}
+use Rattle.oxc_sourcemap_json.specs.ReadMap.{form_of_json, form_of_text, read_map, read_value}
 use Rattle.oxc_sourcemap_json.proofs.Ends.{last_position}
-use Rattle.oxc_sourcemap_json.proofs.Limits.{limits_decided}
+use Rattle.oxc_sourcemap_json.proofs.JoinLimits.{limits_decided}
 use Rattle.oxc_sourcemap_json.proofs.LineOrder.{RunsFrom, runs-of, runs-order, runs-joined}
 use Rattle.oxc_sourcemap_json.proofs.InRange.{added-in-range}
-use Rattle.oxc_sourcemap_json.proofs.Steps.{Placed, joined-more}
+use Rattle.oxc_sourcemap_json.proofs.SectionSteps.{Placed, joined-more}
 
 pub record IsWellRead (r : MapRecord) : Type 0 where
   pub in_range : AreIdsInRange r
@@ -85,9 +86,9 @@ good-more front m place g w b =
 
 good-after : (front : List Placed) (d : Data) (s : Placed) → IsGood front → section_after front d ≡ Ok s → IsGood (front ++ s ∷ [])
 good-after front d s g e =
-    let a = given (place_after front d) (λ place. section_map d >>= (λ m. Ok (m, place))) s e in
+    let a = given (offset_after front d) (λ place. section_map d >>= (λ m. Ok (m, place))) s e in
     let m = given (section_map d) (λ m. Ok (m, a.value)) s a.second in
-    let p = given (place_in d) (in_order front) a.value a.first in
+    let p = given (offset_in d) (in_order front) a.value a.first in
     let begun = where-begun (may_begin front p.value) p.value a.value (SectionOrder (length front)) p.second in
     let is : (m.value, a.value) ≡ s = cc (m.second) in
     subst (λ (s : Placed). IsGood (front ++ s ∷ [])) is
@@ -110,7 +111,7 @@ where-joined true None r s e = (refl, cc)
 where-joined true (Some f) r s e = cc
 where-joined false fault r s e = cc
 
-indexed-well : (file : Option Text) (items : Items) (r : MapRecord) → map_said (indexed file (sections_after [] items)) ≡ Ok r → IsWellRead r
+indexed-well : (file : Option Text) (items : Items) (r : MapRecord) → map_of_form (indexed file (sections_after [] items)) ≡ Ok r → IsWellRead r
 indexed-well file items r e =
     let found = sections_after [] items in
     let j = joined found.maps in
@@ -125,19 +126,19 @@ indexed-well file items r e =
       order = good.order;
     })
 
-of-indexed : (file : Result (Option Text) Error) (items : Result Items Error) (r : MapRecord) → map_said (indexed_said file items) ≡ Ok r → IsWellRead r
+of-indexed : (file : Result (Option Text) Error) (items : Result Items Error) (r : MapRecord) → map_of_form (indexed_form file items) ≡ Ok r → IsWellRead r
 of-indexed (Err f) items r e = cc
 of-indexed (Ok file) (Err f) r e = cc
 of-indexed (Ok file) (Ok items) r e = indexed-well file items r e
 
-said-well : (d : Data) (r : MapRecord) → map_said (said_by d) ≡ Ok r → IsWellRead r
+said-well : (d : Data) (r : MapRecord) → map_of_form (form_of_value d) ≡ Ok r → IsWellRead r
 said-well d r =
-    elim (is_indexed d) as (λ b. map_said (cond b (indexed_said (file_of d) (sections_in d)) (plain (shape d >>= decoded))) ≡ Ok r → IsWellRead r) [
+    elim (is_indexed d) as (λ b. map_of_form (cond b (indexed_form (file_of d) (sections_in d)) (plain (shape d >>= decoded))) ≡ Ok r → IsWellRead r) [
       | true ↦ (λ e. of-indexed (file_of d) (sections_in d) r e)
       | false ↦ (λ e. plain-well (shape d) r e)
     ]
 
-of-value : (o : Option Data) (r : MapRecord) → map_said (said_of o) ≡ Ok r → IsWellRead r
+of-value : (o : Option Data) (r : MapRecord) → map_of_form (form_of_json o) ≡ Ok r → IsWellRead r
 of-value None r e = cc
 of-value (Some d) r e = said-well d r e
 
@@ -148,7 +149,7 @@ read_well text r e = of-value (read text) r e
 -- ---- the maps of sections
 after-well : (front : List Placed) (d : Data) (s : Placed) → section_after front d ≡ Ok s → IsWellRead s.0
 after-well front d s e =
-    let a = given (place_after front d) (λ place. section_map d >>= (λ m. Ok (m, place))) s e in
+    let a = given (offset_after front d) (λ place. section_map d >>= (λ m. Ok (m, place))) s e in
     let m = given (section_map d) (λ m. Ok (m, a.value)) s a.second in
     let is : (m.value, a.value) ≡ s = cc (m.second) in
     subst (λ (s : Placed). IsWellRead s.0) is (section-well d m.value m.first)
@@ -165,32 +166,32 @@ all-well front (item d ds) h =
       | Err f ↦ (λ e. h)
     ] refl
 
-indexed-sections : (file : Result (Option Text) Error) (items : Result Items Error) (f : Option Text) (found : Sections) → indexed_said file items ≡ indexed f found
+indexed-sections : (file : Result (Option Text) Error) (items : Result Items Error) (f : Option Text) (found : Sections) → indexed_form file items ≡ indexed f found
     → (list : Items) × (all_sections list ≡ found)
 indexed-sections (Err e) items f found h = cc
 indexed-sections (Ok file) (Err e) f found h = cc
 indexed-sections (Ok file) (Ok list) f found h = (list, cc)
 
-said-sections : (d : Data) (f : Option Text) (found : Sections) → said_by d ≡ indexed f found → (list : Items) × (all_sections list ≡ found)
+said-sections : (d : Data) (f : Option Text) (found : Sections) → form_of_value d ≡ indexed f found → (list : Items) × (all_sections list ≡ found)
 said-sections d f found =
-    elim (is_indexed d) as (λ b. cond b (indexed_said (file_of d) (sections_in d)) (plain (shape d >>= decoded)) ≡ indexed f found → (list : Items) × (all_sections list ≡ found)) [
+    elim (is_indexed d) as (λ b. cond b (indexed_form (file_of d) (sections_in d)) (plain (shape d >>= decoded)) ≡ indexed f found → (list : Items) × (all_sections list ≡ found)) [
       | true ↦ (λ e. indexed-sections (file_of d) (sections_in d) f found e)
       | false ↦ (λ e. cc)
     ]
 
-of-sections : (o : Option Data) (f : Option Text) (found : Sections) → said_of o ≡ indexed f found → (list : Items) × (all_sections list ≡ found)
+of-sections : (o : Option Data) (f : Option Text) (found : Sections) → form_of_json o ≡ indexed f found → (list : Items) × (all_sections list ≡ found)
 of-sections None f found e = cc
 of-sections (Some d) f found e = said-sections d f found e
 
 -- the maps of the sections in front of the first fault
-pub sections_well : (text : Text) (file : Option Text) (found : Sections) → said_in text ≡ indexed file found → AllByRecursion (λ m. IsWellRead m.0) found.maps
+pub sections_well : (text : Text) (file : Option Text) (found : Sections) → form_of_text text ≡ indexed file found → AllByRecursion (λ m. IsWellRead m.0) found.maps
 sections_well text file found e =
     let s = of-sections (read text) file found e in
     subst (λ (q : Sections). AllByRecursion (λ m. IsWellRead m.0) q.maps) s.1 (all-well [] s.0 tt)
 
-pub read_is_said : (text : Text) → read_map text ≡ map_said (said_in text)
+pub read_is_form : (text : Text) → read_map text ≡ map_of_form (form_of_text text)
 unfolding read_map
-read_is_said text = refl
+read_is_form text = refl
 
 well-sound : (r : MapRecord) → IsWellRead r → IsSound r ↔ (are_tokens_sorted r.tokens ≡ true)
 well-sound r w = (λ s. s.sorted, λ o. record { sorted = o; in_range = w.in_range; chunks = subst (λ o. IfSome o (ChunksFit r.tokens)) (sym w.chunks) tt })
@@ -205,12 +206,12 @@ pub read_in_order : (text : Text) (r : MapRecord) → read_map text ≡ Ok r →
 read_in_order text r e = runs-order 0 r.tokens (read_well text r e).order
 
 -- ---- a map that is read from a JSON value
-pub value_is_said : (d : Data) → read_value d ≡ map_said (said_by d)
+pub value_is_form : (d : Data) → read_value d ≡ map_of_form (form_of_value d)
 unfolding read_value
-value_is_said d = refl
+value_is_form d = refl
 
 value-well : (d : Data) (r : MapRecord) → read_value d ≡ Ok r → IsWellRead r
-value-well d r e = said-well d r (sym (value_is_said d) ∙ e)
+value-well d r e = said-well d r (sym (value_is_form d) ∙ e)
 
 pub value_sound : (d : Data) (r : MapRecord) → read_value d ≡ Ok r → IsSound r ↔ (are_tokens_sorted r.tokens ≡ true)
 value_sound d r e = well-sound r (value-well d r e)
@@ -218,7 +219,7 @@ value_sound d r e = well-sound r (value-well d r e)
 pub value_in_order : (d : Data) (r : MapRecord) → read_value d ≡ Ok r → IsInLineOrder r.tokens
 value_in_order d r e = runs-order 0 r.tokens (value-well d r e).order
 
-pub value_sections_well : (d : Data) (file : Option Text) (found : Sections) → said_by d ≡ indexed file found → AllByRecursion (λ m. IsWellRead m.0) found.maps
+pub value_sections_well : (d : Data) (file : Option Text) (found : Sections) → form_of_value d ≡ indexed file found → AllByRecursion (λ m. IsWellRead m.0) found.maps
 value_sections_well d file found e =
     let s = said-sections d file found e in
     subst (λ (q : Sections). AllByRecursion (λ m. IsWellRead m.0) q.maps) s.1 (all-well [] s.0 tt)

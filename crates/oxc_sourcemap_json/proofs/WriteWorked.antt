@@ -1,4 +1,4 @@
--- Worked examples, computed by the definitions themselves.
+-- Worked examples of texts that are written, computed by the definitions themselves.
 use Rattle.std.specs.Prelude.{◌≡◌, refl, true, [], ◌∷◌, ◌++◌, codes, Some}
 use Rattle.base64.specs.Engines.{standard}
 use Rattle.base64.specs.Rfc4648.{encode_symbols}

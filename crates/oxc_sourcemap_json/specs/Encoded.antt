@@ -2,11 +2,11 @@
 use Rattle.std.specs.Prelude.{List, Option, Some, None, Result, Ok, if◌then◌else◌}
 use Rattle.std.specs.List.{list_any}
 use Rattle.std.specs.Option.{is_some}
-use Rattle.oxc_sourcemap_tokens.specs.declared.error.Error.{Error}
+use Rattle.oxc_sourcemap_tokens.specs.declared.errors.error.Error.{Error}
 use Rattle.oxc_sourcemap_tokens.specs.Errors.{unless}
-use Rattle.oxc_sourcemap_json.specs.Json.{JsonRecord}
+use Rattle.oxc_sourcemap_json.specs.JsonRecord.{JsonRecord}
 use Rattle.oxc_sourcemap_mappings.specs.Canonical.{canonical}
-use Rattle.oxc_sourcemap_mappings.specs.Pieces.{writing_fault}
+use Rattle.oxc_sourcemap_mappings.specs.ChunkTexts.{writing_fault}
 use Rattle.oxc_sourcemap_parts.specs.Record.{Text, MapRecord}
 
 -- the list of contents, if some content is known

@@ -1,12 +1,12 @@
-pub mod Json
+pub mod JsonRecord
 pub mod Members
-pub mod Plain
+pub mod PlainReader
 pub mod Shape
 pub mod ShapeSpots
 pub mod TokenReader
 pub mod Usual
 pub mod JsonString
-pub mod WritePlain
+pub mod UnescapedBytes
 pub mod Appends
 pub mod Encoded
 pub mod JsonText

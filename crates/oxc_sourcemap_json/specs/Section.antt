@@ -4,10 +4,10 @@ use Rattle.std.specs.Prelude.{if◌then◌else◌, is_some}
 use Rattle.std.specs.Option.{option_map, option_and_then}
 use Rattle.serde_json.specs.Data.{Data}
 use Rattle.serde_json.specs.Find.{get, as_object}
-use Rattle.oxc_sourcemap_tokens.specs.declared.error.Error.{Error}
-use Rattle.oxc_sourcemap_tokens.specs.declared.error.Field.TheVariants.{Sections}
-use Rattle.oxc_sourcemap_tokens.specs.declared.error.Field.TheVariants.{Offset as OffsetField}
-use Rattle.oxc_sourcemap_tokens.specs.declared.error.Field.TheVariants.{Map as MapField}
+use Rattle.oxc_sourcemap_tokens.specs.declared.errors.error.Error.{Error}
+use Rattle.oxc_sourcemap_tokens.specs.declared.errors.error.Field.TheVariants.{Sections}
+use Rattle.oxc_sourcemap_tokens.specs.declared.errors.error.Field.TheVariants.{Offset as OffsetField}
+use Rattle.oxc_sourcemap_tokens.specs.declared.errors.error.Field.TheVariants.{Map as MapField}
 use Rattle.oxc_sourcemap_json.specs.Shape.{◌>>=◌, or_misshapen, present, as_id}
 use Rattle.oxc_sourcemap_tokens.specs.declared.position.Position.{Position}
 
@@ -20,14 +20,14 @@ abbrev pub number_at : List ℕ → Data → Option ℕ
 number_at key d = option_and_then as_id (get key d)
 
 -- a value as a position: an object with a line and a column
-abbrev pub as_place : Data → Option Position
-as_place d = option_and_then (λ line. option_map (λ column. record { line = line; column = column }) (number_at (codes "column") d)) (number_at (codes "line") d)
+abbrev pub as_position : Data → Option Position
+as_position d = option_and_then (λ line. option_map (λ column. record { line = line; column = column }) (number_at (codes "column") d)) (number_at (codes "line") d)
 
 -- the offset of a section, which has to be an object
-abbrev pub place_in : Data → Result Position Error
-place_in d = do
+abbrev pub offset_in : Data → Result Position Error
+offset_in d = do
   members ← or_misshapen Sections (as_object d)
-  or_misshapen OffsetField (option_and_then as_place (get (codes "offset") d))
+  or_misshapen OffsetField (option_and_then as_position (get (codes "offset") d))
 
 -- A section's map is an object that is not an indexed map.
 abbrev pub is_plain : Data → Bool

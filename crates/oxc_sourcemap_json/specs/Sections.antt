@@ -4,8 +4,9 @@ use Rattle.std.specs.Prelude.{None, Result, Ok, Err, if◌then◌else◌}
 use Rattle.std.specs.List.{flat_map}
 use Rattle.std.specs.Option.{option_map}
 use Rattle.serde_json.specs.Data.{Data, Items, no_items, item}
-use Rattle.oxc_sourcemap_tokens.specs.declared.error.Error.{Error}
-use Rattle.oxc_sourcemap_tokens.specs.declared.error.Error.TheVariants.{SectionOrder, TooLarge}
+use Rattle.oxc_sourcemap_tokens.specs.declared.errors.error.Error.{Error}
+use Rattle.oxc_sourcemap_tokens.specs.declared.errors.error.Error.TheVariants.{SectionOrder}
+use Rattle.oxc_sourcemap_tokens.specs.declared.errors.error.Error.TheVariants.{TooLarge}
 use Rattle.oxc_sourcemap_tokens.specs.Errors.{unless}
 use Rattle.oxc_sourcemap_tokens.specs.Token.{TokenRecord, last}
 use Rattle.oxc_sourcemap_parts.specs.Record.{MapRecord}
@@ -14,7 +15,7 @@ use Rattle.oxc_sourcemap_json.specs.Shape.{◌>>=◌, shape}
 use Rattle.oxc_sourcemap_json.specs.Decoded.{decoded}
 use Rattle.oxc_sourcemap_tokens.specs.declared.position.Position.{Position}
 use Rattle.oxc_sourcemap_join.specs.Joined.{position, shifted_column, joined}
-use Rattle.oxc_sourcemap_json.specs.Section.{place_in, map_in}
+use Rattle.oxc_sourcemap_json.specs.Section.{offset_in, map_in}
 use Rattle.oxc_sourcemap_json.specs.JoinLimits.{is_map_within_limits}
 
 -- the generated position of a token
@@ -44,8 +45,8 @@ abbrev pub in_order : List (MapRecord × Position) → Position → Result Posit
 in_order front place = if may_begin front place then Ok place else Err (SectionOrder (length front))
 
 -- the offset of a section after those in front of it, or its first fault
-abbrev pub place_after : List (MapRecord × Position) → Data → Result Position Error
-place_after front d = place_in d >>= in_order front
+abbrev pub offset_after : List (MapRecord × Position) → Data → Result Position Error
+offset_after front d = offset_in d >>= in_order front
 
 -- the map of a section, or its first fault
 abbrev pub section_map : Data → Result MapRecord Error
@@ -57,7 +58,7 @@ section_map d = do
 -- a section after those in front of it: its map and its offset, or its first fault
 abbrev pub section_after : List (MapRecord × Position) → Data → Result (MapRecord × Position) Error
 section_after front d = do
-  place ← place_after front d
+  place ← offset_after front d
   map ← section_map d
   Ok (map, place)
 

@@ -1,7 +1,7 @@
 -- What is left of a JSON text, by the way it is read.
 use Rattle.std.specs.Prelude.{List}
 use Rattle.json.specs.Token.{Token}
-use Rattle.oxc_sourcemap_json.specs.Plain.{tokens_left}
+use Rattle.oxc_sourcemap_json.specs.PlainReader.{tokens_left}
 use Rattle.oxc_sourcemap_json.specs.declared.object.token_reader.Way.{Way}
 use Rattle.oxc_sourcemap_json.specs.declared.object.token_reader.Way.TheVariants.{Plain, Any}
 

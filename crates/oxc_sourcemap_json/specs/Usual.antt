@@ -12,10 +12,10 @@ use Rattle.serde_json.specs.Data.{item, Members, no_members}
 use Rattle.serde_json.specs.Find.{get, get_member}
 use Rattle.serde_json.specs.Read.{of_json, of_items, of_members, converted, max_depth, read}
 use Rattle.oxc_sourcemap_parts.specs.Views.{texts_of, contents_of}
-use Rattle.oxc_sourcemap_json.specs.Json.{JsonRecord}
+use Rattle.oxc_sourcemap_json.specs.JsonRecord.{JsonRecord}
 use Rattle.oxc_sourcemap_json.specs.Shape.{shape}
 use Rattle.oxc_sourcemap_json.specs.ShapeSpots.{ignored_field}
-use Rattle.oxc_sourcemap_tokens.specs.declared.error.Field.{Field}
+use Rattle.oxc_sourcemap_tokens.specs.declared.errors.error.Field.{Field}
 use Rattle.oxc_sourcemap_json.specs.declared.object.usual.UsualMembers.{UsualMembers}
 
 -- These tokens begin with this value, a member of the object that a text is, and go on with those.
@@ -103,7 +103,7 @@ HaveIds m = AreIds m.ignore_list × AreIds m.older_ignore_list
 abbrev pub AreHeld : UsualMembers → Members → Type 0
 AreHeld m ms = (key : List ℕ) → get_member key ms ≡ held key (members_held m)
 
--- A text reads as a map by itself, without the member `sections`, with these fields, and with this member as its ignore list.
+-- A text reads as a map by itself, without the member `sections`, with these fields, and with this member as its ignore list, if it has one.
 abbrev pub IsJsonOf : List ℕ → JsonRecord → Field → Type 0
 IsJsonOf text fields ignored =
     (d : Data) × (read text ≡ Some d) × (get (codes "sections") d ≡ None) × (shape d ≡ Ok fields) × (ignored_field d ≡ ignored)

@@ -7,30 +7,31 @@ use Rattle.std.specs.Option.{option_map, option_and_then, option_or}
 use Rattle.serde_json.specs.Data.{Data, Items, no_items, item}
 use Rattle.serde_json.specs.Find.{get, as_object}
 use Rattle.serde_json.specs.Read.{read}
-use Rattle.oxc_sourcemap_tokens.specs.declared.error.Error.{Error}
-use Rattle.oxc_sourcemap_tokens.specs.declared.error.Error.TheVariants.{OutOfMemory}
-use Rattle.oxc_sourcemap_tokens.specs.declared.error.Field.{Field}
-use Rattle.oxc_sourcemap_tokens.specs.declared.error.Field.TheVariants.{Map as MapField}
-use Rattle.oxc_sourcemap_tokens.specs.declared.error.Field.TheVariants.{Offset as OffsetField}
-use Rattle.oxc_sourcemap_tokens.specs.declared.error.Field.TheVariants.{Sections as SectionsField}
-use Rattle.oxc_sourcemap_tokens.specs.declared.fault.Fault.{Fault}
-use Rattle.oxc_sourcemap_tokens.specs.declared.fault.FaultPlace.{FaultPlace}
-use Rattle.oxc_sourcemap_tokens.specs.declared.fault.FaultSpot.{FaultSpot}
-use Rattle.oxc_sourcemap_tokens.specs.declared.fault.FaultSpot.TheVariants.{Segment, Member, Entry}
-use Rattle.oxc_sourcemap_tokens.specs.declared.fault.FaultSpot.TheVariants.{Reading as ReadingSpot}
+use Rattle.oxc_sourcemap_tokens.specs.declared.errors.error.Error.{Error}
+use Rattle.oxc_sourcemap_tokens.specs.declared.errors.error.Error.TheVariants.{OutOfMemory}
+use Rattle.oxc_sourcemap_tokens.specs.declared.errors.error.Field.{Field}
+use Rattle.oxc_sourcemap_tokens.specs.declared.errors.error.Field.TheVariants.{Map as MapField}
+use Rattle.oxc_sourcemap_tokens.specs.declared.errors.error.Field.TheVariants.{Offset as OffsetField}
+use Rattle.oxc_sourcemap_tokens.specs.declared.errors.error.Field.TheVariants.{Sections as SectionsField}
+use Rattle.oxc_sourcemap_tokens.specs.declared.errors.fault.Fault.{Fault}
+use Rattle.oxc_sourcemap_tokens.specs.declared.errors.fault.FaultPlace.{FaultPlace}
+use Rattle.oxc_sourcemap_tokens.specs.declared.errors.fault.FaultSpot.{FaultSpot}
+use Rattle.oxc_sourcemap_tokens.specs.declared.errors.fault.FaultSpot.TheVariants.{Segment, Member}
+use Rattle.oxc_sourcemap_tokens.specs.declared.errors.fault.FaultSpot.TheVariants.{Entry}
+use Rattle.oxc_sourcemap_tokens.specs.declared.errors.fault.FaultSpot.TheVariants.{Reading as ReadingSpot}
 use Rattle.oxc_sourcemap_tokens.specs.declared.position.Position.{Position}
 use Rattle.oxc_sourcemap_tokens.specs.Places.{place_in}
 use Rattle.oxc_sourcemap_mappings.specs.SegmentPlaces.{fault_place}
 use Rattle.oxc_sourcemap_parts.specs.Record.{Text, MapRecord}
 use Rattle.oxc_sourcemap_join.specs.Joined.{joined}
-use Rattle.oxc_sourcemap_json.specs.Json.{JsonRecord}
+use Rattle.oxc_sourcemap_json.specs.JsonRecord.{JsonRecord}
 use Rattle.oxc_sourcemap_json.specs.Shape.{◌>>=◌, shape, file_of}
 use Rattle.oxc_sourcemap_json.specs.ShapeSpots.{shape_spot, ignored_field}
 use Rattle.oxc_sourcemap_json.specs.Decoded.{decoded}
 use Rattle.oxc_sourcemap_json.specs.JoinLimits.{is_map_within_limits}
 use Rattle.oxc_sourcemap_json.specs.ReadMap.{sections_in}
 use Rattle.oxc_sourcemap_json.specs.Section.{is_indexed, as_plain}
-use Rattle.oxc_sourcemap_json.specs.Sections.{place_after, section_map}
+use Rattle.oxc_sourcemap_json.specs.Sections.{offset_after, section_map}
 
 -- a spot as a place, in a text without sections
 abbrev pub place_at : FaultSpot → FaultPlace
@@ -94,7 +95,7 @@ or_place (Err fault) place next = place fault
 abbrev pub sections_place : List (MapRecord × Position) → Items → Option FaultPlace
 sections_place front no_items = None
 sections_place front (item d ds) =
-    or_place (place_after front d) (λ fault. Some (offset_place (length front) d)) (λ place.
+    or_place (offset_after front d) (λ fault. Some (offset_place (length front) d)) (λ place.
     or_place (section_map d) (λ fault. map_place (length front) d) (λ m.
     if is_map_within_limits (joined (front ++ (m, place) ∷ [])) then sections_place (front ++ (m, place) ∷ []) ds
     else Some (limit_place (length front))))
@@ -117,11 +118,11 @@ IsReadingSpot spot = ⊥
 abbrev pub IsReading : FaultPlace → Type 0
 IsReading place = (place.text ≡ None) × (place.section ≡ None) × IsReadingSpot place.spot
 
--- A text has no place of a fault, if it is JSON.
+-- If a text is JSON, its value has no place of a fault.
 abbrev pub HasNoPlace : Text → Type 0
 HasNoPlace text = (d : Data) → read text ≡ Some d → value_place d ≡ None
 
--- A fault, unless it is want of memory, has the place of the first fault of this text.
+-- A fault, unless it is want of memory, has a place: that of the first fault of this text, or, if the text is not JSON, some place of reading.
 abbrev pub IsPlacedIn : Text → Fault → Type 0
 IsPlacedIn text f =
     (f.error ≢ OutOfMemory) → ((d : Data) → read text ≡ Some d → value_place d ≡ f.place)

@@ -1,4 +1,4 @@
-//! Where an input has its first fault, and what is really wrong there. Part of `oxc_sourcemap`.
+//! Where a JSON text or value has its first fault, and what is really wrong there.
 
 mod fault_reason;
 mod json_fault;

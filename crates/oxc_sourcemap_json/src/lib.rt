@@ -13,7 +13,7 @@ pub use fault::{
 pub use object::{JSONSourceMap, file_from_value, ignored_field, json_of, read_file, read_id};
 pub use read::{
     decode_parts, decode_parts_from_string, decode_parts_from_value, into_member, is_indexed,
-    is_plain, may_follow, offset_place, place_in, read_fields, read_parts_from_string,
+    is_plain, may_follow, offset_in, offset_place, read_fields, read_parts_from_string,
     reading_place,
 };
 pub use write::{

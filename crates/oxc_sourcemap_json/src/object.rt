@@ -1,5 +1,4 @@
-//! The JSON object of a source map (ECMA-426, "Source map format"): its fields, read from a JSON value. Part of
-//! `oxc_sourcemap`.
+//! The JSON object of a source map (ECMA-426, "Source map format"): its fields, read from a JSON value or, token by token, from a text.
 
 mod json_source_map;
 mod members;

@@ -1,5 +1,4 @@
-//! The parts of a map written as JSON: as a JSON object, as a JSON text with its strings, and as a data URL. Part of
-//! `oxc_sourcemap`.
+//! The parts of a map written as JSON: as a JSON object, as a JSON text with its strings, and as a data URL.
 
 mod encode;
 mod escapes;

@@ -5,7 +5,7 @@ use Rattle.std.specs.List.{AllByRecursion, list_any}
 use Rattle.std.specs.Option.{IfSome, is_some, option_map, option_map_or, unwrap_or}
 use Rattle.std.proofs.lemmas.Bool.Decides.{nat_tests}
 use Rattle.std.proofs.lemmas.List.Elements.{recursion_from_All}
-use Rattle.oxc_sourcemap_tokens.specs.declared.error.Error.TheVariants.{BadChunks, TooLarge}
+use Rattle.oxc_sourcemap_tokens.specs.declared.errors.error.Error.TheVariants.{BadChunks, TooLarge}
 use Rattle.oxc_sourcemap_tokens.specs.declared.token.TokenChunk.{TokenChunk}
 use Rattle.oxc_sourcemap_tokens.specs.Token.{TokenRecord, IsInBounds, AreInBounds, name_beside}
 use Rattle.oxc_sourcemap_mappings.specs.Reading.{reading}
@@ -13,7 +13,7 @@ use Rattle.oxc_sourcemap_tokens.specs.State.{State, initial}
 use Rattle.oxc_sourcemap_mappings.specs.Canonical.{canonical, carried, carried_token}
 use Rattle.oxc_sourcemap_tokens.specs.LineOrder.{first_out_of_order}
 use Rattle.oxc_sourcemap_tokens.specs.Chunks.{ChunksFit, first_misfit}
-use Rattle.oxc_sourcemap_mappings.specs.Pieces.{writing_fault}
+use Rattle.oxc_sourcemap_mappings.specs.ChunkTexts.{writing_fault}
 use Rattle.oxc_sourcemap_tokens.specs.Steps.{advanced}
 use Rattle.oxc_sourcemap_tokens.proofs.Fits.{first_misfit-none}
 use Rattle.oxc_sourcemap_mappings.proofs.RoundTrip.{IsWithin, round_trip, carrying, carried-is}

@@ -2,8 +2,8 @@
 use Rattle.std.proofs.Common.{◌≡◌, Bool, true, false, cond, List, [], ◌∷◌, refl, sym, ap, ◌∙◌}
 use Rattle.std.proofs.Common.{subst, Option, Some, None, Result, Ok, Err}
 use Rattle.std.specs.List.{AllByRecursion}
-use Rattle.oxc_sourcemap_tokens.specs.declared.error.Error.{Error}
-use Rattle.oxc_sourcemap_tokens.specs.declared.error.Error.TheVariants.{TooLarge}
+use Rattle.oxc_sourcemap_tokens.specs.declared.errors.error.Error.{Error}
+use Rattle.oxc_sourcemap_tokens.specs.declared.errors.error.Error.TheVariants.{TooLarge}
 use Rattle.oxc_sourcemap_tokens.specs.Errors.{unless}
 use Rattle.oxc_sourcemap_parts.specs.Record.{Text, MapRecord}
 use Rattle.oxc_sourcemap_parts.specs.DecodedMap.{DecodedMap, decoded_map_of}
@@ -12,9 +12,9 @@ use Rattle.oxc_sourcemap_tokens.specs.declared.position.Position.{Position}
 use Rattle.oxc_sourcemap_join.specs.Joined.{joined}
 use Rattle.oxc_sourcemap_json.specs.Sections.{Sections, joined_sections}
 use Rattle.oxc_sourcemap_json.specs.JoinLimits.{is_map_within_limits}
-use Rattle.oxc_sourcemap_json.specs.ReadMap.{indexed, indexed_record, map_said}
+use Rattle.oxc_sourcemap_json.specs.ReadMap.{indexed, indexed_record, map_of_form}
 use Rattle.oxc_sourcemap_json.proofs.WellRead.{IsWellRead, sections_well, value_sections_well}
-use Rattle.oxc_sourcemap_json.proofs.WellRead.{read_is_said, value_is_said}
+use Rattle.oxc_sourcemap_json.proofs.WellRead.{read_is_form, value_is_form}
 use Rattle.oxc_sourcemap_laws.specs.Repeats.{EqualUpToRepeats}
 use Rattle.oxc_sourcemap_laws.specs.JoinLaws.{AreAllInRange}
 use Rattle.oxc_sourcemap_laws.specs.SectionLaws.{decoded_map_of_sections, ValueOfSections}
@@ -38,7 +38,7 @@ pub joined-of : (file : Option Text) (x : Result MapRecord Error) (r : MapRecord
 joined-of file (Ok j) r e = (j, refl, cc)
 joined-of file (Err f) r e = cc
 
-of-sections : (file : Option Text) (found : Sections) (r : MapRecord) → AllByRecursion (λ m. IsWellRead m.0) found.maps → map_said (indexed file found) ≡ Ok r
+of-sections : (file : Option Text) (found : Sections) (r : MapRecord) → AllByRecursion (λ m. IsWellRead m.0) found.maps → map_of_form (indexed file found) ≡ Ok r
     → EqualUpToRepeats (decoded_map_of r) (decoded_map_of_sections file found)
 of-sections file found r well e =
     let j = joined-of file (joined_sections found) r e in
@@ -49,8 +49,8 @@ of-sections file found r well e =
 
 pub value_of_sections : ValueOfSections
 value_of_sections d file found r said e =
-    of-sections file found r (value_sections_well d file found said) (sym (ap map_said said) ∙ sym (value_is_said d) ∙ e)
+    of-sections file found r (value_sections_well d file found said) (sym (ap map_of_form said) ∙ sym (value_is_form d) ∙ e)
 
 pub text_of_sections : TextOfSections
 text_of_sections text file found r said e =
-    of-sections file found r (sections_well text file found said) (sym (ap map_said said) ∙ sym (read_is_said text) ∙ e)
+    of-sections file found r (sections_well text file found said) (sym (ap map_of_form said) ∙ sym (read_is_form text) ∙ e)

@@ -1,4 +1,4 @@
--- Worked examples, computed by the definitions themselves.
+-- Worked examples of laws, computed by the definitions themselves.
 use Rattle.std.specs.Prelude.{◌≡◌, refl, ℕ, true, false, List, [], ◌∷◌, Option, Some, None}
 use Rattle.oxc_sourcemap_tokens.specs.Token.{TokenRecord}
 use Rattle.oxc_sourcemap_parts.specs.Record.{Text, MapRecord}

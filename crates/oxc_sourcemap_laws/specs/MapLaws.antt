@@ -1,7 +1,7 @@
 -- A map that is written and read again.
 use Rattle.std.specs.Prelude.{◌≡◌, ◌<◌, ◌≤◌, [], length, None, Ok, Err}
 use Rattle.std.specs.Option.{unwrap_or}
-use Rattle.oxc_sourcemap_tokens.specs.declared.error.Error.TheVariants.{TooLarge}
+use Rattle.oxc_sourcemap_tokens.specs.declared.errors.error.Error.TheVariants.{TooLarge}
 use Rattle.oxc_sourcemap_tokens.specs.Token.{AreInBounds}
 use Rattle.oxc_sourcemap_mappings.specs.Canonical.{as_written, carried}
 use Rattle.oxc_sourcemap_parts.specs.Record.{MapRecord}

@@ -4,7 +4,8 @@ use Rattle.serde_json.specs.Data.{Data}
 use Rattle.oxc_sourcemap_parts.specs.Record.{Text, MapRecord}
 use Rattle.oxc_sourcemap_parts.specs.DecodedMap.{DecodedMap, decoded_map_of}
 use Rattle.oxc_sourcemap_json.specs.Sections.{Sections}
-use Rattle.oxc_sourcemap_json.specs.ReadMap.{indexed, said_by, said_in, read_value, read_map}
+use Rattle.oxc_sourcemap_json.specs.ReadMap.{indexed, form_of_value, form_of_text, read_value}
+use Rattle.oxc_sourcemap_json.specs.ReadMap.{read_map}
 use Rattle.oxc_sourcemap_laws.specs.Repeats.{EqualUpToRepeats}
 use Rattle.oxc_sourcemap_laws.specs.JoinedDecodedMaps.{joined_decoded_maps}
 use Rattle.oxc_sourcemap_laws.specs.JoinLaws.{decoded_maps_of}
@@ -15,10 +16,10 @@ decoded_map_of_sections file found = record (joined_decoded_maps (decoded_maps_o
 
 -- The decoded map of an indexed map that is read from a value is equal up to repeats to that of its sections.
 abbrev pub ValueOfSections : Type 0
-ValueOfSections = (d : Data) (file : Option Text) (found : Sections) (r : MapRecord) → said_by d ≡ indexed file found → read_value d ≡ Ok r
+ValueOfSections = (d : Data) (file : Option Text) (found : Sections) (r : MapRecord) → form_of_value d ≡ indexed file found → read_value d ≡ Ok r
     → EqualUpToRepeats (decoded_map_of r) (decoded_map_of_sections file found)
 
 -- The decoded map of an indexed map that is read from a text is equal up to repeats to that of its sections.
 abbrev pub TextOfSections : Type 0
-TextOfSections = (text : Text) (file : Option Text) (found : Sections) (r : MapRecord) → said_in text ≡ indexed file found → read_map text ≡ Ok r
+TextOfSections = (text : Text) (file : Option Text) (found : Sections) (r : MapRecord) → form_of_text text ≡ indexed file found → read_map text ≡ Ok r
     → EqualUpToRepeats (decoded_map_of r) (decoded_map_of_sections file found)

@@ -1,7 +1,7 @@
 -- The words of this crate's clauses, from one place.
 pub use Rattle.oxc_sourcemap_json.specs.ReadLaws.{ReadIsInBounds, ReadIsInLineOrder}
 pub use Rattle.oxc_sourcemap_mappings.specs.TextLaws.{CanonicalUnique, ReadsBack, ReadsAgain}
-pub use Rattle.oxc_sourcemap_mappings.specs.TextLaws.{InPieces, PiecesAreAscii}
+pub use Rattle.oxc_sourcemap_mappings.specs.TextLaws.{InPieces, ChunkTextsAreAscii}
 pub use Rattle.oxc_sourcemap_laws.specs.ComposeLaws.{DecodedMapOfComposition}
 pub use Rattle.oxc_sourcemap_laws.specs.ComposeLaws.{CompositionKeepsEqualUpToRepeats}
 pub use Rattle.oxc_sourcemap_laws.specs.ComposeLaws.{CompositionStandsFor, DecodedMapsAssociative}

@@ -1,4 +1,4 @@
-//! Laws of URLs.
+//! The law of data URLs.
 ghost use Rattle.oxc_sourcemap_laws.specs.Words.{TextsReadBack, MapsReadBack};
 
 /// What `to_data_url` writes, `decode_data_url` reads back: the data URL of a text has that text (`texts`), and that of a map

@@ -7,7 +7,8 @@
 mod data_urls;
 
 ghost use Rattle.oxc_sourcemap_laws.specs.Words.{CanonicalUnique, ReadsBack, ReadsAgain, InPieces};
-ghost use Rattle.oxc_sourcemap_laws.specs.Words.{PiecesAreAscii, SoundIsWritten, SoundIsTooLarge};
+ghost use Rattle.oxc_sourcemap_laws.specs.Words.{ChunkTextsAreAscii, SoundIsWritten};
+ghost use Rattle.oxc_sourcemap_laws.specs.Words.{SoundIsTooLarge};
 ghost use Rattle.oxc_sourcemap_laws.specs.Words.{SoundReadsBack, SoundStaysSound, ReadIsInBounds};
 ghost use Rattle.oxc_sourcemap_laws.specs.Words.{ReadIsInLineOrder, ValueOfSections};
 ghost use Rattle.oxc_sourcemap_laws.specs.Words.{TextOfSections, DecodedMapOfComposition};
@@ -60,7 +61,7 @@ pub use oxc_sourcemap_tokens::tokens_in_bounds;
 ///   unmapped token comes back with the source line and column reached there (`reads_back`).
 /// - The tokens of a text are in line order and in bounds, and written and read again they are the same (`reads_again`).
 /// - The parts of fitting chunks, one after the other, are the text (`in_pieces`). The part of any chunk is ASCII
-///   (`pieces_are_ascii`).
+///   (`chunk_texts_are_ascii`).
 /// - A sound map of at most 4294967295 tokens is written (`sound_is_written`), one of more is `TooLarge`
 ///   (`sound_is_too_large`). What is written is read as a map with the same decoded map (its ids looked up), the same
 ///   names, and tokens equal as written (`sound_reads_back`). It is sound, has as many tokens, and comes back a second time
@@ -72,7 +73,7 @@ pub fn canonical_unique()
     ensures reads_back { ReadsBack }
     ensures reads_again { ReadsAgain }
     ensures in_pieces { InPieces }
-    ensures pieces_are_ascii { PiecesAreAscii }
+    ensures chunk_texts_are_ascii { ChunkTextsAreAscii }
     ensures sound_is_written { SoundIsWritten }
     ensures sound_is_too_large { SoundIsTooLarge }
     ensures sound_reads_back { SoundReadsBack }

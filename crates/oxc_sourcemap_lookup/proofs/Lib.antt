@@ -11,5 +11,5 @@ pub mod LineEnds
 pub mod Halving
 pub mod OwnTables
 pub mod Picks
-pub mod Traced
+pub mod Traces
 mod Worked

@@ -12,6 +12,9 @@ use Rattle.oxc_sourcemap_lookup.specs.Lookup.{pick, clamped_pick, pick_after, nu
 use Rattle.oxc_sourcemap_lookup.specs.Lookup.{numbered, numbered_line, numbered_column, index_for}
 use Rattle.oxc_sourcemap_lookup.specs.Lookup.{token_for, clamped_index_for, clamped_token_for}
 use Rattle.oxc_sourcemap_lookup.specs.Lookup.{index_after, index_at_or_after, clamped_index_at}
+use Rattle.oxc_sourcemap_lookup.specs.Biased.{index_by, token_by}
+use Rattle.oxc_sourcemap_lookup.specs.declared.bias.Bias.{Bias}
+use Rattle.oxc_sourcemap_lookup.specs.declared.bias.Bias.TheVariants.{Before, Clamped, After}
 use Rattle.oxc_sourcemap_lookup.proofs.Picks.{pick-map, clamped_pick-map, pick_after-map}
 use Rattle.oxc_sourcemap_lookup.proofs.Picks.{clamped_at-map, at_or_after-map}
 
@@ -106,6 +109,11 @@ token_of-index_after ts line col =
     let on = holds-on (IsNumbered ts) numbered_line line (numbered ts) (numbered-all ts) in
     token-at ts _ (holds-after (IsNumbered ts) numbered_column (on_line numbered_line line (numbered ts)) col on)
     ∙ sym (pick_after-map (λ p. p.1) token_line token_column (numbered ts) line col) ∙ ap (λ us. pick_after token_line token_column us line col) (numbered-tokens 0 ts)
+
+pub token_of-index_by : (bias : Bias) (ts : List TokenRecord) (line col : ℕ) → option_and_then (slice_get ts) (index_by bias ts line col) ≡ token_by bias ts line col
+token_of-index_by Before ts line col = token_of-index_for ts line col
+token_of-index_by Clamped ts line col = token_of-clamped_index_for ts line col
+token_of-index_by After ts line col = token_of-index_after ts line col
 
 pub token_of-index_at_or_after : (ts : List TokenRecord) (col : ℕ) → option_and_then (slice_get ts) (index_at_or_after ts col) ≡ at_or_after token_column ts col
 token_of-index_at_or_after ts col =

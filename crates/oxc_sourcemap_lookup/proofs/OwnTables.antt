@@ -4,7 +4,7 @@ use Rattle.std.proofs.Common.{slice_get, refl, arith, Bool, true, false, cond, a
 use Rattle.std.proofs.Common.{Some, None, option_map, Ok}
 use Rattle.std.specs.List.{last_or, range_with_len, AllByRecursion}
 use Rattle.std.specs.Option.{unwrap_or}
-use Rattle.oxc_sourcemap_tokens.specs.declared.error.Error.TheVariants.{LineOrder}
+use Rattle.oxc_sourcemap_tokens.specs.declared.errors.error.Error.TheVariants.{LineOrder}
 use Rattle.oxc_sourcemap_tokens.specs.Errors.{unless}
 use Rattle.oxc_sourcemap_tokens.specs.Token.{TokenRecord, last}
 use Rattle.oxc_sourcemap_tokens.specs.LineOrder.{first_out_of_order}

@@ -1,5 +1,6 @@
 pub mod Digits
 pub mod Lookup
+pub mod Biased
 pub mod LineSpans
 pub mod Trace
 pub mod Words

@@ -3,8 +3,10 @@ pub use Rattle.oxc_sourcemap_parts.specs.Sorted.{are_tokens_sorted, token_line, 
 pub use Rattle.oxc_sourcemap_tokens.specs.LineOrder.{IsInLineOrder, first_out_of_order}
 pub use Rattle.oxc_sourcemap_tokens.specs.Results.{FailsBy, Reports, lent_items, Answers}
 pub use Rattle.oxc_sourcemap_tokens.specs.Token.{last, TokenRecord}
-pub use Rattle.oxc_sourcemap_tokens.specs.declared.error.Error.{Error}
-pub use Rattle.oxc_sourcemap_tokens.specs.declared.error.Error.TheVariants.{OutOfMemory, LineOrder}
+pub use Rattle.oxc_sourcemap_tokens.specs.declared.errors.error.Error.{Error}
+pub use Rattle.oxc_sourcemap_tokens.specs.declared.errors.error.Error.TheVariants.{OutOfMemory}
+pub use Rattle.oxc_sourcemap_tokens.specs.declared.errors.error.Error.TheVariants.{LineOrder}
+pub use Rattle.oxc_sourcemap_lookup.specs.Biased.{index_by, token_by}
 pub use Rattle.oxc_sourcemap_lookup.specs.Digits.{binary_digits}
 pub use Rattle.oxc_sourcemap_lookup.specs.LineSpans.{IsIndexOf, IsUsualIndexOf, AreStarts, AreSpans}
 pub use Rattle.oxc_sourcemap_lookup.specs.LineSpans.{DoLinesRise, AreLines, AreEnds}

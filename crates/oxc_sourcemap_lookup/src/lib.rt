@@ -2,11 +2,13 @@
 //! `oxc_sourcemap`.
 #![tactic(auto)]
 
+mod bias;
 mod columns;
 mod line_index;
 mod lookup;
 mod near;
 
+pub use bias::{Bias, Traced};
 pub use line_index::{LineIndex, UsualIndex};
 pub use lookup::{
     index_from_line, lookup_table, search, search_after, search_clamped, search_index,

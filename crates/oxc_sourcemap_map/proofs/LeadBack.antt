@@ -13,7 +13,7 @@ use Rattle.oxc_sourcemap_map.specs.Reverse.{is_into, is_at, source_column, all_b
 use Rattle.oxc_sourcemap_map.specs.Reverse.{generated_for, generated_from, pointing_to}
 use Rattle.oxc_sourcemap_map.specs.ReverseLaws.{LookupLeadsBack, FoundAtPlace, FoundOnLine}
 use Rattle.oxc_sourcemap_map.specs.ReverseLaws.{FoundBefore, FoundAfter, AllFoundOnLine}
-use Rattle.oxc_sourcemap_map.proofs.Found.{filter_twice}
+use Rattle.oxc_sourcemap_map.proofs.ReverseFound.{filter_twice}
 use Rattle.oxc_sourcemap_map.proofs.Nearest.{at_nearest}
 
 module _ {A : Type 0} (P : A → Type 0) (p : A → Bool) where

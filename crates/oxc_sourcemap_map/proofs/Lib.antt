@@ -2,16 +2,16 @@ pub mod Picks
 pub mod Numbers
 pub mod Runs
 pub mod Nearest
-pub mod Parts
-pub mod Found
+pub mod ReverseParts
+pub mod ReverseFound
 pub mod Searched
 pub mod Lines
 pub mod Passing
 pub mod LeadBack
-mod OriginalWorked
+mod ReverseWorked
 pub mod GivenIds
 pub mod NameIds
-mod Worked
+mod BuildersWorked
 pub mod Appends
 pub mod KnownContents
 pub mod Printing

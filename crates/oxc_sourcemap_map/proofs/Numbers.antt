@@ -11,7 +11,7 @@ use Rattle.std.specs.List.Sorted.{IsNonDecreasingBy, IsStableByKey, IsPermutatio
 use Rattle.std.specs.Ordering.{is_lt, nat_cmp}
 use Rattle.oxc_sourcemap_tokens.specs.Token.{TokenRecord, IsInBounds, is_mapped, AreInBounds}
 use Rattle.oxc_sourcemap_map.specs.Reverse.{is_at, passing_from}
-use Rattle.oxc_sourcemap_map.specs.Places.{place_number, token_place, numbered_from, no_token}
+use Rattle.oxc_sourcemap_map.specs.Places.{original_number, token_original, numbered_from, no_token}
 use Rattle.oxc_sourcemap_map.specs.Places.{listed, IsOrderOf}
 
 -- the number before the 32 digits, and the digits
@@ -45,12 +45,12 @@ drop_long (x ∷ xs) (suc n) y ys h = omega (arith, drop_long xs n y ys h)
 
 -- a number has its place in front, and its index behind is within the tokens
 abbrev pub IsNumbered : List TokenRecord → ℕ → Type 0
-IsNumbered tokens n = (n % 4294967296 < length tokens) × (token_place (behind tokens n) ≡ n / 4294967296)
+IsNumbered tokens n = (n % 4294967296 < length tokens) × (token_original (behind tokens n) ≡ n / 4294967296)
 
-numbered-here : (tokens : List TokenRecord) (n : ℕ) (t : TokenRecord) → n < length tokens → n < 4294967296 → get_or tokens n no_token ≡ t → IsNumbered tokens (token_place t * 4294967296 + n)
+numbered-here : (tokens : List TokenRecord) (n : ℕ) (t : TokenRecord) → n < length tokens → n < 4294967296 → get_or tokens n no_token ≡ t → IsNumbered tokens (token_original t * 4294967296 + n)
 numbered-here tokens n t h k e =
-    let d = digits_of (token_place t) n k in
-    (omega (arith, h, d), ap token_place (ap (λ i. get_or tokens i no_token) d ∙ e) ∙ sym (front_of (token_place t) n k))
+    let d = digits_of (token_original t) n k in
+    (omega (arith, h, d), ap token_original (ap (λ i. get_or tokens i no_token) d ∙ e) ∙ sym (front_of (token_original t) n k))
 
 numbered-by : (b : Bool) (tokens : List TokenRecord) (n : ℕ) (ns : List ℕ) → IsNumbered tokens n → AllByRecursion (IsNumbered tokens) ns → AllByRecursion (IsNumbered tokens) (cond b (n ∷ ns) ns)
 numbered-by true tokens n ns h all = (h, all)
@@ -60,7 +60,7 @@ pub all_numbered : (tokens ts : List TokenRecord) (n : ℕ) → length tokens < 
 all_numbered tokens [] n h e = tt
 all_numbered tokens (t ∷ ts) n h e =
     let lt = drop_long tokens n t ts e in
-    numbered-by (is_mapped t) tokens (token_place t * 4294967296 + n) (numbered_from (n + 1) ts) (numbered-here tokens n t lt (omega (arith, lt, h)) (drop_here tokens n no_token t ts e)) (all_numbered tokens ts (n + 1) h (drop_next tokens n t ts e))
+    numbered-by (is_mapped t) tokens (token_original t * 4294967296 + n) (numbered_from (n + 1) ts) (numbered-here tokens n t lt (omega (arith, lt, h)) (drop_here tokens n no_token t ts e)) (all_numbered tokens ts (n + 1) h (drop_next tokens n t ts e))
 
 fewer-by : (b : Bool) (n m : ℕ) (ns : List ℕ) → length ns ≤ m → length (cond b (n ∷ ns) ns) ≤ suc m
 fewer-by true n m ns h = omega (arith, h)
@@ -83,13 +83,13 @@ kept-by false c place tokens ts n t ns f e more = more
 
 -- the tokens behind the numbers of a place are those that point there
 pub kept_numbered : (place : ℕ) (tokens ts : List TokenRecord) (n : ℕ) → length tokens < 4294967296 → drop n tokens ≡ ts
-    → map (behind tokens) (filter (is_front place) (numbered_from n ts)) ≡ filter (λ t. is_mapped t && token_place t == place) ts
+    → map (behind tokens) (filter (is_front place) (numbered_from n ts)) ≡ filter (λ t. is_mapped t && token_original t == place) ts
 kept_numbered place tokens [] n h e = refl
 kept_numbered place tokens (t ∷ ts) n h e =
     let lt : n < 4294967296 = omega (arith, drop_long tokens n t ts e, h) in
-    kept-by (is_mapped t) (token_place t == place) place tokens (filter (λ t. is_mapped t && token_place t == place) ts) (token_place t * 4294967296 + n) t (numbered_from (n + 1) ts)
-    (ap (λ p. p == place) (front_of (token_place t) n lt))
-    (ap (λ i. get_or tokens i no_token) (digits_of (token_place t) n lt) ∙ drop_here tokens n no_token t ts e)
+    kept-by (is_mapped t) (token_original t == place) place tokens (filter (λ t. is_mapped t && token_original t == place) ts) (token_original t * 4294967296 + n) t (numbered_from (n + 1) ts)
+    (ap (λ p. p == place) (front_of (token_original t) n lt))
+    (ap (λ i. get_or tokens i no_token) (digits_of (token_original t) n lt) ∙ drop_here tokens n no_token t ts e)
     (kept_numbered place tokens ts (n + 1) h (drop_next tokens n t ts e))
 
 -- the index behind a number
@@ -104,12 +104,12 @@ index-by false c place n i is ns f e more = more
 
 -- the indices behind the numbers of a place are those of the tokens that point there
 pub index_numbered : (place : ℕ) (ts : List TokenRecord) (n : ℕ) → n + length ts ≤ 4294967296
-    → map rest (filter (is_front place) (numbered_from n ts)) ≡ passing_from n (λ t. is_mapped t && token_place t == place) ts
+    → map rest (filter (is_front place) (numbered_from n ts)) ≡ passing_from n (λ t. is_mapped t && token_original t == place) ts
 index_numbered place [] n h = refl
 index_numbered place (t ∷ ts) n h =
     let lt : n < 4294967296 = omega (arith, h) in
-    index-by (is_mapped t) (token_place t == place) place (token_place t * 4294967296 + n) n (passing_from (n + 1) (λ t. is_mapped t && token_place t == place) ts) (numbered_from (n + 1) ts)
-    (ap (λ p. p == place) (front_of (token_place t) n lt)) (digits_of (token_place t) n lt) (index_numbered place ts (n + 1) (omega (arith, h)))
+    index-by (is_mapped t) (token_original t == place) place (token_original t * 4294967296 + n) n (passing_from (n + 1) (λ t. is_mapped t && token_original t == place) ts) (numbered_from (n + 1) ts)
+    (ap (λ p. p == place) (front_of (token_original t) n lt)) (digits_of (token_original t) n lt) (index_numbered place ts (n + 1) (omega (arith, h)))
 
 pub filter_same : {A : Type 0} (P : A → Type 0) (p q : A → Bool) → ((x : A) → P x → p x ≡ q x) → (xs : List A) → AllByRecursion P xs → filter p xs ≡ filter q xs
 filter_same P p q h [] a = refl
@@ -155,10 +155,10 @@ stable_front xs ys stable place =
 
 -- whether a mapped token points to a place, by the numbers of both
 key-by : (s l c sl sc : ℕ) (so : Option ℕ) → l < 4294967296 → c < 4294967296 → sl < 4294967296 → sc < 4294967296 → (id : ℕ) → so ≡ Some id
-    → (place_number id sl sc == place_number s l c) ≡ ((id == s && sl == l) && sc == c)
+    → (original_number id sl sc == original_number s l c) ≡ ((id == s && sl == l) && sc == c)
 key-by s l c sl sc so hl hc h k id e0 =
-    elim (id == s) as (λ b. (id == s) ≡ b → (place_number id sl sc == place_number s l c) ≡ ((b && sl == l) && sc == c)) [
-      | true ↦ (λ e. elim (sl == l) as (λ b. (sl == l) ≡ b → (place_number id sl sc == place_number s l c) ≡ (b && sc == c)) [
+    elim (id == s) as (λ b. (id == s) ≡ b → (original_number id sl sc == original_number s l c) ≡ ((b && sl == l) && sc == c)) [
+      | true ↦ (λ e. elim (sl == l) as (λ b. (sl == l) ≡ b → (original_number id sl sc == original_number s l c) ≡ (b && sc == c)) [
         | true ↦ (λ f. grind (arith, nat_tests, e, f))
         | false ↦ (λ f. grind (arith, nat_tests, e, f))
       ] refl)
@@ -167,11 +167,11 @@ key-by s l c sl sc so hl hc h k id e0 =
 
 is_at-by : (s l c fl fc sl sc : ℕ) (so nm : Option ℕ) → l < 4294967296 → c < 4294967296 → sl < 4294967296 → sc < 4294967296
     → let t : TokenRecord = record { dst_line = fl; dst_col = fc; src_line = sl; src_col = sc; source_id = so; name_id = nm } in
-    (is_mapped t && token_place t == place_number s l c) ≡ is_at s l c t
+    (is_mapped t && token_original t == original_number s l c) ≡ is_at s l c t
 is_at-by s l c fl fc sl sc None nm hl hc h k = refl
 is_at-by s l c fl fc sl sc (Some id) nm hl hc h k = key-by s l c sl sc (Some id) hl hc h k id refl
 
-pub is_at_place : (s l c : ℕ) (t : TokenRecord) → l < 4294967296 → c < 4294967296 → IsInBounds t → (is_mapped t && token_place t == place_number s l c) ≡ is_at s l c t
+pub is_at_place : (s l c : ℕ) (t : TokenRecord) → l < 4294967296 → c < 4294967296 → IsInBounds t → (is_mapped t && token_original t == original_number s l c) ≡ is_at s l c t
 is_at_place s l c t hl hc h = is_at-by s l c t.dst_line t.dst_col t.src_line t.src_col t.source_id t.name_id hl hc h.src_line h.src_col
 
 -- the indices behind the sorted numbers
@@ -184,22 +184,22 @@ order_from tokens sorted order bounds h perm len up stable e =
     let each = recursion_from_All (IsNumbered tokens) sorted all in
     let listing : listed tokens order ≡ map (behind tokens) sorted = ap (listed tokens) e ∙ map_of_map (λ i. get_or tokens i no_token) (λ n. n % 4294967296) sorted in
     let long : length (map (behind tokens) sorted) ≡ length sorted = length-map sorted (behind tokens) in
-    let rising : IsNonDecreasingBy token_place (map (behind tokens) sorted) = λ i j d le lt.
+    let rising : IsNonDecreasingBy token_original (map (behind tokens) sorted) = λ i j d le lt.
     let jn : j < length sorted = omega (arith, lt, long) in
     let in_ : i < length sorted = omega (arith, le, jn) in
-    omega (arith, up i j 0 le jn, (all i 0 in_).1, (all j 0 jn).1, ap token_place (get_or-map (behind tokens) sorted i 0 d in_), ap token_place (get_or-map (behind tokens) sorted j 0 d jn)) in
+    omega (arith, up i j 0 le jn, (all i 0 in_).1, (all j 0 jn).1, ap token_original (get_or-map (behind tokens) sorted i 0 d in_), ap token_original (get_or-map (behind tokens) sorted j 0 d jn)) in
     record {
       in_bounds = bounds;
       few = h;
       within = subst (λ xs. All (λ i. i < length tokens) xs) (sym e) (All-map (λ i. i < length tokens) (λ n. n % 4294967296) sorted (λ k d lt. (all k d lt).0));
       fewer = omega (arith, ap length e, length-map sorted (λ n. n % 4294967296), len, fewer_numbered tokens 0);
-      rises = subst (λ xs. IsNonDecreasingBy token_place xs) (sym listing) rising;
+      rises = subst (λ xs. IsNonDecreasingBy token_original xs) (sym listing) rising;
       each = λ place.
-          ap (filter (λ t. token_place t == place)) listing ∙ filter_of_map (λ t. token_place t == place) (behind tokens) sorted
-          ∙ ap (map (behind tokens)) (filter_same (IsNumbered tokens) (λ n. token_place (behind tokens n) == place) (is_front place) (λ n w. ap (λ p. p == place) w.1) sorted each ∙ stable_front ns sorted stable place)
+          ap (filter (λ t. token_original t == place)) listing ∙ filter_of_map (λ t. token_original t == place) (behind tokens) sorted
+          ∙ ap (map (behind tokens)) (filter_same (IsNumbered tokens) (λ n. token_original (behind tokens n) == place) (is_front place) (λ n w. ap (λ p. p == place) w.1) sorted each ∙ stable_front ns sorted stable place)
           ∙ kept_numbered place tokens tokens 0 h refl;
       each_index = λ place.
-          ap (filter (λ i. token_place (get_or tokens i no_token) == place)) e ∙ filter_of_map (λ i. token_place (get_or tokens i no_token) == place) rest sorted
-          ∙ ap (map rest) (filter_same (IsNumbered tokens) (λ n. token_place (behind tokens n) == place) (is_front place) (λ n w. ap (λ p. p == place) w.1) sorted each ∙ stable_front ns sorted stable place)
+          ap (filter (λ i. token_original (get_or tokens i no_token) == place)) e ∙ filter_of_map (λ i. token_original (get_or tokens i no_token) == place) rest sorted
+          ∙ ap (map rest) (filter_same (IsNumbered tokens) (λ n. token_original (behind tokens n) == place) (is_front place) (λ n w. ap (λ p. p == place) w.1) sorted each ∙ stable_front ns sorted stable place)
           ∙ index_numbered place tokens 0 (omega (arith, h));
     }

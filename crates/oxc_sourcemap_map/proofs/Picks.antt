@@ -6,8 +6,8 @@ use Rattle.oxc_sourcemap_parts.specs.Sorted.{token_line, token_column}
 use Rattle.oxc_sourcemap_parts.specs.DecodedMap.{DecodedSource, OriginalPosition, decoded_map_of}
 use Rattle.oxc_sourcemap_parts.specs.DecodedMap.{sources_of, original_at}
 use Rattle.oxc_sourcemap_map.specs.View.{ViewRecord, seen_in, view_source, view_name, view_original}
-use Rattle.oxc_sourcemap_lookup.proofs.Traced.{twice, token_traced, token_clamped_traced}
-use Rattle.oxc_sourcemap_lookup.proofs.Traced.{source_path}
+use Rattle.oxc_sourcemap_lookup.proofs.Traces.{twice, token_traced, token_clamped_traced}
+use Rattle.oxc_sourcemap_lookup.proofs.Traces.{source_path}
 use Rattle.oxc_sourcemap_lookup.specs.Lookup.{pick, clamped_pick}
 use Rattle.oxc_sourcemap_lookup.specs.Trace.{trace, clamped_trace}
 

@@ -1,4 +1,4 @@
--- Worked examples, computed by the definitions themselves.
+-- Worked examples of visual texts, computed by the definitions themselves.
 use Rattle.std.specs.Prelude.{◌≡◌, refl, ℕ, List, [], ◌∷◌, codes, Option, Some, None}
 use Rattle.oxc_sourcemap_tokens.specs.Token.{TokenRecord}
 use Rattle.oxc_sourcemap_parts.specs.Views.{empty_record}

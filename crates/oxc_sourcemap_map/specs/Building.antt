@@ -2,8 +2,9 @@
 use Rattle.std.specs.Prelude.{ℕ, [], ◌∷◌, ◌++◌, ◌≤◌, length, Option, Some, None, IsNone, ◌≡◌, ◌↔◌}
 use Rattle.std.specs.Prelude.{◌⊎◌, Result, IsErrOf, IfOk, IfErr, OnErr}
 use Rattle.std.specs.FinMap as fin
-use Rattle.oxc_sourcemap_tokens.specs.declared.error.Error.{Error}
-use Rattle.oxc_sourcemap_tokens.specs.declared.error.Error.TheVariants.{OutOfMemory, TooLarge}
+use Rattle.oxc_sourcemap_tokens.specs.declared.errors.error.Error.{Error}
+use Rattle.oxc_sourcemap_tokens.specs.declared.errors.error.Error.TheVariants.{OutOfMemory}
+use Rattle.oxc_sourcemap_tokens.specs.declared.errors.error.Error.TheVariants.{TooLarge}
 use Rattle.oxc_sourcemap_parts.specs.Record.{Text, MapRecord}
 use Rattle.oxc_sourcemap_parts.specs.Texts.{index_of}
 use Rattle.oxc_sourcemap_map.specs.Built.{Built}

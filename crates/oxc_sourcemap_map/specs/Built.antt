@@ -32,5 +32,5 @@ abbrev pub nothing_built : Built
 nothing_built = record { map = empty_record; given = fin.from_entries [] }
 
 -- The hash map has the index of each text among these, and no other text. No public contract cites it.
-abbrev pub HasPlaces : {S : Type 0} → Vec (CowStr Global) Global → HashMap (CowStr Global) ℕ S → Type 0
-HasPlaces texts ids = (text : Text) → hash.get_by (λ key. bytes_eq text (cow_str_bytes key)) ids ≡ index_of text (texts_of texts)
+abbrev pub HasIndices : {S : Type 0} → Vec (CowStr Global) Global → HashMap (CowStr Global) ℕ S → Type 0
+HasIndices texts ids = (text : Text) → hash.get_by (λ key. bytes_eq text (cow_str_bytes key)) ids ≡ index_of text (texts_of texts)

@@ -1,6 +1,6 @@
 -- What calls give that change a map.
 use Rattle.std.specs.Prelude.{◌≡◌, Result, OnOk, OnErr}
-use Rattle.oxc_sourcemap_tokens.specs.declared.error.Error.{Error}
+use Rattle.oxc_sourcemap_tokens.specs.declared.errors.error.Error.{Error}
 use Rattle.oxc_sourcemap_tokens.specs.Results.{OnlyMemory}
 use Rattle.oxc_sourcemap_parts.specs.Record.{MapRecord}
 

@@ -13,8 +13,8 @@ use Rattle.oxc_sourcemap_lookup.specs.Trace.{trace, clamped_trace}
 use Rattle.oxc_sourcemap_map.specs.View.{view_of, seen_in, view_original}
 use Rattle.oxc_sourcemap_map.specs.declared.maps.source_view_token.SourceViewToken.{SourceViewToken}
 
--- What a lookup finds: where no column goes back on the line, the token that a rule has for the line, or none; on any line one of
--- its tokens, or none; and in the map's own table the token that the rule has for the map, or none.
+-- What a lookup finds: where no column goes back on the line, the token that a rule for lines has, or none; on any line one of its
+-- tokens, or none; and in the map's own table, of sorted tokens, the token that a rule for maps has, or none.
 pub record Finds (on_line : List TokenRecord → ℕ → Option TokenRecord) (in_map : List TokenRecord → ℕ → ℕ → Option TokenRecord)
     (m : MapRecord) (table : List (List TokenRecord)) (line col : ℕ) (token : Option TokenRecord) : Type 0 where
   pub found : no_column_goes_back token_column (slice_of table line) ≡ true → token ≡ on_line (slice_of table line) col

@@ -8,7 +8,7 @@ pub use Rattle.oxc_sourcemap_json.specs.JsonText.{map_text, map_url, appended}
 pub use Rattle.oxc_sourcemap_json.specs.Within.{map_text_within, map_url_within, early_fault}
 pub use Rattle.oxc_sourcemap_join.specs.Joined.{joined, nothing_joined, IsWithinLimits, at_line}
 pub use Rattle.oxc_sourcemap_join.specs.Joined.{at_lines, lent_maps, position, IsAdded}
-pub use Rattle.oxc_sourcemap_json.specs.Json.{json_record}
+pub use Rattle.oxc_sourcemap_json.specs.JsonRecord.{json_record}
 pub use Rattle.oxc_sourcemap_steps.specs.Composed.{SomeComposition}
 pub use Rattle.oxc_sourcemap_lookup.specs.Digits.{binary_digits}
 pub use Rattle.oxc_sourcemap_lookup.specs.Lookup.{at, no_column_goes_back, token_for}
@@ -28,8 +28,10 @@ pub use Rattle.oxc_sourcemap_tokens.specs.Chunks.{ChunksFit}
 pub use Rattle.oxc_sourcemap_tokens.specs.LineOrder.{IsInLineOrder}
 pub use Rattle.oxc_sourcemap_tokens.specs.Results.{Reports, Answers, lent_items, OnlyMemory}
 pub use Rattle.oxc_sourcemap_tokens.specs.Results.{lent_item, Pushes, FailsBy}
-pub use Rattle.oxc_sourcemap_tokens.specs.declared.error.Error.TheVariants.{OutOfMemory, TooLarge}
-pub use Rattle.oxc_sourcemap_tokens.specs.declared.plan_error.PlanError.TheVariants.{Map, Unsorted}
+pub use Rattle.oxc_sourcemap_tokens.specs.declared.errors.error.Error.TheVariants.{OutOfMemory}
+pub use Rattle.oxc_sourcemap_tokens.specs.declared.errors.error.Error.TheVariants.{TooLarge}
+pub use Rattle.oxc_sourcemap_tokens.specs.declared.errors.plan_error.PlanError.TheVariants.{Map}
+pub use Rattle.oxc_sourcemap_tokens.specs.declared.errors.plan_error.PlanError.TheVariants.{Unsorted}
 pub use Rattle.oxc_sourcemap_steps.specs.Simplified.{simplification}
 pub use mir.Syntax.{static}
 pub use Rattle.oxc_sourcemap_parts.specs.Texts.{index_of}
@@ -61,7 +63,7 @@ pub use Rattle.oxc_sourcemap_map.specs.Reverse.{generated_from, all_generated_fo
 pub use Rattle.oxc_sourcemap_map.specs.Reverse.{all_generated_from, IsLineByColumn, index_fault}
 pub use Rattle.oxc_sourcemap_map.specs.Reverse.{indexed, indices_at, indices_for, indices_from}
 pub use Rattle.oxc_sourcemap_map.specs.Orders.{IsSourceOrderOf, order_bytes}
-pub use Rattle.oxc_sourcemap_map.specs.Places.{place_number, token_place, numbered_from, no_token}
-pub use Rattle.oxc_sourcemap_map.specs.Places.{listed, IsOrderOf, AreBetween}
+pub use Rattle.oxc_sourcemap_map.specs.Places.{original_number, token_original, numbered_from}
+pub use Rattle.oxc_sourcemap_map.specs.Places.{no_token, listed, IsOrderOf, AreBetween}
 pub use Rattle.oxc_sourcemap_map.specs.ReverseLaws.{LookupLeadsBack, FoundAtPlace, FoundOnLine}
 pub use Rattle.oxc_sourcemap_map.specs.ReverseLaws.{FoundBefore, FoundAfter, AllFoundOnLine}

@@ -1,5 +1,5 @@
-//! Two builders of maps: `SourceMapBuilder` builds a map call by call, and `ConcatSourceMapBuilder` joins maps. With the law
-//! on the ids of names. Part of `oxc_sourcemap`.
+//! Two builders of maps: `SourceMapBuilder` builds a map call by call, and `ConcatSourceMapBuilder` joins maps. With the law on the
+//! ids of names.
 
 mod concat_sourcemap_builder;
 mod laws;

@@ -4,11 +4,9 @@
 mod builders;
 mod maps;
 mod reverse;
+mod sourcemap_visualizer;
 
 pub use builders::{ConcatSourceMapBuilder, SourceMapBuilder, name_ids_unique};
 pub use maps::{OwnedSourceMap, SourceMap, SourceViewToken, ViewTokens, parts_of};
 pub use reverse::{IndexTokens, SourceIndex, SourceOrder, reverse_lookups};
-
-mod sourcemap_visualizer;
-
 pub use sourcemap_visualizer::SourcemapVisualizer;

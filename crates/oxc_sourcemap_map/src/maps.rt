@@ -1,5 +1,5 @@
-//! `SourceMap` and `OwnedSourceMap`, with views of their tokens: thin calls over the crates that read, write, look up, compose
-//! and remap parts. Part of `oxc_sourcemap`, but for the functions outside of types, which are only for crates of this library.
+//! `SourceMap` and `OwnedSourceMap`, with views of their tokens: thin calls over the crates that read, write, look up, compose and
+//! remap parts.
 
 mod compose;
 mod lookup;

@@ -1,4 +1,4 @@
-//! Lookups from original positions to generated ones. Part of `oxc_sourcemap`.
+//! Lookups from original positions to generated ones.
 
 mod index_tokens;
 mod laws;

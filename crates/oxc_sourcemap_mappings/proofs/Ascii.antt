@@ -1,6 +1,6 @@
 -- What is written is ASCII.
-use Rattle.std.proofs.Common.{ℕ, Bool, true, false, cond, List, [], ◌∷◌, ◌++◌, replicate}
-use Rattle.std.proofs.Common.{◌==◌, ◌-◌, take, drop, sym, subst}
+use Rattle.std.proofs.Common.{ℕ, Bool, true, false, cond, List, [], ◌∷◌, ◌++◌, replicate, ◌==◌, ◌-◌}
+use Rattle.std.proofs.Common.{take, drop, sym, subst}
 use Rattle.oxc_sourcemap_tokens.specs.declared.token.TokenChunk.{TokenChunk}
 use Rattle.oxc_sourcemap_tokens.specs.Chunks.{header}
 use Rattle.oxc_sourcemap_tokens.specs.State.{State}
@@ -9,7 +9,7 @@ use Rattle.oxc_sourcemap_tokens.specs.Token.{TokenRecord, mapped_name}
 use Rattle.oxc_sourcemap_mappings.specs.Canonical.{delta_text, separator, column_text, source_text}
 use Rattle.oxc_sourcemap_mappings.specs.Canonical.{token_text}
 use Rattle.oxc_sourcemap_mappings.specs.Encoding.{text_from}
-use Rattle.oxc_sourcemap_mappings.specs.Pieces.{piece}
+use Rattle.oxc_sourcemap_mappings.specs.ChunkTexts.{chunk_text}
 use Rattle.oxc_sourcemap_mappings.proofs.Letters.{ArePlain, comma-plain, or-plain, plain-append}
 use Rattle.oxc_sourcemap_mappings.proofs.Letters.{plain-replicate, source-plain, vlq_text-plain}
 use Rattle.oxc_sourcemap_mappings.proofs.Pieces.{piece-is}
@@ -36,6 +36,6 @@ text_from-plain is_first s [] = tt
 text_from-plain is_first s (t ∷ ts) =
     plain-append (token_text is_first s t) _ (token_text-plain is_first s t) (text_from-plain false (advanced s t) ts)
 
-pub piece-plain : (tokens : List TokenRecord) (c : TokenChunk) → ArePlain (piece tokens c)
+pub piece-plain : (tokens : List TokenRecord) (c : TokenChunk) → ArePlain (chunk_text tokens c)
 piece-plain tokens c =
     subst ArePlain (sym (piece-is tokens c)) (text_from-plain (c.start == 0) (header c) (take (c.end - c.start) (drop c.start tokens)))

@@ -1,17 +1,16 @@
 -- The place of the first fault, one segment at a time.
-use Rattle.std.proofs.Common.{◌≡◌, ℕ, ◌+◌, ◌<◌, true, false, List, [], ◌∷◌, ◌==◌, length}
-use Rattle.std.proofs.Common.{drop, Option, Some, None, Result, Ok, Err, if◌then◌else◌, arith}
-use Rattle.std.proofs.Common.{refl}
-use Rattle.std.proofs.Common.{sym, ap, ◌∙◌, subst, add-zero, slice_get, suc, IsErr, ◌⊎◌, inl, inr}
+use Rattle.std.proofs.Common.{◌≡◌, ℕ, ◌+◌, ◌<◌, true, false, List, [], ◌∷◌, ◌==◌, length, drop}
+use Rattle.std.proofs.Common.{Option, Some, None, Result, Ok, Err, if◌then◌else◌, arith, refl, sym}
+use Rattle.std.proofs.Common.{ap, ◌∙◌, subst, add-zero, slice_get, suc, IsErr, ◌⊎◌, inl, inr}
 use Rattle.std.proofs.lemmas.List.{length-drop}
 use Rattle.std.specs.Option.{option_map}
 use Rattle.std.specs.Result.{result_err}
 use Rattle.std.proofs.lemmas.Bool.{eq-eqb}
 use Rattle.std.proofs.lemmas.Bool.Decides.{nat_tests}
-use Rattle.oxc_sourcemap_tokens.specs.declared.error.Error.{Error}
+use Rattle.oxc_sourcemap_tokens.specs.declared.errors.error.Error.{Error}
 use Rattle.oxc_sourcemap_tokens.specs.Token.{TokenRecord}
-use Rattle.oxc_sourcemap_tokens.specs.declared.fault.FaultSpot.TheVariants.{Segment}
-use Rattle.oxc_sourcemap_tokens.specs.declared.fault.SegmentPlace.{SegmentPlace}
+use Rattle.oxc_sourcemap_tokens.specs.declared.errors.fault.FaultSpot.TheVariants.{Segment}
+use Rattle.oxc_sourcemap_tokens.specs.declared.errors.fault.SegmentPlace.{SegmentPlace}
 use Rattle.oxc_sourcemap_tokens.specs.Places.{place_in}
 use Rattle.oxc_sourcemap_mappings.specs.Parts.{is_semicolon, is_comma}
 use Rattle.oxc_sourcemap_mappings.specs.Places.{Place, place, nothing_before}

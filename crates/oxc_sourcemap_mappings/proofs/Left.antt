@@ -1,14 +1,14 @@
 -- Reading from the front on: what is left of a text, after a line and a place.
 use Rattle.std.proofs.Common.{◌≡◌, ℕ, ◌+◌, ◌<◌, Bool, true, false, cond, List, [], ◌∷◌, ◌++◌}
-use Rattle.std.proofs.Common.{length, map, drop, filter, ℤ, ◌+ℤ◌, Some, Result, Ok}
-use Rattle.std.proofs.Common.{Err, if◌then◌else◌, nat_lt, slice_get, arith, refl, sym, ap, ◌∙◌}
+use Rattle.std.proofs.Common.{length, map, drop, filter, ℤ, ◌+ℤ◌, Some, Result, Ok, Err}
+use Rattle.std.proofs.Common.{if◌then◌else◌, nat_lt, slice_get, arith, refl, sym, ap, ◌∙◌}
 use Rattle.std.proofs.Common.{append_assoc, ◌⊎◌, inl, inr}
 use Rattle.std.specs.List.{slice_split, onto_first}
 use Rattle.std.proofs.lemmas.List.{append-nil}
 use Rattle.std.proofs.Math.IntN.{+ℤ_assoc, +ℤ_comm}
 use Rattle.std.proofs.lemmas.Bool.Decides.{nat_tests}
-use Rattle.oxc_sourcemap_tokens.specs.declared.error.Error.{Error}
-use Rattle.oxc_sourcemap_tokens.specs.declared.error.Error.TheVariants.{TooLarge}
+use Rattle.oxc_sourcemap_tokens.specs.declared.errors.error.Error.{Error}
+use Rattle.oxc_sourcemap_tokens.specs.declared.errors.error.Error.TheVariants.{TooLarge}
 use Rattle.oxc_sourcemap_mappings.specs.Number.{digit}
 use Rattle.oxc_sourcemap_mappings.specs.Parts.{Segment, segment, segments, lines, field, is_filled}
 use Rattle.oxc_sourcemap_mappings.specs.Parts.{is_semicolon, is_comma, has_source, has_name}
@@ -16,11 +16,10 @@ use Rattle.oxc_sourcemap_mappings.specs.Places.{Before, nothing_before, past_seg
 use Rattle.oxc_sourcemap_mappings.specs.Places.{Place, place, field_sum, of_any_size}
 use Rattle.oxc_sourcemap_mappings.specs.Faults.{Counts, counts_of}
 use Rattle.oxc_sourcemap_tokens.specs.Token.{TokenRecord}
-use Rattle.oxc_sourcemap_mappings.specs.Reading.{segment_result, line_results}
-use Rattle.oxc_sourcemap_mappings.specs.Reading.{text_results, onto, gathered, reading}
+use Rattle.oxc_sourcemap_mappings.specs.Reading.{segment_result, line_results, text_results, onto}
+use Rattle.oxc_sourcemap_mappings.specs.Reading.{gathered, reading}
 use Rattle.oxc_sourcemap_mappings.specs.Decoding.{ends_segment, front_digits, front_segment}
-use Rattle.oxc_sourcemap_mappings.specs.Decoding.{moved_by}
-use Rattle.oxc_sourcemap_mappings.specs.Decoding.{at_line_start}
+use Rattle.oxc_sourcemap_mappings.specs.Decoding.{moved_by, at_line_start}
 
 -- ---- the outcomes of a text, the place carried along
 

@@ -14,8 +14,8 @@ use Rattle.oxc_sourcemap_tokens.specs.Token.{TokenRecord, name_beside}
 use Rattle.oxc_sourcemap_tokens.specs.State.{State}
 use Rattle.oxc_sourcemap_mappings.specs.Canonical.{letter, vlq_text, raw_delta, delta_text}
 use Rattle.oxc_sourcemap_mappings.specs.Canonical.{separator, token_text, source_text, name_text}
-use Rattle.oxc_sourcemap_mappings.specs.Encoding.{line_marks, raw_at, column_from}
-use Rattle.oxc_sourcemap_mappings.specs.Encoding.{fields_text, text_from}
+use Rattle.oxc_sourcemap_mappings.specs.Encoding.{line_marks, raw_at, column_from, fields_text}
+use Rattle.oxc_sourcemap_mappings.specs.Encoding.{text_from}
 use Rattle.oxc_sourcemap_tokens.specs.Steps.{advanced}
 use Rattle.oxc_sourcemap_mappings.proofs.Vlq.{vlq_text_small, vlq_text_large}
 

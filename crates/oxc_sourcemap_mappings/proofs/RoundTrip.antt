@@ -8,7 +8,7 @@ use Rattle.std.proofs.lemmas.Bool.{cases_lt}
 use Rattle.std.proofs.lemmas.Bool.Decides.{nat_tests}
 use Rattle.std.proofs.lemmas.List.{length-map}
 use Rattle.std.specs.Option.{IfSome, is_some}
-use Rattle.oxc_sourcemap_tokens.specs.declared.error.Error.{Error}
+use Rattle.oxc_sourcemap_tokens.specs.declared.errors.error.Error.{Error}
 use Rattle.oxc_sourcemap_tokens.specs.Token.{TokenRecord, IsInBounds, mapped_name}
 use Rattle.oxc_sourcemap_mappings.specs.Parts.{Segment, segment, lines, is_filled}
 use Rattle.oxc_sourcemap_mappings.specs.Places.{nothing_before, Place, place}

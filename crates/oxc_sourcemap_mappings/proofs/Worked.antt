@@ -1,12 +1,13 @@
--- Worked examples, computed by the definitions themselves.
+-- Worked examples of mappings, computed by the definitions themselves.
 use Rattle.std.specs.Prelude.{◌≡◌, refl, ℕ, true, false, [], ◌∷◌, ◌++◌, codes, Ok, Err, Option}
 use Rattle.std.specs.Prelude.{Some, None}
 use Rattle.std.specs.List.{flat_map}
-use Rattle.oxc_sourcemap_tokens.specs.declared.error.Error.TheVariants.{VlqLeftover, VlqOverflow}
-use Rattle.oxc_sourcemap_tokens.specs.declared.error.Error.TheVariants.{BadSegmentSize}
-use Rattle.oxc_sourcemap_tokens.specs.declared.error.Error.TheVariants.{BadSourceReference}
-use Rattle.oxc_sourcemap_tokens.specs.declared.error.Error.TheVariants.{BadNameReference, LineOrder}
-use Rattle.oxc_sourcemap_tokens.specs.declared.error.Error.TheVariants.{BadChunks}
+use Rattle.oxc_sourcemap_tokens.specs.declared.errors.error.Error.TheVariants.{VlqLeftover}
+use Rattle.oxc_sourcemap_tokens.specs.declared.errors.error.Error.TheVariants.{VlqOverflow}
+use Rattle.oxc_sourcemap_tokens.specs.declared.errors.error.Error.TheVariants.{BadSegmentSize}
+use Rattle.oxc_sourcemap_tokens.specs.declared.errors.error.Error.TheVariants.{BadSourceReference}
+use Rattle.oxc_sourcemap_tokens.specs.declared.errors.error.Error.TheVariants.{BadNameReference}
+use Rattle.oxc_sourcemap_tokens.specs.declared.errors.error.Error.TheVariants.{LineOrder, BadChunks}
 use Rattle.oxc_sourcemap_tokens.specs.declared.token.TokenChunk.{TokenChunk}
 use Rattle.oxc_sourcemap_mappings.specs.Number.{digit}
 use Rattle.oxc_sourcemap_mappings.specs.Faults.{digit_fault, place_fault}
@@ -15,7 +16,7 @@ use Rattle.oxc_sourcemap_mappings.specs.Reading.{reading, text_results, line_res
 use Rattle.oxc_sourcemap_mappings.specs.SegmentPlaces.{fault_place, places_from, text_start}
 use Rattle.oxc_sourcemap_mappings.specs.Canonical.{canonical, text_after, token_text, separator}
 use Rattle.oxc_sourcemap_mappings.specs.Canonical.{delta_text, vlq_text, digits, letter}
-use Rattle.oxc_sourcemap_mappings.specs.Pieces.{piece, piece_after, writing_fault}
+use Rattle.oxc_sourcemap_mappings.specs.ChunkTexts.{chunk_text, chunk_text_after, writing_fault}
 
 -- a token from its generated line and column, source line and column, source id, name id
 abbrev token : ℕ → ℕ → ℕ → ℕ → Option ℕ → Option ℕ → TokenRecord
@@ -158,8 +159,8 @@ writes-three_chunks = refl
 fits-three_chunks : writing_fault (token 1 1 1 1 (Some 0) (Some 0) ∷ token 3 1 1 1 (Some 1) (Some 2) ∷ token 3 2 2 2 (Some 2) (Some 3) ∷ []) (Some (chunk 0 1 0 0 0 0 0 0 ∷ chunk 1 2 1 1 1 1 0 0 ∷ chunk 2 3 3 1 1 1 2 1 ∷ [])) ≡ None
 fits-three_chunks = refl
 
-pieces-three_chunks : flat_map (piece (token 1 1 1 1 (Some 0) (Some 0) ∷ token 3 1 1 1 (Some 1) (Some 2) ∷ token 3 2 2 2 (Some 2) (Some 3) ∷ [])) (chunk 0 1 0 0 0 0 0 0 ∷ chunk 1 2 1 1 1 1 0 0 ∷ chunk 2 3 3 1 1 1 2 1 ∷ []) ≡ (codes ";CACCA;;CCAAE,CCCCC")
-unfolding piece piece_after token_text separator vlq_text digits letter
+pieces-three_chunks : flat_map (chunk_text (token 1 1 1 1 (Some 0) (Some 0) ∷ token 3 1 1 1 (Some 1) (Some 2) ∷ token 3 2 2 2 (Some 2) (Some 3) ∷ [])) (chunk 0 1 0 0 0 0 0 0 ∷ chunk 1 2 1 1 1 1 0 0 ∷ chunk 2 3 3 1 1 1 2 1 ∷ []) ≡ (codes ";CACCA;;CCAAE,CCCCC")
+unfolding chunk_text chunk_text_after token_text separator vlq_text digits letter
 pieces-three_chunks = refl
 
 writes-unmapped_token_before : canonical (token 0 0 5 3 (Some 0) None ∷ token 0 4 0 0 None None ∷ token 1 0 7 1 (Some 1) None ∷ []) ≡ (codes "AAKG,I;ACEF")
@@ -169,8 +170,8 @@ writes-unmapped_token_before = refl
 fits-unmapped_token_before : writing_fault (token 0 0 5 3 (Some 0) None ∷ token 0 4 0 0 None None ∷ token 1 0 7 1 (Some 1) None ∷ []) (Some (chunk 0 2 0 0 0 0 0 0 ∷ chunk 2 3 0 4 5 3 0 0 ∷ [])) ≡ None
 fits-unmapped_token_before = refl
 
-pieces-unmapped_token_before : flat_map (piece (token 0 0 5 3 (Some 0) None ∷ token 0 4 0 0 None None ∷ token 1 0 7 1 (Some 1) None ∷ [])) (chunk 0 2 0 0 0 0 0 0 ∷ chunk 2 3 0 4 5 3 0 0 ∷ []) ≡ (codes "AAKG,I;ACEF")
-unfolding piece piece_after token_text separator vlq_text digits letter
+pieces-unmapped_token_before : flat_map (chunk_text (token 0 0 5 3 (Some 0) None ∷ token 0 4 0 0 None None ∷ token 1 0 7 1 (Some 1) None ∷ [])) (chunk 0 2 0 0 0 0 0 0 ∷ chunk 2 3 0 4 5 3 0 0 ∷ []) ≡ (codes "AAKG,I;ACEF")
+unfolding chunk_text chunk_text_after token_text separator vlq_text digits letter
 pieces-unmapped_token_before = refl
 
 writes-unmapped_tokens : canonical (token 0 0 0 0 None None ∷ token 2 3 0 0 None None ∷ token 3 9 0 0 None None ∷ []) ≡ (codes "A;;G;S")
@@ -180,8 +181,8 @@ writes-unmapped_tokens = refl
 fits-unmapped_tokens : writing_fault (token 0 0 0 0 None None ∷ token 2 3 0 0 None None ∷ token 3 9 0 0 None None ∷ []) (Some (chunk 0 2 0 0 0 0 0 0 ∷ chunk 2 3 2 3 0 0 0 0 ∷ [])) ≡ None
 fits-unmapped_tokens = refl
 
-pieces-unmapped_tokens : flat_map (piece (token 0 0 0 0 None None ∷ token 2 3 0 0 None None ∷ token 3 9 0 0 None None ∷ [])) (chunk 0 2 0 0 0 0 0 0 ∷ chunk 2 3 2 3 0 0 0 0 ∷ []) ≡ (codes "A;;G;S")
-unfolding piece piece_after token_text separator vlq_text digits letter
+pieces-unmapped_tokens : flat_map (chunk_text (token 0 0 0 0 None None ∷ token 2 3 0 0 None None ∷ token 3 9 0 0 None None ∷ [])) (chunk 0 2 0 0 0 0 0 0 ∷ chunk 2 3 2 3 0 0 0 0 ∷ []) ≡ (codes "A;;G;S")
+unfolding chunk_text chunk_text_after token_text separator vlq_text digits letter
 pieces-unmapped_tokens = refl
 
 writes-empty_chunks : canonical ([]) ≡ (codes "")
@@ -191,8 +192,8 @@ writes-empty_chunks = refl
 fits-empty_chunks : writing_fault ([]) (Some (chunk 0 0 0 0 0 0 0 0 ∷ chunk 0 0 0 0 0 0 0 0 ∷ [])) ≡ None
 fits-empty_chunks = refl
 
-pieces-empty_chunks : flat_map (piece ([])) (chunk 0 0 0 0 0 0 0 0 ∷ chunk 0 0 0 0 0 0 0 0 ∷ []) ≡ (codes "")
-unfolding piece piece_after token_text separator vlq_text digits letter
+pieces-empty_chunks : flat_map (chunk_text ([])) (chunk 0 0 0 0 0 0 0 0 ∷ chunk 0 0 0 0 0 0 0 0 ∷ []) ≡ (codes "")
+unfolding chunk_text chunk_text_after token_text separator vlq_text digits letter
 pieces-empty_chunks = refl
 
 writes-empty_chunk_between : canonical (token 0 0 5 3 (Some 0) None ∷ token 1 2 1 1 (Some 2) None ∷ []) ≡ (codes "AAKG;EEJF")
@@ -202,8 +203,8 @@ writes-empty_chunk_between = refl
 fits-empty_chunk_between : writing_fault (token 0 0 5 3 (Some 0) None ∷ token 1 2 1 1 (Some 2) None ∷ []) (Some (chunk 0 1 0 0 0 0 0 0 ∷ chunk 1 1 0 0 5 3 0 0 ∷ chunk 1 2 0 0 5 3 0 0 ∷ [])) ≡ None
 fits-empty_chunk_between = refl
 
-pieces-empty_chunk_between : flat_map (piece (token 0 0 5 3 (Some 0) None ∷ token 1 2 1 1 (Some 2) None ∷ [])) (chunk 0 1 0 0 0 0 0 0 ∷ chunk 1 1 0 0 5 3 0 0 ∷ chunk 1 2 0 0 5 3 0 0 ∷ []) ≡ (codes "AAKG;EEJF")
-unfolding piece piece_after token_text separator vlq_text digits letter
+pieces-empty_chunk_between : flat_map (chunk_text (token 0 0 5 3 (Some 0) None ∷ token 1 2 1 1 (Some 2) None ∷ [])) (chunk 0 1 0 0 0 0 0 0 ∷ chunk 1 1 0 0 5 3 0 0 ∷ chunk 1 2 0 0 5 3 0 0 ∷ []) ≡ (codes "AAKG;EEJF")
+unfolding chunk_text chunk_text_after token_text separator vlq_text digits letter
 pieces-empty_chunk_between = refl
 
 writes-name_of_unmapped_token : canonical (token 0 0 0 0 (Some 0) (Some 0) ∷ token 0 1 0 0 None (Some 2) ∷ token 1 0 0 0 (Some 1) (Some 3) ∷ []) ≡ (codes "AAAAA,C;ACAAG")
@@ -213,8 +214,8 @@ writes-name_of_unmapped_token = refl
 fits-name_of_unmapped_token : writing_fault (token 0 0 0 0 (Some 0) (Some 0) ∷ token 0 1 0 0 None (Some 2) ∷ token 1 0 0 0 (Some 1) (Some 3) ∷ []) (Some (chunk 0 2 0 0 0 0 0 0 ∷ chunk 2 3 0 1 0 0 0 0 ∷ [])) ≡ None
 fits-name_of_unmapped_token = refl
 
-pieces-name_of_unmapped_token : flat_map (piece (token 0 0 0 0 (Some 0) (Some 0) ∷ token 0 1 0 0 None (Some 2) ∷ token 1 0 0 0 (Some 1) (Some 3) ∷ [])) (chunk 0 2 0 0 0 0 0 0 ∷ chunk 2 3 0 1 0 0 0 0 ∷ []) ≡ (codes "AAAAA,C;ACAAG")
-unfolding piece piece_after token_text separator vlq_text digits letter
+pieces-name_of_unmapped_token : flat_map (chunk_text (token 0 0 0 0 (Some 0) (Some 0) ∷ token 0 1 0 0 None (Some 2) ∷ token 1 0 0 0 (Some 1) (Some 3) ∷ [])) (chunk 0 2 0 0 0 0 0 0 ∷ chunk 2 3 0 1 0 0 0 0 ∷ []) ≡ (codes "AAAAA,C;ACAAG")
+unfolding chunk_text chunk_text_after token_text separator vlq_text digits letter
 pieces-name_of_unmapped_token = refl
 
 writes-empty_chunk_at_the_end : canonical (token 0 0 0 0 None None ∷ []) ≡ (codes "A")
@@ -224,16 +225,16 @@ writes-empty_chunk_at_the_end = refl
 fits-empty_chunk_at_the_end : writing_fault (token 0 0 0 0 None None ∷ []) (Some (chunk 0 1 0 0 0 0 0 0 ∷ chunk 1 1 0 0 0 0 0 0 ∷ [])) ≡ None
 fits-empty_chunk_at_the_end = refl
 
-pieces-empty_chunk_at_the_end : flat_map (piece (token 0 0 0 0 None None ∷ [])) (chunk 0 1 0 0 0 0 0 0 ∷ chunk 1 1 0 0 0 0 0 0 ∷ []) ≡ (codes "A")
-unfolding piece piece_after token_text separator vlq_text digits letter
+pieces-empty_chunk_at_the_end : flat_map (chunk_text (token 0 0 0 0 None None ∷ [])) (chunk 0 1 0 0 0 0 0 0 ∷ chunk 1 1 0 0 0 0 0 0 ∷ []) ≡ (codes "A")
+unfolding chunk_text chunk_text_after token_text separator vlq_text digits letter
 pieces-empty_chunk_at_the_end = refl
 
-piece-true_header : piece (token 1 1 1 1 (Some 0) (Some 0) ∷ token 3 1 1 1 (Some 1) (Some 2) ∷ token 3 2 2 2 (Some 2) (Some 3) ∷ []) (chunk 2 3 3 1 1 1 2 1) ≡ (codes ",CCCCC")
-unfolding piece piece_after token_text separator vlq_text digits letter
+piece-true_header : chunk_text (token 1 1 1 1 (Some 0) (Some 0) ∷ token 3 1 1 1 (Some 1) (Some 2) ∷ token 3 2 2 2 (Some 2) (Some 3) ∷ []) (chunk 2 3 3 1 1 1 2 1) ≡ (codes ",CCCCC")
+unfolding chunk_text chunk_text_after token_text separator vlq_text digits letter
 piece-true_header = refl
 
-piece-false_header : piece (token 1 1 1 1 (Some 0) (Some 0) ∷ token 3 1 1 1 (Some 1) (Some 2) ∷ token 3 2 2 2 (Some 2) (Some 3) ∷ []) (chunk 2 3 0 0 0 0 0 0) ≡ (codes ";;;EEEEG")
-unfolding piece piece_after token_text separator vlq_text digits letter
+piece-false_header : chunk_text (token 1 1 1 1 (Some 0) (Some 0) ∷ token 3 1 1 1 (Some 1) (Some 2) ∷ token 3 2 2 2 (Some 2) (Some 3) ∷ []) (chunk 2 3 0 0 0 0 0 0) ≡ (codes ";;;EEEEG")
+unfolding chunk_text chunk_text_after token_text separator vlq_text digits letter
 piece-false_header = refl
 
 fails-chunks_end_too_soon : writing_fault (token 0 0 0 0 None None ∷ token 0 1 0 0 None None ∷ []) (Some (chunk 0 1 0 0 0 0 0 0 ∷ [])) ≡ Some (BadChunks 1)

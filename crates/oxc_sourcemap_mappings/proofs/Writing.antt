@@ -1,7 +1,7 @@
 -- The text of a list with the state carried along, and what is cut off again.
 use Rattle.std.proofs.Common.{◌≡◌, ℕ, ◌<◌, ◌≤◌, true, List, [], ◌∷◌, ◌++◌, length, take, get_or}
-use Rattle.std.proofs.Common.{slice_index, arith, refl, sym, ap, ◌∙◌, lit<, append_assoc}
-use Rattle.std.proofs.Common.{Bool, Result, Ok, Err}
+use Rattle.std.proofs.Common.{slice_index, arith, refl, sym, ap, ◌∙◌, lit<, append_assoc, Bool}
+use Rattle.std.proofs.Common.{Result, Ok, Err}
 use Rattle.std.specs.List.{AllByRecursion}
 use Rattle.std.proofs.lemmas.List.{append-nil, take_at, length-append, get_or_at, get_or_past}
 use Rattle.oxc_sourcemap_tokens.specs.Token.{TokenRecord}

@@ -1,7 +1,6 @@
 -- The one canonical text of a list of tokens (for its form, ECMA-426, "Mappings structure").
-use Rattle.std.specs.Prelude.{ℕ, zero, suc, ◌+◌, ◌-◌, ◌*◌, ◌/◌, ◌%◌, Bool, true, false}
-use Rattle.std.specs.Prelude.{List, [], ◌∷◌, ◌++◌, map, replicate, None, if◌then◌else◌, nat_lt}
-use Rattle.std.specs.Prelude.{◌==◌}
+use Rattle.std.specs.Prelude.{ℕ, zero, suc, ◌+◌, ◌-◌, ◌*◌, ◌/◌, ◌%◌, Bool, true, false, List, []}
+use Rattle.std.specs.Prelude.{◌∷◌, ◌++◌, map, replicate, None, if◌then◌else◌, nat_lt, ◌==◌}
 use Rattle.std.specs.Option.{option_map_or}
 use Rattle.oxc_sourcemap_tokens.specs.Token.{TokenRecord, is_mapped, mapped_name}
 use Rattle.oxc_sourcemap_tokens.specs.State.{State, initial, state_after}

@@ -6,9 +6,8 @@ use Rattle.oxc_sourcemap_tokens.specs.declared.token.TokenChunk.{TokenChunk}
 use Rattle.oxc_sourcemap_tokens.specs.Token.{TokenRecord}
 use Rattle.oxc_sourcemap_tokens.specs.State.{State}
 use Rattle.oxc_sourcemap_tokens.specs.Steps.{advanced}
-use Rattle.oxc_sourcemap_mappings.specs.Canonical.{delta_text, source_text, name_text}
-use Rattle.oxc_sourcemap_mappings.specs.Canonical.{token_text}
-use Rattle.oxc_sourcemap_mappings.specs.Pieces.{piece_fault}
+use Rattle.oxc_sourcemap_mappings.specs.Canonical.{delta_text, source_text, name_text, token_text}
+use Rattle.oxc_sourcemap_mappings.specs.ChunkTexts.{chunk_text_fault}
 
 -- the text of these tokens from a state on, the state carried along
 abbrev pub text_from : Bool → State → List TokenRecord → List ℕ
@@ -45,4 +44,4 @@ IfWritten result P = IfOk result (λ is_written. is_written ≡ true → P)
 
 -- each of these chunks can be written
 abbrev pub AreWritten : List TokenRecord → List TokenChunk → Type 0
-AreWritten tokens chunks = AllByRecursion (λ c. piece_fault tokens c ≡ None) chunks
+AreWritten tokens chunks = AllByRecursion (λ c. chunk_text_fault tokens c ≡ None) chunks

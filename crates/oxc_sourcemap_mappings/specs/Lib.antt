@@ -5,7 +5,7 @@ pub mod Faults
 pub mod Reading
 pub mod SegmentPlaces
 pub mod Canonical
-pub mod Pieces
+pub mod ChunkTexts
 pub mod TextLaws
 pub mod Decoding
 pub mod Encoding

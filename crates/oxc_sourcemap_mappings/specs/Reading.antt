@@ -1,8 +1,8 @@
 -- What a `mappings` text reads as: its tokens, or its first fault (ECMA-426, "Mappings structure").
 use Rattle.std.specs.Prelude.{ℕ, ◌+◌, List, [], ◌∷◌, ◌++◌, length, Some, None, Result, Ok, Err}
 use Rattle.std.specs.Prelude.{if◌then◌else◌, nat_lt}
-use Rattle.oxc_sourcemap_tokens.specs.declared.error.Error.{Error}
-use Rattle.oxc_sourcemap_tokens.specs.declared.error.Error.TheVariants.{TooLarge}
+use Rattle.oxc_sourcemap_tokens.specs.declared.errors.error.Error.{Error}
+use Rattle.oxc_sourcemap_tokens.specs.declared.errors.error.Error.TheVariants.{TooLarge}
 use Rattle.oxc_sourcemap_mappings.specs.Parts.{Segment, has_source, has_name, lines}
 use Rattle.oxc_sourcemap_mappings.specs.Places.{Before, nothing_before, past_segment, past_line}
 use Rattle.oxc_sourcemap_mappings.specs.Places.{Place, place}

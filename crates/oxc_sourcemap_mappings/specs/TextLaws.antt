@@ -6,7 +6,7 @@ use Rattle.oxc_sourcemap_tokens.specs.Token.{TokenRecord, AreInBounds, mapped_na
 use Rattle.oxc_sourcemap_mappings.specs.Reading.{reading}
 use Rattle.oxc_sourcemap_mappings.specs.Canonical.{canonical, as_written, carried}
 use Rattle.oxc_sourcemap_tokens.specs.LineOrder.{IsInLineOrder}
-use Rattle.oxc_sourcemap_mappings.specs.Pieces.{piece}
+use Rattle.oxc_sourcemap_mappings.specs.ChunkTexts.{chunk_text}
 use Rattle.oxc_sourcemap_tokens.specs.Chunks.{ChunksFit}
 
 -- a list in line order and in bounds
@@ -36,11 +36,11 @@ abbrev pub ReadsAgain : Type 0
 ReadsAgain = (text : List ℕ) (names sources : ℕ) (tokens : List TokenRecord) → reading text names sources ≡ Ok tokens
     → IsOrderedInBounds tokens × (reading (canonical tokens) names sources ≡ Ok tokens)
 
--- The piece of a chunk, whatever it says, is ASCII.
-abbrev pub PiecesAreAscii : Type 0
-PiecesAreAscii = (tokens : List TokenRecord) (chunk : TokenChunk) → AllByRecursion (λ b. b < 128) (piece tokens chunk)
+-- The chunk_text of a chunk, whatever it says, is ASCII.
+abbrev pub ChunkTextsAreAscii : Type 0
+ChunkTextsAreAscii = (tokens : List TokenRecord) (chunk : TokenChunk) → AllByRecursion (λ b. b < 128) (chunk_text tokens chunk)
 
 -- Whatever chunks fit a list, their pieces in order are its text.
 abbrev pub InPieces : Type 0
 InPieces = (tokens : List TokenRecord) (chunks : List TokenChunk) → ChunksFit tokens chunks
-    → flat_map (piece tokens) chunks ≡ canonical tokens
+    → flat_map (chunk_text tokens) chunks ≡ canonical tokens

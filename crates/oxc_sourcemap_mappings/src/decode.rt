@@ -83,7 +83,7 @@ fn mapping_of(byte: u8) -> u8
 
 /// The number that a byte is alone, 32 more than its digit if others follow, and 127 for `,` and `;`.
 #[inline(always)]
-fn number_of(byte: u8) -> i8
+fn byte_number(byte: u8) -> i8
     ensures number { result <ℤ pos 64 → (ends_segment byte ≡ false) × (digit byte < 32)
         × (result ≡ signed (digit byte)) }
     ensures more { pos 64 ≤ℤ result → result <ℤ pos 96 → (ends_segment byte ≡ false)
@@ -145,12 +145,12 @@ fn keep(values: &mut [i64; 5], k: usize, number: i64)
 
 /// The number at an index of a text, and how many digits it has; None if it has more than three, or if there is none.
 #[inline(always)]
-fn number_at(text: &[u8], at: usize) -> Option<(i64, usize)>
+fn read_number_at(text: &[u8], at: usize) -> Option<(i64, usize)>
     requires { at + 3 ≤ length text.now }
     ensures number { IfSome result (λ read. IsNumberAt text.now at read.0 read.1) }
     ensures len { IfSome result (λ read. (0 < read.1) × (read.1 ≤ 3)) }
 {
-    let number = number_of(text[at]);
+    let number = byte_number(text[at]);
     if number < 64 {
         return Some((i64::from(number), 1));
     }
@@ -395,20 +395,20 @@ impl Sums {
         if text.len() < 16 {
             return None;
         }
-        let (dst_col, a) = number_at(text, 0)?;
-        let (source_id, b) = number_at(text, a)?;
-        let (src_line, c) = number_at(text, a + b)?;
-        let (src_col, d) = number_at(text, a + b + c)?;
+        let (dst_col, a) = read_number_at(text, 0)?;
+        let (source_id, b) = read_number_at(text, a)?;
+        let (src_line, c) = read_number_at(text, a + b)?;
+        let (src_col, d) = read_number_at(text, a + b + c)?;
         let len = a + b + c + d;
         let source_id = add_below(self.source_id, source_id, sources)?;
         let moved = self.with_position(dst_col, src_line, src_col)?;
-        if number_of(text[len]) > 95 {
+        if byte_number(text[len]) > 95 {
             *self = Self { source_id, ..moved };
             return Some((self.token(line, Some(source_id), None), len));
         }
-        let (by, e) = number_at(text, len)?;
+        let (by, e) = read_number_at(text, len)?;
         let name_id = add_below(self.name_id, by, names)?;
-        if number_of(text[len + e]) < 96 {
+        if byte_number(text[len + e]) < 96 {
             return None;
         }
         *self = Self {

@@ -7,13 +7,13 @@ ghost use Rattle.std.specs.Option.{option_map_or, unwrap_or};
 ghost use Rattle.oxc_sourcemap_mappings.specs.Words.{OutOfMemory, last_line, letter};
 ghost use Rattle.oxc_sourcemap_mappings.specs.Words.{vlq_text, raw_delta, delta_text, canonical};
 ghost use Rattle.oxc_sourcemap_mappings.specs.Words.{back_from, header};
-ghost use Rattle.oxc_sourcemap_mappings.specs.Words.{lent_chunks, piece, piece_fault};
+ghost use Rattle.oxc_sourcemap_mappings.specs.Words.{lent_chunks, chunk_text, chunk_text_fault};
 ghost use Rattle.oxc_sourcemap_mappings.specs.Words.{writing_fault, state_of, text_from, OnlyAdds};
 ghost use Rattle.oxc_sourcemap_mappings.specs.Words.{line_marks, column_from, fields_text};
 ghost use Rattle.oxc_sourcemap_mappings.specs.Words.{IfWritten, AreWritten, FailsBy, Reports};
 ghost use Rattle.oxc_sourcemap_mappings.specs.Words.{Pushes};
 
-use crate::near::{place_near, rank_of};
+use crate::near::{rank_of, write_near};
 use oxc_sourcemap_tokens::{
     Error, Memory, Previous, Result, Token, TokenChunk, chunk_fault, line_back_from,
     line_order_fault, next_chunk, tokens_in_bounds, tokens_of,
@@ -38,7 +38,7 @@ fn letter_of(digit: u8) -> u8
 // on have no meaning.
 
 /// Places a raw number, lowest digit first.
-fn place_digits(buf: &mut [u8], at: usize, raw: u64) -> usize
+fn write_digits(buf: &mut [u8], at: usize, raw: u64) -> usize
     requires room { at + 7 ≤ length buf.old }
     requires small { raw < 2 ^ 33 }
     ensures bytes { take result buf.new ≡ take at buf.old ++ vlq_text raw }
@@ -65,55 +65,61 @@ fn raw_of(to: u32, from: u32) -> u64
 
 /// Places the delta `to - from`, of any size.
 #[inline(always)]
-fn place_delta(buf: &mut [u8], at: usize, to: u32, from: u32) -> usize
+fn write_delta(buf: &mut [u8], at: usize, to: u32, from: u32) -> usize
     requires room { at + 7 ≤ length buf.old }
     ensures bytes { take result buf.new ≡ take at buf.old ++ delta_text to from }
     ensures within { result ≤ at + 7 }
 {
     let rank = rank_of(to, from);
     if rank < 1024 {
-        place_near(buf, at, rank)
+        write_near(buf, at, rank)
     } else {
-        place_digits(buf, at, raw_of(to, from))
+        write_digits(buf, at, raw_of(to, from))
     }
 }
 
 /// Places the name of a mapped token, if it has one.
 #[inline(always)]
-fn place_name(buf: &mut [u8], at: usize, name_id: Option<u32>, from: u32) -> usize
+fn write_name(buf: &mut [u8], at: usize, name_id: Option<u32>, from: u32) -> usize
     requires room { at + 7 ≤ length buf.old }
     ensures bytes { take result buf.new ≡ take at buf.old
         ++ option_map_or (λ id. delta_text id from) name_id [] }
     ensures within { result ≤ at + 7 }
 {
     match name_id {
-        Some(name_id) => place_delta(buf, at, name_id, from),
+        Some(name_id) => write_delta(buf, at, name_id, from),
         None => at,
     }
 }
 
 /// Places the fields of any token, its generated column relative to `column`.
 #[cold]
-fn place_any(buf: &mut [u8], at: usize, column: u32, previous: Previous, token: &Token) -> usize
+fn write_any_fields(
+    buf: &mut [u8],
+    at: usize,
+    column: u32,
+    previous: Previous,
+    token: &Token,
+) -> usize
     requires room { at + 35 ≤ length buf.old }
     ensures bytes { take result buf.new ≡ take at buf.old
         ++ fields_text column (state_of previous) token.now }
     ensures within { result ≤ at + 35 }
 {
-    let at = place_delta(buf, at, token.get_dst_col(), column);
+    let at = write_delta(buf, at, token.get_dst_col(), column);
     let Some(source_id) = token.get_source_id() else {
         return at;
     };
-    let at = place_delta(buf, at, source_id, previous.source_id);
-    let at = place_delta(buf, at, token.get_src_line(), previous.src_line);
-    let at = place_delta(buf, at, token.get_src_col(), previous.src_col);
-    place_name(buf, at, token.get_name_id(), previous.name_id)
+    let at = write_delta(buf, at, source_id, previous.source_id);
+    let at = write_delta(buf, at, token.get_src_line(), previous.src_line);
+    let at = write_delta(buf, at, token.get_src_col(), previous.src_col);
+    write_name(buf, at, token.get_name_id(), previous.name_id)
 }
 
 /// Places the fields of a token, its generated column relative to `column`. Most tokens have the source of the one before
-/// them and small deltas, which one test finds. All others go to `place_any`, so that the loop keeps few numbers at hand.
+/// them and small deltas, which one test finds. All others go to `write_any_fields`, so that the loop keeps few numbers at hand.
 #[inline(always)]
-fn place_fields(buf: &mut [u8], at: usize, column: u32, previous: &Previous, token: &Token) -> usize
+fn write_fields(buf: &mut [u8], at: usize, column: u32, previous: &Previous, token: &Token) -> usize
     requires room { at + 35 ≤ length buf.old }
     ensures bytes { take result buf.new ≡ take at buf.old
         ++ fields_text column (state_of previous.now) token.now }
@@ -124,20 +130,20 @@ fn place_fields(buf: &mut [u8], at: usize, column: u32, previous: &Previous, tok
     let src_col = rank_of(token.get_src_col(), previous.src_col);
     let has_same_source = token.get_source_id() == Some(previous.source_id);
     if has_same_source & (dst_col < 1024) & (src_line < 1024) & (src_col < 1024) {
-        let at = place_near(buf, at, dst_col);
+        let at = write_near(buf, at, dst_col);
         buf[at] = b'A';
-        let at = place_near(buf, at + 1, src_line);
-        let at = place_near(buf, at, src_col);
-        place_name(buf, at, token.get_name_id(), previous.name_id)
+        let at = write_near(buf, at + 1, src_line);
+        let at = write_near(buf, at, src_col);
+        write_name(buf, at, token.get_name_id(), previous.name_id)
     } else {
-        place_any(buf, at, column, *previous, token)
+        write_any_fields(buf, at, column, *previous, token)
     }
 }
 
 /// Places the separator of a token that lies `lines` lines below the one before it: a `,` on the same line, else a `;` for
 /// each line.
 #[inline(always)]
-fn place_separator(buf: &mut [u8], at: usize, is_first: bool, lines: u32) -> usize
+fn write_separator(buf: &mut [u8], at: usize, is_first: bool, lines: u32) -> usize
     requires room { at + 8 ≤ length buf.old }
     requires few { lines ≤ 8 }
     ensures bytes { take result buf.new ≡ take at buf.old ++ line_marks is_first lines }
@@ -154,7 +160,7 @@ fn place_separator(buf: &mut [u8], at: usize, is_first: bool, lines: u32) -> usi
 
 /// Places a token with its separator. `lines` counts the `;` that are still to be written; it is 0 only for a token on the
 /// line of the one before it.
-fn place_token(
+fn write_segment(
     buf: &mut [u8],
     at: usize,
     is_first: bool,
@@ -170,9 +176,9 @@ fn place_token(
         (line_marks is_first lines ++ fields_text (column_from s token.now) s token.now) }
     ensures within { result ≤ at + 43 }
 {
-    let start = place_separator(buf, at, is_first, lines);
+    let start = write_separator(buf, at, is_first, lines);
     let column = if lines == 0 { previous.dst_col } else { 0 };
-    place_fields(buf, start, column, previous, token)
+    write_fields(buf, start, column, previous, token)
 }
 
 // After an `Err` or a false of a function `push_`, `out` may end with the beginning of what it adds, and has not changed
@@ -262,7 +268,7 @@ fn push_tokens(out: &mut String, at_start: bool, header: Previous, tokens: &[Tok
             return Ok(false);
         }
         let (at, left) = make_room(out, &buf, len, line - previous.dst_line)?;
-        len = place_token(&mut buf, at, is_first, left, &previous, token);
+        len = write_segment(&mut buf, at, is_first, left, &previous, token);
         previous = previous.after(token);
         is_first = false;
     }
@@ -281,8 +287,8 @@ fn is_part(tokens: &[Token], chunk: &TokenChunk) -> bool
 /// Adds the text of a chunk and returns true, or returns false if the chunk has a fault.
 fn push_chunk(out: &mut String, tokens: &[Token], chunk: &TokenChunk) -> Memory<bool>
     ensures text { IfWritten result (string_bytes out.new ≡ string_bytes out.old
-        ++ piece tokens.now chunk.now) }
-    ensures clean { IfWritten result (piece_fault tokens.now chunk.now ≡ None) }
+        ++ chunk_text tokens.now chunk.now) }
+    ensures clean { IfWritten result (chunk_text_fault tokens.now chunk.now ≡ None) }
     ensures adds { OnlyAdds (string_bytes out.old) (string_bytes out.new) }
 {
     if !is_part(tokens, chunk) {
@@ -295,7 +301,7 @@ fn push_chunk(out: &mut String, tokens: &[Token], chunk: &TokenChunk) -> Memory<
 /// The error of a chunk that was not written: its fault, or else want of memory.
 #[cold]
 fn error_of_chunk(tokens: &[Token], chunk: &TokenChunk) -> Error
-    ensures { result ≡ unwrap_or (piece_fault tokens.now chunk.now) OutOfMemory }
+    ensures { result ≡ unwrap_or (chunk_text_fault tokens.now chunk.now) OutOfMemory }
 {
     if is_part(tokens, chunk) {
         let first = chunk.start as usize;
@@ -327,10 +333,10 @@ fn error_of_chunk(tokens: &[Token], chunk: &TokenChunk) -> Error
 ///   or, at `start`, than that of the header;
 /// - `OutOfMemory` for want of memory.
 pub fn encode_chunk(tokens: &[Token], chunk: &TokenChunk, out: &mut String) -> Result<()>
-    ensures text { Pushes result out.old out.new (piece tokens.now chunk.now) }
-    ensures clean { OnOk result (piece_fault tokens.now chunk.now ≡ None) }
-    ensures fault { FailsBy (piece_fault tokens.now chunk.now) result }
-    ensures reported { Reports (piece_fault tokens.now chunk.now) result }
+    ensures text { Pushes result out.old out.new (chunk_text tokens.now chunk.now) }
+    ensures clean { OnOk result (chunk_text_fault tokens.now chunk.now ≡ None) }
+    ensures fault { FailsBy (chunk_text_fault tokens.now chunk.now) result }
+    ensures reported { Reports (chunk_text_fault tokens.now chunk.now) result }
     ensures adds { OnlyAdds (string_bytes out.old) (string_bytes out.new) }
     ensures unchanged { OnErr result (string_bytes out.new ≡ string_bytes out.old) }
 {
@@ -346,7 +352,7 @@ pub fn encode_chunk(tokens: &[Token], chunk: &TokenChunk, out: &mut String) -> R
 
 /// Adds the texts of chunks one after the other, up to the first that cannot be written.
 fn push_chunks(out: &mut String, tokens: &[Token], chunks: &[TokenChunk]) -> Result<()>
-    ensures text { Pushes result out.old out.new (flat_map (piece tokens.now) chunks.now) }
+    ensures text { Pushes result out.old out.new (flat_map (chunk_text tokens.now) chunks.now) }
     ensures written { OnOk result (AreWritten tokens.now chunks.now) }
     ensures adds { OnlyAdds (string_bytes out.old) (string_bytes out.new) }
 {

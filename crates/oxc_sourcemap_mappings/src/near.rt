@@ -146,7 +146,7 @@ pub(crate) fn rank_of(to: u32, from: u32) -> u64
 /// Places the delta `rank - 512` in `buf` from index `at` on, and returns the index after its characters. The bytes from
 /// there on have no meaning.
 #[inline(always)]
-pub(crate) fn place_near(buf: &mut [u8], at: usize, rank: u64) -> usize
+pub(crate) fn write_near(buf: &mut [u8], at: usize, rank: u64) -> usize
     requires room { at + 4 ≤ length buf.old }
     requires near { rank < 1024 }
     ensures bytes { take result buf.new ≡ take at buf.old ++ vlq_text (raw_at rank) }

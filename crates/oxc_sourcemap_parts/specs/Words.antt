@@ -2,8 +2,8 @@
 pub use Rattle.oxc_sourcemap_tokens.specs.Chunks.{ChunksFit}
 pub use Rattle.oxc_sourcemap_tokens.specs.LineOrder.{IsInLineOrder}
 pub use Rattle.oxc_sourcemap_tokens.specs.Results.{OnlyMemory, lent_item}
-pub use Rattle.oxc_sourcemap_parts.specs.Roots.{is_of_scheme, ends_scheme, has_scheme}
-pub use Rattle.oxc_sourcemap_parts.specs.Roots.{is_absolute, needs_slash, rooted_source, rooted}
+pub use Rattle.oxc_sourcemap_parts.specs.Roots.{is_of_scheme, ends_scheme, has_scheme, is_absolute}
+pub use Rattle.oxc_sourcemap_parts.specs.Roots.{needs_slash, rooted_source, rooted}
 pub use Rattle.oxc_sourcemap_parts.specs.Sorted.{are_tokens_sorted, may_precede, token_line}
 pub use Rattle.oxc_sourcemap_parts.specs.Sorted.{token_column}
 pub use Rattle.oxc_sourcemap_parts.specs.Sound.{IsInRange, IsSound}

@@ -7,9 +7,9 @@ use Rattle.oxc_sourcemap_json.specs.Encoded.{encoded_record}
 use Rattle.oxc_sourcemap_laws.specs.MapLaws.{rewritten, SoundIsWritten, SoundReadsBack}
 use Rattle.oxc_sourcemap_laws.specs.JoinLaws.{TracesAgree}
 use Rattle.oxc_sourcemap_laws.proofs.UpToRepeats.{matches}
-use Rattle.oxc_sourcemap_tokens.specs.declared.error.Error.TheVariants.{OutOfMemory}
-use Rattle.oxc_sourcemap_tokens.specs.declared.plan_error.PlanError.{PlanError}
-use Rattle.oxc_sourcemap_tokens.specs.declared.plan_error.PlanError.TheVariants.{Map}
+use Rattle.oxc_sourcemap_tokens.specs.declared.errors.error.Error.TheVariants.{OutOfMemory}
+use Rattle.oxc_sourcemap_tokens.specs.declared.errors.plan_error.PlanError.{PlanError}
+use Rattle.oxc_sourcemap_tokens.specs.declared.errors.plan_error.PlanError.TheVariants.{Map}
 use Rattle.oxc_sourcemap_plan.specs.declared.fault.PlanFault.{PlanFault}
 use Rattle.oxc_sourcemap_plan.specs.declared.plan.Plan.{Plan}
 use Rattle.oxc_sourcemap_plan.specs.Depth.{depth}

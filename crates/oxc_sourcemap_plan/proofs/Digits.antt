@@ -1,4 +1,4 @@
--- The numbers of arguments.
+-- That the numbers of arguments are read by their digits.
 use Rattle.std.proofs.Common.{◌≡◌, ◌≢◌, ℕ, ◌^◌, ◌<◌, Bool, true, false, ◌&&◌, cond, nat_lt}
 use Rattle.std.proofs.Common.{List, [], ◌∷◌, get_or, Some, None, Result, Ok, Err, arith, refl, ap}
 use Rattle.std.specs.Result.{OkIff, result_ok}

@@ -14,9 +14,9 @@ pub mod PlanTexts
 pub mod Unread
 pub mod Meant
 pub mod Told
-mod WorkedPlaces
+mod PlacesWorked
 pub mod Digits
 pub mod PlanInputs
 pub mod PlanArguments
 pub mod PortErrors
-mod WorkedArguments
+mod ArgumentsWorked

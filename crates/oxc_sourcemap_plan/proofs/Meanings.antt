@@ -3,8 +3,8 @@ use Rattle.std.proofs.Common.{◌≡◌, ℕ, true, false, cond, nat_le, List, [
 use Rattle.std.proofs.Common.{◌∙◌, subst, Err}
 use Rattle.std.specs.Borrow.{Bor}
 use Rattle.oxc_sourcemap_parts.specs.Record.{Text}
-use Rattle.oxc_sourcemap_tokens.specs.declared.plan_error.PlanError.TheVariants.{TooDeep}
-use Rattle.oxc_sourcemap_json.specs.ReadMap.{Said, plain, indexed, said_in}
+use Rattle.oxc_sourcemap_tokens.specs.declared.errors.plan_error.PlanError.TheVariants.{TooDeep}
+use Rattle.oxc_sourcemap_json.specs.ReadMap.{ReadForm, plain, indexed, form_of_text}
 use Rattle.oxc_sourcemap_join.specs.Joined.{at_line, at_lines, at_positions}
 use Rattle.oxc_sourcemap_plan.specs.declared.plan.Plan.{Plan}
 use Rattle.oxc_sourcemap_plan.specs.declared.plan.Plan.TheOpen.{Plan-F}
@@ -12,7 +12,7 @@ use Rattle.oxc_sourcemap_plan.specs.declared.plan.Plan.TheViews.{roll-Plan}
 use Rattle.oxc_sourcemap_plan.specs.declared.plan.Plan.TheFolds.{fold-roll-Plan, map-Plan, ind-Plan}
 use Rattle.oxc_sourcemap_plan.specs.Depth.{depth}
 use Rattle.oxc_sourcemap_plan.specs.Meaning.{Meaning, meaning_step, meaning_of, meaning}
-use Rattle.oxc_sourcemap_plan.specs.Meaning.{said_meaning, sorted_said_meaning, root_meaning}
+use Rattle.oxc_sourcemap_plan.specs.Meaning.{form_meaning, sorted_form_meaning, root_meaning}
 use Rattle.oxc_sourcemap_plan.specs.Meaning.{all_decoded_maps, join_meaning, composition_meaning}
 use Rattle.oxc_sourcemap_plan.specs.Meaning.{by_path, all_inputs, remap_meaning, simplified_meaning}
 use Rattle.oxc_sourcemap_plan.specs.Outcome.{sorted_outcome, Outcome, outcome_step, outcome_of}
@@ -27,11 +27,11 @@ Agrees plan = (outcome_of plan).meaning ≡ meaning_of plan
 abbrev Part : Type 0
 Part = (plan : Plan) × Agrees plan
 
-of-text : (said : Said) → (read_outcome said).meaning ≡ said_meaning said
+of-text : (form : ReadForm) → (read_outcome form).meaning ≡ form_meaning form
 of-text (plain answer) = refl
 of-text (indexed file found) = refl
 
-of-sorted_text : (said : Said) → (sorted_outcome said).meaning ≡ sorted_said_meaning said
+of-sorted_text : (form : ReadForm) → (sorted_outcome form).meaning ≡ sorted_form_meaning form
 of-sorted_text (plain answer) = refl
 of-sorted_text (indexed file found) = refl
 
@@ -55,8 +55,8 @@ of-inputs (p ∷ inputs) =
 
 -- the cases agree if the parts do
 same : (y : Plan-F Part) → (outcome_step (map-Plan Plan Outcome outcome_of (map-Plan Part Plan (λ p. p.0) y))).meaning ≡ meaning_step (map-Plan Plan Meaning meaning_of (map-Plan Part Plan (λ p. p.0) y))
-same (Plan-F.Read text) = of-text (said_in text.now)
-same (Plan-F.ReadSorted text) = of-sorted_text (said_in text.now)
+same (Plan-F.Read text) = of-text (form_of_text text.now)
+same (Plan-F.ReadSorted text) = of-sorted_text (form_of_text text.now)
 same (Plan-F.Rewrite part) = part.value.1
 same (Plan-F.ApplyRoot part) = ap root_meaning part.value.1
 same (Plan-F.Simplify part) = ap simplified_meaning part.value.1

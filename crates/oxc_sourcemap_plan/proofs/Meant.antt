@@ -7,13 +7,15 @@ use Rattle.std.specs.List.{flat_map, AllByRecursion}
 use Rattle.std.specs.Borrow.{Bor}
 use Rattle.std.proofs.lemmas.Bool.{and_parts, both_ways}
 use Rattle.std.proofs.lemmas.List.{append-nil}
-use Rattle.oxc_sourcemap_tokens.specs.declared.error.Error.{Error}
-use Rattle.oxc_sourcemap_tokens.specs.declared.error.Error.TheVariants.{TooLarge, SeveralSources}
+use Rattle.oxc_sourcemap_tokens.specs.declared.errors.error.Error.{Error}
+use Rattle.oxc_sourcemap_tokens.specs.declared.errors.error.Error.TheVariants.{TooLarge}
+use Rattle.oxc_sourcemap_tokens.specs.declared.errors.error.Error.TheVariants.{SeveralSources}
 use Rattle.oxc_sourcemap_tokens.specs.Errors.{unless}
 use Rattle.oxc_sourcemap_tokens.specs.declared.position.Position.{Position}
-use Rattle.oxc_sourcemap_tokens.specs.declared.plan_error.PlanError.{PlanError}
-use Rattle.oxc_sourcemap_tokens.specs.declared.plan_error.PlanError.TheVariants.{Map, Unsorted}
-use Rattle.oxc_sourcemap_tokens.specs.declared.plan_error.PlanError.TheVariants.{TooDeep}
+use Rattle.oxc_sourcemap_tokens.specs.declared.errors.plan_error.PlanError.{PlanError}
+use Rattle.oxc_sourcemap_tokens.specs.declared.errors.plan_error.PlanError.TheVariants.{Map}
+use Rattle.oxc_sourcemap_tokens.specs.declared.errors.plan_error.PlanError.TheVariants.{Unsorted}
+use Rattle.oxc_sourcemap_tokens.specs.declared.errors.plan_error.PlanError.TheVariants.{TooDeep}
 use Rattle.oxc_sourcemap_parts.specs.Record.{Text, MapRecord}
 use Rattle.oxc_sourcemap_parts.specs.Sorted.{are_tokens_sorted}
 use Rattle.oxc_sourcemap_parts.specs.DecodedMap.{DecodedMap, decoded_map_of}
@@ -21,9 +23,9 @@ use Rattle.oxc_sourcemap_json.specs.Shape.{◌>>=◌}
 use Rattle.oxc_sourcemap_join.specs.Joined.{joined, at_line, at_lines, at_positions}
 use Rattle.oxc_sourcemap_json.specs.Sections.{Sections}
 use Rattle.oxc_sourcemap_json.specs.JoinLimits.{is_map_within_limits}
-use Rattle.oxc_sourcemap_json.specs.ReadMap.{Said, plain, indexed, indexed_record, map_said}
-use Rattle.oxc_sourcemap_json.specs.ReadMap.{said_in, read_map}
-use Rattle.oxc_sourcemap_json.proofs.WellRead.{IsWellRead, sections_well, read_is_said}
+use Rattle.oxc_sourcemap_json.specs.ReadMap.{ReadForm, plain, indexed, indexed_record, map_of_form}
+use Rattle.oxc_sourcemap_json.specs.ReadMap.{form_of_text, read_map}
+use Rattle.oxc_sourcemap_json.proofs.WellRead.{IsWellRead, sections_well, read_is_form}
 use Rattle.oxc_sourcemap_laws.specs.Repeats.{is_sorted_decoded_map}
 use Rattle.oxc_sourcemap_laws.specs.JoinedDecodedMaps.{joined_decoded_maps}
 use Rattle.oxc_sourcemap_laws.specs.JoinLaws.{decoded_maps_of}
@@ -45,7 +47,7 @@ use Rattle.oxc_sourcemap_plan.specs.Outcome.{are_inputs_within_limits, names_of_
 use Rattle.oxc_sourcemap_plan.proofs.Realizing.{JoinLaws}
 use Rattle.oxc_sourcemap_plan.proofs.Reading.{not-within}
 use Rattle.oxc_sourcemap_plan.proofs.Meanings.{agrees}
-use Rattle.oxc_sourcemap_tokens.specs.declared.fault.FaultPlace.{FaultPlace}
+use Rattle.oxc_sourcemap_tokens.specs.declared.errors.fault.FaultPlace.{FaultPlace}
 use Rattle.oxc_sourcemap_plan.specs.PlanPlaces.{IsOfReading, texts_of, texts_step, Unread}
 use Rattle.oxc_sourcemap_plan.specs.PlanPlaces.{unread_from, first_unread, IsPlaceOf}
 use Rattle.oxc_sourcemap_plan.proofs.Unread.{unread-more, unread-here}
@@ -156,47 +158,47 @@ module _ (laws : JoinLaws) where
       ] refl
 
   -- the map of an indexed map whose sections are within the limits
-  said-indexed : (file : Option Text) (ms : List (MapRecord × Position)) (fault : Option Error) → is_map_within_limits (joined ms) ≡ true
-      → map_said (indexed file (record { maps = ms; fault = fault })) ≡ (unless fault (Ok (joined ms)) >>= (λ r. Ok (indexed_record file r)))
-  said-indexed file ms fault w = ap (λ b. cond b (unless fault (Ok (joined ms))) (Err TooLarge) >>= (λ r. Ok (indexed_record file r))) w
+  form-indexed : (file : Option Text) (ms : List (MapRecord × Position)) (fault : Option Error) → is_map_within_limits (joined ms) ≡ true
+      → map_of_form (indexed file (record { maps = ms; fault = fault })) ≡ (unless fault (Ok (joined ms)) >>= (λ r. Ok (indexed_record file r)))
+  form-indexed file ms fault w = ap (λ b. cond b (unless fault (Ok (joined ms))) (Err TooLarge) >>= (λ r. Ok (indexed_record file r))) w
 
   indexed-read : (file : Option Text) (ms : List (MapRecord × Position)) (fault : Option Error) → AllByRecursion (λ m. IsWellRead m.0) ms
       → (read_outcome (indexed file (record { maps = ms; fault = fault }))).is_within_limits ≡ true
-      → IsReadAs (read_outcome (indexed file (record { maps = ms; fault = fault }))).meaning (map_said (indexed file (record { maps = ms; fault = fault })))
-  indexed-read file ms (Some e) well w = said-indexed file ms (Some e) (within ms well w)
+      → IsReadAs (read_outcome (indexed file (record { maps = ms; fault = fault }))).meaning (map_of_form (indexed file (record { maps = ms; fault = fault })))
+  indexed-read file ms (Some e) well w = form-indexed file ms (Some e) (within ms well w)
   indexed-read file ms None well w =
       elim (is_sorted_decoded_map (joined_decoded_maps (decoded_maps_of ms)))
-      as (λ b. IsReadAs (cond b (Ok (record (joined_decoded_maps (decoded_maps_of ms)) { file = file })) (Err Unsorted)) (map_said (indexed file (record { maps = ms; fault = None })))) [
-        | true ↦ (indexed_record file (joined ms), said-indexed file ms None (within ms well w))
+      as (λ b. IsReadAs (cond b (Ok (record (joined_decoded_maps (decoded_maps_of ms)) { file = file })) (Err Unsorted)) (map_of_form (indexed file (record { maps = ms; fault = None })))) [
+        | true ↦ (indexed_record file (joined ms), form-indexed file ms None (within ms well w))
         | false ↦ tt
       ]
 
   sorted-indexed-read : (file : Option Text) (ms : List (MapRecord × Position)) (fault : Option Error) → AllByRecursion (λ m. IsWellRead m.0) ms
       → (sorted_outcome (indexed file (record { maps = ms; fault = fault }))).is_within_limits ≡ true
-      → IsReadAs (sorted_outcome (indexed file (record { maps = ms; fault = fault }))).meaning (map_said (indexed file (record { maps = ms; fault = fault })))
-  sorted-indexed-read file ms (Some e) well w = said-indexed file ms (Some e) (within ms well w)
-  sorted-indexed-read file ms None well w = (indexed_record file (joined ms), said-indexed file ms None (within ms well w))
+      → IsReadAs (sorted_outcome (indexed file (record { maps = ms; fault = fault }))).meaning (map_of_form (indexed file (record { maps = ms; fault = fault })))
+  sorted-indexed-read file ms (Some e) well w = form-indexed file ms (Some e) (within ms well w)
+  sorted-indexed-read file ms None well w = (indexed_record file (joined ms), form-indexed file ms None (within ms well w))
 
-  said-read : (said : Said) → ((file : Option Text) (found : Sections) → said ≡ indexed file found → AllByRecursion (λ m. IsWellRead m.0) found.maps)
-      → (read_outcome said).is_within_limits ≡ true → IsReadAs (read_outcome said).meaning (map_said said)
-  said-read (plain (Err e)) well w = refl
-  said-read (plain (Ok r)) well w =
+  form-read : (form : ReadForm) → ((file : Option Text) (found : Sections) → form ≡ indexed file found → AllByRecursion (λ m. IsWellRead m.0) found.maps)
+      → (read_outcome form).is_within_limits ≡ true → IsReadAs (read_outcome form).meaning (map_of_form form)
+  form-read (plain (Err e)) well w = refl
+  form-read (plain (Ok r)) well w =
       elim (are_tokens_sorted r.tokens) as (λ b. IsReadAs (cond b (Ok (decoded_map_of r)) (Err Unsorted)) (Ok r)) [ true ↦ (r, refl) | false ↦ tt ]
-  said-read (indexed file found) well w = indexed-read file found.maps found.fault (well file found refl) w
+  form-read (indexed file found) well w = indexed-read file found.maps found.fault (well file found refl) w
 
-  said-sorted : (said : Said) → ((file : Option Text) (found : Sections) → said ≡ indexed file found → AllByRecursion (λ m. IsWellRead m.0) found.maps)
-      → (sorted_outcome said).is_within_limits ≡ true → IsReadAs (sorted_outcome said).meaning (map_said said)
-  said-sorted (plain (Err e)) well w = refl
-  said-sorted (plain (Ok r)) well w = (r, refl)
-  said-sorted (indexed file found) well w = sorted-indexed-read file found.maps found.fault (well file found refl) w
+  form-sorted : (form : ReadForm) → ((file : Option Text) (found : Sections) → form ≡ indexed file found → AllByRecursion (λ m. IsWellRead m.0) found.maps)
+      → (sorted_outcome form).is_within_limits ≡ true → IsReadAs (sorted_outcome form).meaning (map_of_form form)
+  form-sorted (plain (Err e)) well w = refl
+  form-sorted (plain (Ok r)) well w = (r, refl)
+  form-sorted (indexed file found) well w = sorted-indexed-read file found.maps found.fault (well file found refl) w
 
-  text-follows : (text : Text) → (read_outcome (said_in text)).is_within_limits ≡ true → Follows (read_outcome (said_in text)).meaning (text ∷ [])
+  text-follows : (text : Text) → (read_outcome (form_of_text text)).is_within_limits ≡ true → Follows (read_outcome (form_of_text text)).meaning (text ∷ [])
   text-follows text w =
-      one-follows _ text (subst (IsReadAs (read_outcome (said_in text)).meaning) (sym (read_is_said text)) (said-read (said_in text) (sections_well text) w))
+      one-follows _ text (subst (IsReadAs (read_outcome (form_of_text text)).meaning) (sym (read_is_form text)) (form-read (form_of_text text) (sections_well text) w))
 
-  sorted-follows : (text : Text) → (sorted_outcome (said_in text)).is_within_limits ≡ true → Follows (sorted_outcome (said_in text)).meaning (text ∷ [])
+  sorted-follows : (text : Text) → (sorted_outcome (form_of_text text)).is_within_limits ≡ true → Follows (sorted_outcome (form_of_text text)).meaning (text ∷ [])
   sorted-follows text w =
-      one-follows _ text (subst (IsReadAs (sorted_outcome (said_in text)).meaning) (sym (read_is_said text)) (said-sorted (said_in text) (sections_well text) w))
+      one-follows _ text (subst (IsReadAs (sorted_outcome (form_of_text text)).meaning) (sym (read_is_form text)) (form-sorted (form_of_text text) (sections_well text) w))
 
   -- ---- a plan
   abbrev Holds : Plan → Type 0

@@ -12,7 +12,7 @@ use Rattle.oxc_sourcemap_tokens.specs.declared.position.Position.{Position}
 use Rattle.oxc_sourcemap_join.specs.Joined.{at_line, owned_records}
 use Rattle.oxc_sourcemap_join.proofs.Adding.{records_pushed}
 use Rattle.oxc_sourcemap_plan.specs.declared.plan.Plan.{Plan}
-use Rattle.oxc_sourcemap_tokens.specs.declared.plan_error.PlanError.{PlanError}
+use Rattle.oxc_sourcemap_tokens.specs.declared.errors.plan_error.PlanError.{PlanError}
 use Rattle.oxc_sourcemap_plan.specs.Depth.{deepest}
 use Rattle.oxc_sourcemap_plan.specs.Meaning.{by_path}
 use Rattle.oxc_sourcemap_plan.specs.Outcome.{Outcome, outcome_of, outcomes, join_outcome}

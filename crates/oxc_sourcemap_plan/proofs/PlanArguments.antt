@@ -1,7 +1,7 @@
 -- Reading arguments, step by step.
 use Rattle.std.proofs.Common.{◌≡◌, ◌≢◌, ℕ, zero, suc, ◌+◌, ◌-◌, ◌<◌, ◌≤◌, String, string_bytes}
-use Rattle.std.proofs.Common.{length, length, true, false, cond, ◌==◌, List, [], ◌∷◌, ◌++◌, map}
-use Rattle.std.proofs.Common.{codes, refl, sym, ap, ◌∙◌, arith, Some, None, Ok, Err, bytes_eq}
+use Rattle.std.proofs.Common.{length, true, false, cond, ◌==◌, List, [], ◌∷◌, ◌++◌, map, codes}
+use Rattle.std.proofs.Common.{refl, sym, ap, ◌∙◌, arith, Some, None, Ok, Err, bytes_eq}
 use Rattle.oxc_sourcemap_parts.specs.Record.{Text}
 use Rattle.std.specs.declared.alloc.Global.{Global}
 use Rattle.std.specs.Cmp.Lexicographic.{bytes_decides}
@@ -15,16 +15,15 @@ use Rattle.oxc_sourcemap_tokens.specs.declared.position.Position.{Position}
 use Rattle.oxc_sourcemap_plan.specs.declared.run_error.RunError.{RunError}
 use Rattle.oxc_sourcemap_plan.specs.declared.run_error.RunError.TheVariants.{Arguments, NoText}
 use Rattle.oxc_sourcemap_plan.specs.Outcome.{Outcome, rewrite_outcome, root_outcome}
-use Rattle.oxc_sourcemap_plan.specs.Outcome.{simplified_outcome}
-use Rattle.oxc_sourcemap_plan.specs.Outcome.{join_outcome, composition_outcome, remap_outcome}
+use Rattle.oxc_sourcemap_plan.specs.Outcome.{simplified_outcome, join_outcome, composition_outcome}
+use Rattle.oxc_sourcemap_plan.specs.Outcome.{remap_outcome}
 use Rattle.oxc_sourcemap_plan.specs.PlanArguments.{Parsed, whole, then_parsed, parsed_number}
 use Rattle.oxc_sourcemap_plan.specs.PlanArguments.{parsed_line, parsed_position, text_or_fault}
 use Rattle.oxc_sourcemap_plan.specs.PlanArguments.{text_of_number, parsed_text, parsed_input}
-use Rattle.oxc_sourcemap_plan.specs.PlanArguments.{parsed_sort}
-use Rattle.oxc_sourcemap_plan.specs.PlanArguments.{with_rest}
-use Rattle.oxc_sourcemap_plan.specs.PlanArguments.{parsed_join_part, parsed_path, parsed_input_part}
-use Rattle.oxc_sourcemap_plan.specs.PlanArguments.{parsed_items, parsed_list, parsed_join}
-use Rattle.oxc_sourcemap_plan.specs.PlanArguments.{parsed_remapping, parsed_by, parsed_part}
+use Rattle.oxc_sourcemap_plan.specs.PlanArguments.{parsed_sort, with_rest, parsed_join_part}
+use Rattle.oxc_sourcemap_plan.specs.PlanArguments.{parsed_path, parsed_input_part, parsed_items}
+use Rattle.oxc_sourcemap_plan.specs.PlanArguments.{parsed_list, parsed_join, parsed_remapping}
+use Rattle.oxc_sourcemap_plan.specs.PlanArguments.{parsed_by, parsed_part}
 
 pub part-named : (inputs : List Text) (room : ℕ) (argument : Text) (arguments : List Text) → room ≢ 0 → parsed_part inputs room (argument ∷ arguments) ≡ parsed_by inputs (parsed_part inputs (room - 1)) argument arguments
 part-named inputs zero argument arguments n = absurd (n refl)

@@ -6,8 +6,9 @@ use Rattle.std.specs.List.{flat_map, AllByRecursion}
 use Rattle.std.proofs.lemmas.Bool.{and_parts, both_ways, false_from_ne_true}
 use Rattle.std.proofs.lemmas.List.{length-append, length-map}
 use Rattle.std.proofs.lemmas.List.Elements.{recursion_from_All}
-use Rattle.oxc_sourcemap_tokens.specs.declared.error.Error.{Error}
-use Rattle.oxc_sourcemap_tokens.specs.declared.error.Error.TheVariants.{OutOfMemory, TooLarge}
+use Rattle.oxc_sourcemap_tokens.specs.declared.errors.error.Error.{Error}
+use Rattle.oxc_sourcemap_tokens.specs.declared.errors.error.Error.TheVariants.{OutOfMemory}
+use Rattle.oxc_sourcemap_tokens.specs.declared.errors.error.Error.TheVariants.{TooLarge}
 use Rattle.oxc_sourcemap_tokens.specs.Errors.{unless}
 use Rattle.oxc_sourcemap_tokens.specs.Token.{TokenRecord, IsInBounds, AreInBounds}
 use Rattle.oxc_sourcemap_parts.specs.Record.{Text, MapRecord}
@@ -19,17 +20,18 @@ use Rattle.oxc_sourcemap_tokens.specs.declared.position.Position.{Position}
 use Rattle.oxc_sourcemap_join.specs.Joined.{nothing_joined, joined, IsWithinLimits}
 use Rattle.oxc_sourcemap_json.specs.Sections.{Sections, joined_sections}
 use Rattle.oxc_sourcemap_json.specs.JoinLimits.{is_map_within_limits}
-use Rattle.oxc_sourcemap_json.specs.ReadMap.{Said, plain, indexed, indexed_record, map_said}
-use Rattle.oxc_sourcemap_json.specs.ReadMap.{said_in, read_map}
-use Rattle.oxc_sourcemap_json.proofs.Limits.{limits_decided}
-use Rattle.oxc_sourcemap_json.proofs.WellRead.{IsWellRead, sections_well, read_is_said}
+use Rattle.oxc_sourcemap_json.specs.ReadMap.{ReadForm, plain, indexed, indexed_record, map_of_form}
+use Rattle.oxc_sourcemap_json.specs.ReadMap.{form_of_text, read_map}
+use Rattle.oxc_sourcemap_json.proofs.JoinLimits.{limits_decided}
+use Rattle.oxc_sourcemap_json.proofs.WellRead.{IsWellRead, sections_well, read_is_form}
 use Rattle.oxc_sourcemap_laws.specs.Repeats.{EqualUpToRepeats, is_sorted_decoded_map}
 use Rattle.oxc_sourcemap_laws.specs.JoinedDecodedMaps.{lowered, joined_decoded_maps}
 use Rattle.oxc_sourcemap_laws.specs.JoinLaws.{AreIgnoreListsInRange, decoded_maps_of}
 use Rattle.oxc_sourcemap_laws.proofs.JoinStands.{sorted-mappings}
 use Rattle.oxc_sourcemap_laws.proofs.Sections.{all-in-range, from-sections, joined-of}
 use Rattle.oxc_sourcemap_laws.proofs.UpToRepeats.{sorted_decoded_map_up_to_repeats}
-use Rattle.oxc_sourcemap_tokens.specs.declared.plan_error.PlanError.TheVariants.{Map, Unsorted}
+use Rattle.oxc_sourcemap_tokens.specs.declared.errors.plan_error.PlanError.TheVariants.{Map}
+use Rattle.oxc_sourcemap_tokens.specs.declared.errors.plan_error.PlanError.TheVariants.{Unsorted}
 use Rattle.oxc_sourcemap_plan.specs.Limits.{are_counts_within_limits, are_positions_within_limits}
 use Rattle.oxc_sourcemap_plan.specs.Limits.{is_join_within_limits}
 use Rattle.oxc_sourcemap_plan.specs.Outcome.{plain_outcome, names_of_sections, sections_outcome}
@@ -134,8 +136,8 @@ error-of file (Ok j) f e = cc
 error-of file (Err g) f e = cc
 
 -- ---- by the value that is read
-gives : (laws : JoinLaws) (said : Said) (r : MapRecord) → ((file : Option Text) (found : Sections) → said ≡ indexed file found → AllByRecursion (λ m. IsWellRead m.0) found.maps)
-    → map_said said ≡ Ok r → AreInBounds r.tokens → IsSound r → are_tokens_sorted r.tokens ≡ true → Realizes r (read_outcome said)
+gives : (laws : JoinLaws) (form : ReadForm) (r : MapRecord) → ((file : Option Text) (found : Sections) → form ≡ indexed file found → AllByRecursion (λ m. IsWellRead m.0) found.maps)
+    → map_of_form form ≡ Ok r → AreInBounds r.tokens → IsSound r → are_tokens_sorted r.tokens ≡ true → Realizes r (read_outcome form)
 gives laws (plain answer) r w e b h s = subst (λ a. Realizes r (plain_outcome a)) (sym e) (plain_gives r b h s)
 gives laws (indexed file found) r w e b h s =
     let j = joined-of file (joined_sections found) r e in
@@ -145,8 +147,8 @@ gives laws (indexed file found) r w e b h s =
     subst (λ fault. Realizes r (sections_outcome file fault found.maps)) (sym f.no_fault) (subst (λ m. Realizes m (sections_outcome file None found.maps)) is
     (sections_give laws file found.maps (w file found refl) (subst (λ (m : MapRecord). AreInBounds m.tokens) back b) (subst IsSound back h) (subst (λ (m : MapRecord). are_tokens_sorted m.tokens ≡ true) back s)))
 
-unsorted : (laws : JoinLaws) (said : Said) (r : MapRecord) → ((file : Option Text) (found : Sections) → said ≡ indexed file found → AllByRecursion (λ m. IsWellRead m.0) found.maps)
-    → map_said said ≡ Ok r → are_tokens_sorted r.tokens ≡ false → FailsAs Unsorted (read_outcome said)
+unsorted : (laws : JoinLaws) (form : ReadForm) (r : MapRecord) → ((file : Option Text) (found : Sections) → form ≡ indexed file found → AllByRecursion (λ m. IsWellRead m.0) found.maps)
+    → map_of_form form ≡ Ok r → are_tokens_sorted r.tokens ≡ false → FailsAs Unsorted (read_outcome form)
 unsorted laws (plain answer) r w e s = subst (λ a. FailsAs Unsorted (plain_outcome a)) (sym e) (plain_unsorted r s)
 unsorted laws (indexed file found) r w e s =
     let j = joined-of file (joined_sections found) r e in
@@ -159,8 +161,8 @@ pub fault-of : (fault : Option Error) (r : MapRecord) (e : Error) → unless fau
 fault-of None r e h = cc
 fault-of (Some f) r e h = cc
 
-error : (laws : JoinLaws) (said : Said) (e : Error) → ((file : Option Text) (found : Sections) → said ≡ indexed file found → AllByRecursion (λ m. IsWellRead m.0) found.maps)
-    → map_said said ≡ Err e → FailsAs (Map e) (read_outcome said)
+error : (laws : JoinLaws) (form : ReadForm) (e : Error) → ((file : Option Text) (found : Sections) → form ≡ indexed file found → AllByRecursion (λ m. IsWellRead m.0) found.maps)
+    → map_of_form form ≡ Err e → FailsAs (Map e) (read_outcome form)
 error laws (plain answer) e w h = subst (λ a. FailsAs (Map e) (plain_outcome a)) (sym h) (inr (inl refl))
 error laws (indexed file found) e w h =
     let j : joined_sections found ≡ Err e = error-of file (joined_sections found) e h in
@@ -171,11 +173,11 @@ error laws (indexed file found) e w h =
     ] refl j
 
 -- ---- by the text that is read
-pub read_gives : JoinLaws → (text : Text) (r : MapRecord) → read_map text ≡ Ok r → AreInBounds r.tokens → IsSound r → are_tokens_sorted r.tokens ≡ true → Realizes r (read_outcome (said_in text))
-read_gives laws text r e b h s = gives laws (said_in text) r (sections_well text) (sym (read_is_said text) ∙ e) b h s
+pub read_gives : JoinLaws → (text : Text) (r : MapRecord) → read_map text ≡ Ok r → AreInBounds r.tokens → IsSound r → are_tokens_sorted r.tokens ≡ true → Realizes r (read_outcome (form_of_text text))
+read_gives laws text r e b h s = gives laws (form_of_text text) r (sections_well text) (sym (read_is_form text) ∙ e) b h s
 
-pub read_unsorted : JoinLaws → (text : Text) (r : MapRecord) → read_map text ≡ Ok r → are_tokens_sorted r.tokens ≡ false → FailsAs Unsorted (read_outcome (said_in text))
-read_unsorted laws text r e s = unsorted laws (said_in text) r (sections_well text) (sym (read_is_said text) ∙ e) s
+pub read_unsorted : JoinLaws → (text : Text) (r : MapRecord) → read_map text ≡ Ok r → are_tokens_sorted r.tokens ≡ false → FailsAs Unsorted (read_outcome (form_of_text text))
+read_unsorted laws text r e s = unsorted laws (form_of_text text) r (sections_well text) (sym (read_is_form text) ∙ e) s
 
-pub read_error : JoinLaws → (text : Text) (e : Error) → ((e ≢ OutOfMemory) → read_map text ≡ Err e) → FailsAs (Map e) (read_outcome (said_in text))
-read_error laws text e q = unless_memory e (read_outcome (said_in text)) (λ n. error laws (said_in text) e (sections_well text) (sym (read_is_said text) ∙ q n))
+pub read_error : JoinLaws → (text : Text) (e : Error) → ((e ≢ OutOfMemory) → read_map text ≡ Err e) → FailsAs (Map e) (read_outcome (form_of_text text))
+read_error laws text e q = unless_memory e (read_outcome (form_of_text text)) (λ n. error laws (form_of_text text) e (sections_well text) (sym (read_is_form text) ∙ q n))

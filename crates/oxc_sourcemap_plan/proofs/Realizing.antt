@@ -10,21 +10,23 @@ use Rattle.std.proofs.lemmas.Bool.{cases_lt}
 use Rattle.std.proofs.lemmas.Bool.Decides.{nat_tests}
 use Rattle.std.proofs.lemmas.List.{length-append, length-map}
 use Rattle.std.proofs.lemmas.List.Elements.{recursion_from_All, All-from_recursion}
-use Rattle.oxc_sourcemap_tokens.specs.declared.error.Error.{Error}
-use Rattle.oxc_sourcemap_tokens.specs.declared.error.Error.TheVariants.{VlqLeftover, VlqNoValues}
-use Rattle.oxc_sourcemap_tokens.specs.declared.error.Error.TheVariants.{VlqOverflow, BadJson}
-use Rattle.oxc_sourcemap_tokens.specs.declared.error.Error.TheVariants.{BadSegmentSize}
-use Rattle.oxc_sourcemap_tokens.specs.declared.error.Error.TheVariants.{BadSourceReference}
-use Rattle.oxc_sourcemap_tokens.specs.declared.error.Error.TheVariants.{BadNameReference}
-use Rattle.oxc_sourcemap_tokens.specs.declared.error.Error.TheVariants.{OutOfMemory, TooLarge}
-use Rattle.oxc_sourcemap_tokens.specs.declared.error.Error.TheVariants.{LineOrder, BadChunks}
-use Rattle.oxc_sourcemap_tokens.specs.declared.error.Error.TheVariants.{SeveralSources}
-use Rattle.oxc_sourcemap_tokens.specs.declared.error.Error.TheVariants.{SectionOrder}
-use Rattle.oxc_sourcemap_tokens.specs.declared.error.Error.TheVariants.{InputLineOrder}
+use Rattle.oxc_sourcemap_tokens.specs.declared.errors.error.Error.{Error}
+use Rattle.oxc_sourcemap_tokens.specs.declared.errors.error.Error.TheVariants.{VlqLeftover}
+use Rattle.oxc_sourcemap_tokens.specs.declared.errors.error.Error.TheVariants.{VlqNoValues}
+use Rattle.oxc_sourcemap_tokens.specs.declared.errors.error.Error.TheVariants.{VlqOverflow, BadJson}
+use Rattle.oxc_sourcemap_tokens.specs.declared.errors.error.Error.TheVariants.{BadSegmentSize}
+use Rattle.oxc_sourcemap_tokens.specs.declared.errors.error.Error.TheVariants.{BadSourceReference}
+use Rattle.oxc_sourcemap_tokens.specs.declared.errors.error.Error.TheVariants.{BadNameReference}
+use Rattle.oxc_sourcemap_tokens.specs.declared.errors.error.Error.TheVariants.{OutOfMemory}
+use Rattle.oxc_sourcemap_tokens.specs.declared.errors.error.Error.TheVariants.{TooLarge, LineOrder}
+use Rattle.oxc_sourcemap_tokens.specs.declared.errors.error.Error.TheVariants.{BadChunks}
+use Rattle.oxc_sourcemap_tokens.specs.declared.errors.error.Error.TheVariants.{SeveralSources}
+use Rattle.oxc_sourcemap_tokens.specs.declared.errors.error.Error.TheVariants.{SectionOrder}
+use Rattle.oxc_sourcemap_tokens.specs.declared.errors.error.Error.TheVariants.{InputLineOrder}
 use Rattle.oxc_sourcemap_tokens.specs.Token.{TokenRecord, IsInBounds, AreInBounds, last}
 use Rattle.oxc_sourcemap_mappings.specs.TextLaws.{ReadsAgain}
 use Rattle.oxc_sourcemap_tokens.specs.LineOrder.{first_out_of_order}
-use Rattle.oxc_sourcemap_json.specs.Json.{JsonRecord}
+use Rattle.oxc_sourcemap_json.specs.JsonRecord.{JsonRecord}
 use Rattle.oxc_sourcemap_parts.specs.Record.{Text, MapRecord}
 use Rattle.oxc_sourcemap_parts.specs.Sorted.{are_tokens_sorted}
 use Rattle.oxc_sourcemap_parts.specs.Sound.{IsInRange, IsSound}
@@ -32,7 +34,7 @@ use Rattle.oxc_sourcemap_parts.specs.DecodedMap.{DecodedSource, DecodedMapping, 
 use Rattle.oxc_sourcemap_parts.specs.DecodedMap.{sources_of, mapping_of, decoded_map_of}
 use Rattle.oxc_sourcemap_json.specs.Decoded.{decoded}
 use Rattle.oxc_sourcemap_json.specs.Encoded.{encoded, encoded_record, written_contents}
-use Rattle.oxc_sourcemap_mappings.specs.Pieces.{writing_fault}
+use Rattle.oxc_sourcemap_mappings.specs.ChunkTexts.{writing_fault}
 use Rattle.oxc_sourcemap_laws.specs.MapLaws.{SoundIsWritten, SoundIsTooLarge, SoundReadsBack}
 use Rattle.oxc_sourcemap_laws.specs.MapLaws.{SoundStaysSound, rewritten}
 use Rattle.oxc_sourcemap_tokens.specs.declared.position.Position.{Position}
@@ -56,8 +58,9 @@ use Rattle.oxc_sourcemap_laws.specs.JoinLaws.{decoded_maps_of, AllStandFor}
 use Rattle.oxc_sourcemap_laws.specs.ComposeLaws.{CompositionStandsFor, CompositionNames}
 use Rattle.oxc_sourcemap_laws.specs.ComposeLaws.{CompositionTokens, CompositionTooLarge}
 use Rattle.oxc_sourcemap_laws.specs.ComposeLaws.{CompositionInBounds}
-use Rattle.oxc_sourcemap_tokens.specs.declared.plan_error.PlanError.{PlanError}
-use Rattle.oxc_sourcemap_tokens.specs.declared.plan_error.PlanError.TheVariants.{Map, Unsorted}
+use Rattle.oxc_sourcemap_tokens.specs.declared.errors.plan_error.PlanError.{PlanError}
+use Rattle.oxc_sourcemap_tokens.specs.declared.errors.plan_error.PlanError.TheVariants.{Map}
+use Rattle.oxc_sourcemap_tokens.specs.declared.errors.plan_error.PlanError.TheVariants.{Unsorted}
 use Rattle.oxc_sourcemap_plan.specs.Meaning.{read_meaning, onto_decoded_maps, all_decoded_maps}
 use Rattle.oxc_sourcemap_plan.specs.Meaning.{join_meaning, composition_meaning}
 use Rattle.oxc_sourcemap_plan.specs.Limits.{are_counts_within_limits, is_position_within_limits}

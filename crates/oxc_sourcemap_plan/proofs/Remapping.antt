@@ -4,8 +4,8 @@ use Rattle.std.proofs.Common.{ap, ◌∙◌, subst, arith, Some, option_map, Ok,
 use Rattle.std.specs.Option.{option_and_then}
 use Rattle.std.proofs.lemmas.Bool.{and_parts, and_left, and_right, false_from_ne_true, both_ways}
 use Rattle.std.proofs.lemmas.List.{length-append, length-map}
-use Rattle.oxc_sourcemap_tokens.specs.declared.error.Error.{Error}
-use Rattle.oxc_sourcemap_tokens.specs.declared.error.Error.TheVariants.{TooLarge}
+use Rattle.oxc_sourcemap_tokens.specs.declared.errors.error.Error.{Error}
+use Rattle.oxc_sourcemap_tokens.specs.declared.errors.error.Error.TheVariants.{TooLarge}
 use Rattle.oxc_sourcemap_tokens.specs.Token.{AreInBounds}
 use Rattle.oxc_sourcemap_parts.specs.Record.{Text, MapRecord}
 use Rattle.oxc_sourcemap_parts.specs.Roots.{rooted}
@@ -19,8 +19,8 @@ use Rattle.oxc_sourcemap_laws.specs.RemapLaws.{names_of_inputs, RemappingNames, 
 use Rattle.oxc_sourcemap_laws.specs.RemapLaws.{SortedInputsGoOn, RemappingAnswered}
 use Rattle.oxc_sourcemap_laws.specs.RemapLaws.{RemappingTooLarge, AreInputsInBounds}
 use Rattle.oxc_sourcemap_laws.specs.RemapLaws.{RemappingInBounds}
-use Rattle.oxc_sourcemap_tokens.specs.declared.plan_error.PlanError.{PlanError}
-use Rattle.oxc_sourcemap_tokens.specs.declared.plan_error.PlanError.TheVariants.{Map}
+use Rattle.oxc_sourcemap_tokens.specs.declared.errors.plan_error.PlanError.{PlanError}
+use Rattle.oxc_sourcemap_tokens.specs.declared.errors.plan_error.PlanError.TheVariants.{Map}
 use Rattle.oxc_sourcemap_plan.specs.Meaning.{root_meaning, onto_inputs, all_inputs, remap_meaning}
 use Rattle.oxc_sourcemap_plan.specs.Limits.{is_part_within_limits}
 use Rattle.oxc_sourcemap_plan.specs.Outcome.{Outcome, root_outcome, input_meanings}

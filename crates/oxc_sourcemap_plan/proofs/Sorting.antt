@@ -9,8 +9,9 @@ use Rattle.std.proofs.lemmas.Bool.{both_ways}
 use Rattle.std.proofs.lemmas.Bool.Decides.{nat_tests}
 use Rattle.std.proofs.lemmas.List.{length-map}
 use Rattle.std.proofs.lemmas.List.Elements.{recursion_from_All, All-from_recursion}
-use Rattle.oxc_sourcemap_tokens.specs.declared.error.Error.{Error}
-use Rattle.oxc_sourcemap_tokens.specs.declared.error.Error.TheVariants.{OutOfMemory, TooLarge}
+use Rattle.oxc_sourcemap_tokens.specs.declared.errors.error.Error.{Error}
+use Rattle.oxc_sourcemap_tokens.specs.declared.errors.error.Error.TheVariants.{OutOfMemory}
+use Rattle.oxc_sourcemap_tokens.specs.declared.errors.error.Error.TheVariants.{TooLarge}
 use Rattle.oxc_sourcemap_tokens.specs.Errors.{unless}
 use Rattle.oxc_sourcemap_tokens.specs.Chunks.{ChunksFit}
 use Rattle.oxc_sourcemap_tokens.specs.Token.{IsInBounds, AreInBounds}
@@ -24,9 +25,9 @@ use Rattle.oxc_sourcemap_tokens.specs.declared.position.Position.{Position}
 use Rattle.oxc_sourcemap_join.specs.Joined.{joined}
 use Rattle.oxc_sourcemap_json.specs.Sections.{Sections, joined_sections}
 use Rattle.oxc_sourcemap_json.specs.JoinLimits.{is_map_within_limits}
-use Rattle.oxc_sourcemap_json.specs.ReadMap.{Said, plain, indexed, indexed_record, map_said}
-use Rattle.oxc_sourcemap_json.specs.ReadMap.{said_in, read_map}
-use Rattle.oxc_sourcemap_json.proofs.WellRead.{IsWellRead, sections_well, read_is_said, read_well}
+use Rattle.oxc_sourcemap_json.specs.ReadMap.{ReadForm, plain, indexed, indexed_record, map_of_form}
+use Rattle.oxc_sourcemap_json.specs.ReadMap.{form_of_text, read_map}
+use Rattle.oxc_sourcemap_json.proofs.WellRead.{IsWellRead, sections_well, read_is_form, read_well}
 use Rattle.oxc_sourcemap_laws.specs.Repeats.{decoded_map_without_repeats, without_repeats}
 use Rattle.oxc_sourcemap_laws.specs.Repeats.{is_same_mapping, EqualUpToRepeats}
 use Rattle.oxc_sourcemap_laws.specs.JoinedDecodedMaps.{joined_decoded_maps}
@@ -40,7 +41,7 @@ use Rattle.oxc_sourcemap_steps.specs.Sorting.{put_in, sorted_by, sorted_tokens, 
 use Rattle.oxc_sourcemap_steps.specs.Sorting.{sorted_decoded_map}
 use Rattle.oxc_sourcemap_steps.proofs.Sorting.{precedes, sorted-once}
 use Rattle.oxc_sourcemap_steps.proofs.Lookups.{decoded-sorted}
-use Rattle.oxc_sourcemap_tokens.specs.declared.plan_error.PlanError.TheVariants.{Map}
+use Rattle.oxc_sourcemap_tokens.specs.declared.errors.plan_error.PlanError.TheVariants.{Map}
 use Rattle.oxc_sourcemap_plan.specs.Outcome.{sorted_outcome, sorted_plain_outcome}
 use Rattle.oxc_sourcemap_plan.specs.Outcome.{sorted_sections_outcome, names_of_sections}
 use Rattle.oxc_sourcemap_plan.specs.Evaluated.{are_among}
@@ -203,8 +204,8 @@ sorted-sections laws file ms well k =
     }
 
 -- ---- by the value that is read
-gives : (laws : JoinLaws) (said : Said) (r : MapRecord) → ((file : Option Text) (found : Sections) → said ≡ indexed file found → AllByRecursion (λ m. IsWellRead m.0) found.maps)
-    → map_said said ≡ Ok r → IsSortedRead r (sorted_map r) → Realizes (sorted_map r) (sorted_outcome said)
+gives : (laws : JoinLaws) (form : ReadForm) (r : MapRecord) → ((file : Option Text) (found : Sections) → form ≡ indexed file found → AllByRecursion (λ m. IsWellRead m.0) found.maps)
+    → map_of_form form ≡ Ok r → IsSortedRead r (sorted_map r) → Realizes (sorted_map r) (sorted_outcome form)
 gives laws (plain answer) r w e k = subst (λ a. Realizes (sorted_map r) (sorted_plain_outcome a)) (sym e) (sorted-plain r k)
 gives laws (indexed file found) r w e k =
     let j = joined-of file (joined_sections found) r e in
@@ -214,8 +215,8 @@ gives laws (indexed file found) r w e k =
     (subst (λ m. Realizes (sorted_map m) (sorted_sections_outcome file None found.maps)) is
     (sorted-sections laws file found.maps (w file found refl) (subst (λ m. IsSortedRead m (sorted_map m)) (sym is) k)))
 
-error : (laws : JoinLaws) (said : Said) (e : Error) → ((file : Option Text) (found : Sections) → said ≡ indexed file found → AllByRecursion (λ m. IsWellRead m.0) found.maps)
-    → map_said said ≡ Err e → FailsAs (Map e) (sorted_outcome said)
+error : (laws : JoinLaws) (form : ReadForm) (e : Error) → ((file : Option Text) (found : Sections) → form ≡ indexed file found → AllByRecursion (λ m. IsWellRead m.0) found.maps)
+    → map_of_form form ≡ Err e → FailsAs (Map e) (sorted_outcome form)
 error laws (plain answer) e w h = subst (λ a. FailsAs (Map e) (sorted_plain_outcome a)) (sym h) (inr (inl refl))
 error laws (indexed file found) e w h =
     let j : joined_sections found ≡ Err e = error-of file (joined_sections found) e h in
@@ -226,10 +227,10 @@ error laws (indexed file found) e w h =
     ] refl j
 
 -- ---- by the text that is read
-pub sorted_gives : JoinLaws → (text : Text) (r : MapRecord) → read_map text ≡ Ok r → Realizes (sorted_map r) (sorted_outcome (said_in text))
+pub sorted_gives : JoinLaws → (text : Text) (r : MapRecord) → read_map text ≡ Ok r → Realizes (sorted_map r) (sorted_outcome (form_of_text text))
 sorted_gives laws text r e =
     let well = read_well text r e in
-    gives laws (said_in text) r (sections_well text) (sym (read_is_said text) ∙ e) (sorted-read r well.in_range well.chunks well.in_bounds)
+    gives laws (form_of_text text) r (sections_well text) (sym (read_is_form text) ∙ e) (sorted-read r well.in_range well.chunks well.in_bounds)
 
-pub sorted_error : JoinLaws → (text : Text) (e : Error) → ((e ≢ OutOfMemory) → read_map text ≡ Err e) → FailsAs (Map e) (sorted_outcome (said_in text))
-sorted_error laws text e q = unless_memory e (sorted_outcome (said_in text)) (λ n. error laws (said_in text) e (sections_well text) (sym (read_is_said text) ∙ q n))
+pub sorted_error : JoinLaws → (text : Text) (e : Error) → ((e ≢ OutOfMemory) → read_map text ≡ Err e) → FailsAs (Map e) (sorted_outcome (form_of_text text))
+sorted_error laws text e q = unless_memory e (sorted_outcome (form_of_text text)) (λ n. error laws (form_of_text text) e (sections_well text) (sym (read_is_form text) ∙ q n))

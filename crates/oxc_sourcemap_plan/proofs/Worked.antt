@@ -1,18 +1,20 @@
--- Worked examples of what plans mean, and of their words and texts, computed by the definitions themselves.
+-- Worked examples of what plans mean, computed by the definitions themselves.
 use Rattle.std.specs.Prelude.{◌≡◌, refl, ℕ, true, false, List, [], ◌∷◌, codes, Option, Some, None}
 use Rattle.std.specs.Prelude.{Ok, Err}
-use Rattle.oxc_sourcemap_tokens.specs.declared.error.Error.TheVariants.{BadJson, SeveralSources}
-use Rattle.oxc_sourcemap_tokens.specs.declared.error.JsonFault.TheVariants.{Reading}
+use Rattle.oxc_sourcemap_tokens.specs.declared.errors.error.Error.TheVariants.{BadJson}
+use Rattle.oxc_sourcemap_tokens.specs.declared.errors.error.Error.TheVariants.{SeveralSources}
+use Rattle.oxc_sourcemap_tokens.specs.declared.errors.error.JsonFault.TheVariants.{Reading}
 use Rattle.oxc_sourcemap_tokens.specs.Token.{TokenRecord}
 use Rattle.oxc_sourcemap_parts.specs.Record.{Text, MapRecord}
 use Rattle.oxc_sourcemap_parts.specs.Views.{empty_record}
 use Rattle.oxc_sourcemap_parts.specs.DecodedMap.{DecodedMapping}
-use Rattle.oxc_sourcemap_tokens.specs.declared.plan_error.PlanError.TheVariants.{Map, Unsorted}
+use Rattle.oxc_sourcemap_tokens.specs.declared.errors.plan_error.PlanError.TheVariants.{Map}
+use Rattle.oxc_sourcemap_tokens.specs.declared.errors.plan_error.PlanError.TheVariants.{Unsorted}
 use Rattle.oxc_sourcemap_join.specs.Joined.{at_lines}
 use Rattle.oxc_sourcemap_plan.specs.Meaning.{Meaning}
 use Rattle.oxc_sourcemap_plan.specs.Outcome.{Outcome, plain_outcome, rewrite_outcome, join_outcome}
-use Rattle.oxc_sourcemap_plan.specs.Outcome.{sorted_plain_outcome, simplified_outcome}
-use Rattle.oxc_sourcemap_plan.specs.Outcome.{root_outcome, composition_outcome, remap_outcome}
+use Rattle.oxc_sourcemap_plan.specs.Outcome.{sorted_plain_outcome, simplified_outcome, root_outcome}
+use Rattle.oxc_sourcemap_plan.specs.Outcome.{composition_outcome, remap_outcome}
 
 -- a token: generated line and column, source line and column, source id, name id
 abbrev token : ℕ → ℕ → ℕ → ℕ → Option ℕ → Option ℕ → TokenRecord

@@ -11,9 +11,9 @@ use Rattle.oxc_sourcemap_laws.specs.Repeats.{EqualUpToRepeats, EqualButForMappin
 use Rattle.oxc_sourcemap_json.specs.Encoded.{encoded, encoded_record}
 use Rattle.oxc_sourcemap_laws.specs.MapLaws.{ComesBack}
 use Rattle.oxc_sourcemap_laws.specs.JoinLaws.{HaveSameTraces}
-use Rattle.oxc_sourcemap_tokens.specs.declared.plan_error.PlanError.{PlanError}
-use Rattle.oxc_sourcemap_tokens.specs.declared.plan_error.PlanError.TheVariants.{Map}
-use Rattle.oxc_sourcemap_tokens.specs.declared.error.Error.TheVariants.{TooLarge}
+use Rattle.oxc_sourcemap_tokens.specs.declared.errors.plan_error.PlanError.{PlanError}
+use Rattle.oxc_sourcemap_tokens.specs.declared.errors.plan_error.PlanError.TheVariants.{Map}
+use Rattle.oxc_sourcemap_tokens.specs.declared.errors.error.Error.TheVariants.{TooLarge}
 use Rattle.oxc_sourcemap_plan.specs.Meaning.{Meaning}
 use Rattle.oxc_sourcemap_plan.specs.Outcome.{Outcome}
 

@@ -2,15 +2,15 @@
 use Rattle.std.specs.Prelude.{List, [], ◌∷◌, length, map, Option, Some, None, Result, Ok, Err}
 use Rattle.std.specs.Prelude.{if◌then◌else◌, nat_le, nat_lt}
 use Rattle.std.specs.Borrow.{Bor}
-use Rattle.oxc_sourcemap_tokens.specs.declared.error.Error.{Error}
-use Rattle.oxc_sourcemap_tokens.specs.declared.error.Error.TheVariants.{SeveralSources}
+use Rattle.oxc_sourcemap_tokens.specs.declared.errors.error.Error.{Error}
+use Rattle.oxc_sourcemap_tokens.specs.declared.errors.error.Error.TheVariants.{SeveralSources}
 use Rattle.oxc_sourcemap_parts.specs.Record.{Text, MapRecord}
 use Rattle.oxc_sourcemap_parts.specs.Sorted.{are_tokens_sorted}
 use Rattle.oxc_sourcemap_parts.specs.DecodedMap.{DecodedMap, decoded_map_of}
 use Rattle.oxc_sourcemap_steps.specs.Sorting.{sorted_decoded_map}
 use Rattle.oxc_sourcemap_tokens.specs.declared.position.Position.{Position}
 use Rattle.oxc_sourcemap_join.specs.Joined.{at_lines, at_positions}
-use Rattle.oxc_sourcemap_json.specs.ReadMap.{Said, plain, indexed, said_in}
+use Rattle.oxc_sourcemap_json.specs.ReadMap.{ReadForm, plain, indexed, form_of_text}
 use Rattle.oxc_sourcemap_laws.specs.Repeats.{is_sorted_decoded_map}
 use Rattle.oxc_sourcemap_laws.specs.JoinedDecodedMaps.{joined_decoded_maps}
 use Rattle.oxc_sourcemap_laws.specs.JoinLaws.{decoded_maps_of}
@@ -18,9 +18,10 @@ use Rattle.oxc_sourcemap_laws.specs.ComposedDecodedMaps.{composed_decoded_maps}
 use Rattle.oxc_sourcemap_laws.specs.RemappedDecodedMaps.{remapped_decoded_map}
 use Rattle.oxc_sourcemap_laws.specs.RootedDecodedMaps.{rooted_decoded_map}
 use Rattle.oxc_sourcemap_steps.specs.Simplified.{simplified_decoded_map}
-use Rattle.oxc_sourcemap_tokens.specs.declared.plan_error.PlanError.{PlanError}
-use Rattle.oxc_sourcemap_tokens.specs.declared.plan_error.PlanError.TheVariants.{Map, Unsorted}
-use Rattle.oxc_sourcemap_tokens.specs.declared.plan_error.PlanError.TheVariants.{TooDeep}
+use Rattle.oxc_sourcemap_tokens.specs.declared.errors.plan_error.PlanError.{PlanError}
+use Rattle.oxc_sourcemap_tokens.specs.declared.errors.plan_error.PlanError.TheVariants.{Map}
+use Rattle.oxc_sourcemap_tokens.specs.declared.errors.plan_error.PlanError.TheVariants.{Unsorted}
+use Rattle.oxc_sourcemap_tokens.specs.declared.errors.plan_error.PlanError.TheVariants.{TooDeep}
 use Rattle.oxc_sourcemap_plan.specs.declared.plan.Plan.{Plan}
 use Rattle.oxc_sourcemap_plan.specs.declared.plan.Plan.TheOpen.{Plan-F}
 use Rattle.oxc_sourcemap_plan.specs.declared.plan.Plan.TheFolds.{fold-Plan}
@@ -41,12 +42,12 @@ indexed_meaning file (Some fault) s = Err (Map fault)
 indexed_meaning file None s = if is_sorted_decoded_map s then Ok (record s { file = file }) else Err Unsorted
 
 -- the meaning of a text, by how it is read
-abbrev pub said_meaning : Said → Meaning
-said_meaning (plain answer) = read_meaning answer
-said_meaning (indexed file found) = indexed_meaning file found.fault (joined_decoded_maps (decoded_maps_of found.maps))
+abbrev pub form_meaning : ReadForm → Meaning
+form_meaning (plain answer) = read_meaning answer
+form_meaning (indexed file found) = indexed_meaning file found.fault (joined_decoded_maps (decoded_maps_of found.maps))
 
 abbrev pub text_meaning : Text → Meaning
-text_meaning text = said_meaning (said_in text)
+text_meaning text = form_meaning (form_of_text text)
 
 -- the meaning of a map that is read by itself and sorted
 abbrev pub sorted_read_meaning : Result MapRecord Error → Meaning
@@ -60,12 +61,12 @@ sorted_indexed_meaning file (Some fault) s = Err (Map fault)
 sorted_indexed_meaning file None s = Ok (sorted_decoded_map (record s { file = file }))
 
 -- the meaning of a text that is read and sorted, by how it is read
-abbrev pub sorted_said_meaning : Said → Meaning
-sorted_said_meaning (plain answer) = sorted_read_meaning answer
-sorted_said_meaning (indexed file found) = sorted_indexed_meaning file found.fault (joined_decoded_maps (decoded_maps_of found.maps))
+abbrev pub sorted_form_meaning : ReadForm → Meaning
+sorted_form_meaning (plain answer) = sorted_read_meaning answer
+sorted_form_meaning (indexed file found) = sorted_indexed_meaning file found.fault (joined_decoded_maps (decoded_maps_of found.maps))
 
 abbrev pub sorted_text_meaning : Text → Meaning
-sorted_text_meaning text = sorted_said_meaning (said_in text)
+sorted_text_meaning text = sorted_form_meaning (form_of_text text)
 
 -- the meaning of a step that applies the source root
 abbrev pub root_meaning : Meaning → Meaning

@@ -1,10 +1,10 @@
--- The outcome of a plan, by cases: all that is said of it. What it means (as `Meaning` has it by itself), the map that its steps
+-- The outcome of a plan, by cases: all that is form of it. What it means (as `Meaning` has it by itself), the map that its steps
 -- make, what bounds its counts, and whether it is within the limits.
 use Rattle.std.specs.Prelude.{ℕ, Bool, true, false, ◌&&◌, List, [], ◌∷◌, ◌++◌, length, map, Option}
 use Rattle.std.specs.Prelude.{Some, None, Result, Ok, Err, if◌then◌else◌, nat_le}
 use Rattle.std.specs.List.{flat_map, list_all}
 use Rattle.std.specs.Option.{option_map, option_and_then}
-use Rattle.oxc_sourcemap_tokens.specs.declared.error.Error.{Error}
+use Rattle.oxc_sourcemap_tokens.specs.declared.errors.error.Error.{Error}
 use Rattle.oxc_sourcemap_parts.specs.Record.{Text, MapRecord}
 use Rattle.oxc_sourcemap_parts.specs.Roots.{rooted}
 use Rattle.oxc_sourcemap_parts.specs.DecodedMap.{DecodedMap}
@@ -15,14 +15,14 @@ use Rattle.oxc_sourcemap_steps.specs.Simplified.{simplified}
 use Rattle.oxc_sourcemap_steps.specs.Sorting.{sorted_map}
 use Rattle.oxc_sourcemap_tokens.specs.declared.position.Position.{Position}
 use Rattle.oxc_sourcemap_join.specs.Joined.{at_lines, at_positions, joined}
-use Rattle.oxc_sourcemap_json.specs.ReadMap.{Said, plain, indexed, indexed_record, said_in}
+use Rattle.oxc_sourcemap_json.specs.ReadMap.{ReadForm, plain, indexed, indexed_record, form_of_text}
 use Rattle.oxc_sourcemap_laws.specs.JoinedDecodedMaps.{joined_decoded_maps}
 use Rattle.oxc_sourcemap_laws.specs.JoinLaws.{decoded_maps_of}
 use Rattle.oxc_sourcemap_plan.specs.declared.plan.Plan.{Plan}
 use Rattle.oxc_sourcemap_plan.specs.declared.plan.Plan.TheOpen.{Plan-F}
 use Rattle.oxc_sourcemap_plan.specs.declared.plan.Plan.TheFolds.{fold-Plan}
-use Rattle.oxc_sourcemap_tokens.specs.declared.plan_error.PlanError.{PlanError}
-use Rattle.oxc_sourcemap_tokens.specs.declared.plan_error.PlanError.TheVariants.{TooDeep}
+use Rattle.oxc_sourcemap_tokens.specs.declared.errors.plan_error.PlanError.{PlanError}
+use Rattle.oxc_sourcemap_tokens.specs.declared.errors.plan_error.PlanError.TheVariants.{TooDeep}
 use Rattle.oxc_sourcemap_plan.specs.Depth.{depth}
 use Rattle.oxc_sourcemap_plan.specs.Meaning.{Meaning, read_meaning, indexed_meaning, root_meaning}
 use Rattle.oxc_sourcemap_plan.specs.Meaning.{all_decoded_maps, join_meaning, composition_meaning}
@@ -99,7 +99,7 @@ sections_outcome file fault maps = record {
 }
 
 -- the outcome of a text that is read
-abbrev pub read_outcome : Said → Outcome
+abbrev pub read_outcome : ReadForm → Outcome
 read_outcome (plain answer) = plain_outcome answer
 read_outcome (indexed file found) = sections_outcome file found.fault found.maps
 
@@ -119,7 +119,7 @@ sorted_sections_outcome file fault maps = record (sections_outcome file fault ma
 }
 
 -- the outcome of a text that is read and sorted
-abbrev pub sorted_outcome : Said → Outcome
+abbrev pub sorted_outcome : ReadForm → Outcome
 sorted_outcome (plain answer) = sorted_plain_outcome answer
 sorted_outcome (indexed file found) = sorted_sections_outcome file found.fault found.maps
 
@@ -224,8 +224,8 @@ remap_outcome first inputs = record {
 
 -- the cases of a plan, by the outcomes of its parts
 abbrev pub outcome_step : Plan-F Outcome → Outcome
-outcome_step (Plan-F.Read text) = read_outcome (said_in text.now)
-outcome_step (Plan-F.ReadSorted text) = sorted_outcome (said_in text.now)
+outcome_step (Plan-F.Read text) = read_outcome (form_of_text text.now)
+outcome_step (Plan-F.ReadSorted text) = sorted_outcome (form_of_text text.now)
 outcome_step (Plan-F.Rewrite part) = rewrite_outcome part.value
 outcome_step (Plan-F.ApplyRoot part) = root_outcome part.value
 outcome_step (Plan-F.Simplify part) = simplified_outcome part.value

@@ -4,13 +4,14 @@ use Rattle.std.specs.Prelude.{Bool, true, Ok, Err, IfSome, IsSomeAnd, ⊤}
 use Rattle.std.specs.List.{flat_map}
 use Rattle.serde_json.specs.Data.{Data}
 use Rattle.serde_json.specs.Read.{read}
-use Rattle.oxc_sourcemap_tokens.specs.declared.error.Error.{Error}
-use Rattle.oxc_sourcemap_tokens.specs.declared.error.Error.TheVariants.{SeveralSources, OutOfMemory}
-use Rattle.oxc_sourcemap_tokens.specs.declared.plan_error.PlanError.{PlanError}
-use Rattle.oxc_sourcemap_tokens.specs.declared.plan_error.PlanError.TheVariants.{Map}
+use Rattle.oxc_sourcemap_tokens.specs.declared.errors.error.Error.{Error}
+use Rattle.oxc_sourcemap_tokens.specs.declared.errors.error.Error.TheVariants.{SeveralSources}
+use Rattle.oxc_sourcemap_tokens.specs.declared.errors.error.Error.TheVariants.{OutOfMemory}
+use Rattle.oxc_sourcemap_tokens.specs.declared.errors.plan_error.PlanError.{PlanError}
+use Rattle.oxc_sourcemap_tokens.specs.declared.errors.plan_error.PlanError.TheVariants.{Map}
 use Rattle.oxc_sourcemap_parts.specs.Record.{Text, MapRecord}
 use Rattle.oxc_sourcemap_json.specs.ReadMap.{read_map}
-use Rattle.oxc_sourcemap_tokens.specs.declared.fault.FaultPlace.{FaultPlace}
+use Rattle.oxc_sourcemap_tokens.specs.declared.errors.fault.FaultPlace.{FaultPlace}
 use Rattle.oxc_sourcemap_json.specs.ValuePlaces.{value_place, IsReading}
 use Rattle.oxc_sourcemap_plan.specs.declared.fault.PlanFault.{PlanFault}
 use Rattle.oxc_sourcemap_plan.specs.declared.plan.Plan.{Plan}
@@ -85,7 +86,7 @@ IsOfReading e = ⊤
 abbrev pub IsTextFault : PlanError → Text → FaultPlace → Type 0
 IsTextFault error text place = (e : Error) × (error ≡ Map e) × (read_map text ≡ Err e) × IsTextPlace text place
 
--- a fault tells the text that it comes from
+-- the text that a fault tells, if it tells one, has it
 abbrev pub TellsText : PlanFault → Type 0
 TellsText f = IfSome f.at (λ at. IsTextFault f.error at.0.now at.1)
 
@@ -93,7 +94,7 @@ TellsText f = IfSome f.at (λ at. IsTextFault f.error at.0.now at.1)
 abbrev pub IsOfNoText : Bool → PlanError → Type 0
 IsOfNoText is_within_limits error = is_within_limits ≡ true → (e : Error) → error ≡ Map e → ¬ (IsOfReading e)
 
--- A fault, unless it is want of memory, tells the text that it comes from, or comes from none.
+-- A fault, unless it is want of memory, tells a text that cannot be read and has this error, or it comes from no text.
 abbrev pub IsTold : Bool → PlanFault → Type 0
 IsTold is_within_limits f =
     (f.error ≢ Map OutOfMemory) → TellsText f × (f.at ≡ None → IsOfNoText is_within_limits f.error)

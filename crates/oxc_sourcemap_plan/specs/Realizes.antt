@@ -1,7 +1,7 @@
 -- The results of the private steps of an evaluation, by the outcomes of parts. No public contract cites this.
 use Rattle.std.specs.Prelude.{◌≡◌, ◌≤◌, true, List, length, Ok, Some, None, ◌⊎◌}
 use Rattle.std.specs.List.{AllZip}
-use Rattle.oxc_sourcemap_tokens.specs.declared.error.Error.TheVariants.{OutOfMemory}
+use Rattle.oxc_sourcemap_tokens.specs.declared.errors.error.Error.TheVariants.{OutOfMemory}
 use Rattle.oxc_sourcemap_tokens.specs.Token.{AreInBounds}
 use Rattle.oxc_sourcemap_parts.specs.Record.{Text, MapRecord}
 use Rattle.oxc_sourcemap_parts.specs.Views.{record_of_parts}
@@ -10,8 +10,8 @@ use Rattle.oxc_sourcemap_parts.specs.DecodedMap.{DecodedMap}
 use Rattle.oxc_sourcemap_laws.specs.MapLaws.{rewritten}
 use Rattle.oxc_sourcemap_tokens.specs.declared.position.Position.{Position}
 use Rattle.oxc_sourcemap_laws.specs.JoinLaws.{StandsFor}
-use Rattle.oxc_sourcemap_tokens.specs.declared.plan_error.PlanError.{PlanError}
-use Rattle.oxc_sourcemap_tokens.specs.declared.plan_error.PlanError.TheVariants.{Map}
+use Rattle.oxc_sourcemap_tokens.specs.declared.errors.plan_error.PlanError.{PlanError}
+use Rattle.oxc_sourcemap_tokens.specs.declared.errors.plan_error.PlanError.TheVariants.{Map}
 use Rattle.oxc_sourcemap_plan.specs.Outcome.{Outcome}
 use Rattle.oxc_sourcemap_plan.specs.Evaluated.{are_among, IsErrorOf}
 

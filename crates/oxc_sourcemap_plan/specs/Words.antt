@@ -1,5 +1,5 @@
 -- The words of this crate's clauses, from one place.
-pub use Rattle.oxc_sourcemap_json.specs.ReadMap.{said_in}
+pub use Rattle.oxc_sourcemap_json.specs.ReadMap.{form_of_text}
 pub use Rattle.oxc_sourcemap_join.specs.Joined.{at_lines, at_positions, owned_records}
 pub use Rattle.oxc_sourcemap_parts.specs.Record.{Text}
 pub use Rattle.oxc_sourcemap_steps.specs.Sorting.{sorted_map}
@@ -7,9 +7,10 @@ pub use Rattle.oxc_sourcemap_steps.specs.Inputs.{owned_input_records}
 pub use Rattle.oxc_sourcemap_parts.specs.Sorted.{are_tokens_sorted}
 pub use Rattle.oxc_sourcemap_parts.specs.Views.{record_of_parts}
 pub use Rattle.oxc_sourcemap_tokens.specs.Results.{Gives, OnlyMemory, lent_items, lent_item}
-pub use Rattle.oxc_sourcemap_tokens.specs.declared.error.Error.{Error}
-pub use Rattle.oxc_sourcemap_tokens.specs.declared.error.Error.TheVariants.{OutOfMemory}
-pub use Rattle.oxc_sourcemap_tokens.specs.declared.plan_error.PlanError.TheVariants.{Map, Unsorted}
+pub use Rattle.oxc_sourcemap_tokens.specs.declared.errors.error.Error.{Error}
+pub use Rattle.oxc_sourcemap_tokens.specs.declared.errors.error.Error.TheVariants.{OutOfMemory}
+pub use Rattle.oxc_sourcemap_tokens.specs.declared.errors.plan_error.PlanError.TheVariants.{Map}
+pub use Rattle.oxc_sourcemap_tokens.specs.declared.errors.plan_error.PlanError.TheVariants.{Unsorted}
 pub use Rattle.oxc_sourcemap_tokens.specs.declared.position.Position.{Position}
 pub use Rattle.oxc_sourcemap_plan.specs.Depth.{depth, deepest}
 pub use Rattle.oxc_sourcemap_plan.specs.Evaluated.{IsEvaluated, HasOutcome, IsErrorOf}

@@ -49,7 +49,7 @@ fn texts_fault_at(alloc: Global, texts: &[&str], error: Error) -> Result<Option<
 }
 
 /// Where the evaluation of a plan failed with this error, which `evaluate` returned, by a text that it could not read: the place in
-/// that text, as `json_fault_at` gives it. Its number counts the texts of the plan in the order of `plan_texts`. None for an error
+/// that text, as `json_fault_at` gives it. Its number counts the texts of the plan in the order of its words. None for an error
 /// that comes from no text. If no part passes a limit, there is a place for each error that the plan means but `Unsorted`,
 /// `TooDeep` and `SeveralSources`.
 ///

@@ -10,7 +10,7 @@ ghost use Rattle.oxc_sourcemap_plan.specs.Words.{at_lines, at_positions, meaning
 ghost use Rattle.oxc_sourcemap_plan.specs.Words.{is_within_limits, InputsRealize};
 ghost use Rattle.oxc_sourcemap_plan.specs.Words.{owned_input_records, IsEvaluated, HasOutcome};
 ghost use Rattle.oxc_sourcemap_plan.specs.Words.{IsErrorOf, PartsRealize, FailsAs, AllRealize};
-ghost use Rattle.oxc_sourcemap_plan.specs.Words.{OutOfMemory, said_in, are_tokens_sorted, Map};
+ghost use Rattle.oxc_sourcemap_plan.specs.Words.{OutOfMemory, form_of_text, are_tokens_sorted, Map};
 ghost use Rattle.oxc_sourcemap_plan.specs.Words.{Unsorted, record_of_parts, owned_records, IsTold};
 ghost use Rattle.oxc_sourcemap_plan.specs.Words.{sorted_map};
 
@@ -134,9 +134,9 @@ fn sort(alloc: Global, map: SourceMapParts<'static>) -> Memory<SourceMapParts<'s
 /// The map of a JSON text, if it is sorted.
 #[inline(never)]
 fn read<'t>(alloc: Global, text: &'t str) -> Result<SourceMapParts<'static>, PlanFault<'t>>
-    ensures map { IfOk result (λ map. PartsRealize map (read_outcome (said_in text.now))) }
-    ensures error { IfErr result (λ f. FailsAs f.error (read_outcome (said_in text.now))) }
-    ensures told { IfErr result (IsTold (read_outcome (said_in text.now)).is_within_limits) }
+    ensures map { IfOk result (λ map. PartsRealize map (read_outcome (form_of_text text.now))) }
+    ensures error { IfErr result (λ f. FailsAs f.error (read_outcome (form_of_text text.now))) }
+    ensures told { IfErr result (IsTold (read_outcome (form_of_text text.now)).is_within_limits) }
 {
     canonical_unique();
     dropping_harmless();
@@ -149,9 +149,9 @@ fn read<'t>(alloc: Global, text: &'t str) -> Result<SourceMapParts<'static>, Pla
 /// The map of a JSON text, sorted.
 #[inline(never)]
 fn read_sorted<'t>(alloc: Global, text: &'t str) -> Result<SourceMapParts<'static>, PlanFault<'t>>
-    ensures map { IfOk result (λ map. PartsRealize map (sorted_outcome (said_in text.now))) }
-    ensures error { IfErr result (λ f. FailsAs f.error (sorted_outcome (said_in text.now))) }
-    ensures told { IfErr result (IsTold (sorted_outcome (said_in text.now)).is_within_limits) }
+    ensures map { IfOk result (λ map. PartsRealize map (sorted_outcome (form_of_text text.now))) }
+    ensures error { IfErr result (λ f. FailsAs f.error (sorted_outcome (form_of_text text.now))) }
+    ensures told { IfErr result (IsTold (sorted_outcome (form_of_text text.now)).is_within_limits) }
 {
     dropping_harmless();
     match read_parts_from_string(alloc, text) {

@@ -12,9 +12,9 @@ use Rattle.std.specs.Option.{option_map_or}
 use Rattle.oxc_sourcemap_tokens.specs.Token.{TokenRecord, AreInBounds}
 use Rattle.oxc_sourcemap_parts.specs.Sorted.{are_tokens_sorted}
 use Rattle.oxc_sourcemap_queries.specs.declared.pieces.cuts.Cut.{Cut}
-use Rattle.oxc_sourcemap_queries.specs.RangePieces.{place, line_of, index_at_place, runs_from}
+use Rattle.oxc_sourcemap_queries.specs.RangePieces.{place, line_of, index_at_position, runs_from}
 use Rattle.oxc_sourcemap_queries.specs.RangePieces.{piece_of, pieces_of, DoCover}
-use Rattle.oxc_sourcemap_queries.specs.Cuts.{token_place, holder, holder_before, passed_count}
+use Rattle.oxc_sourcemap_queries.specs.Cuts.{token_position, holder, holder_before, passed_count}
 use Rattle.oxc_sourcemap_queries.specs.Cuts.{line_end, end_before, run_end, cut_at, pieces_left}
 use Rattle.oxc_sourcemap_queries.specs.Cuts.{AreLeft, IsStart, no_token}
 use Rattle.oxc_sourcemap_queries.proofs.Order.{places-rise}
@@ -33,29 +33,29 @@ module _ (ts : List TokenRecord) (next p : ℕ) (within : next ≤ length ts) wh
   after = next + count
 
   pub after-within : after ≤ length ts
-  after-within = omega (arith, within, prefix_len-le-length (λ t. nat_le (token_place t) p) (drop next ts), length-drop next ts)
+  after-within = omega (arith, within, prefix_len-le-length (λ t. nat_le (token_position t) p) (drop next ts), length-drop next ts)
 
-  pub after-past : after < length ts → p < token_place (get_or ts after d)
+  pub after-past : after < length ts → p < token_position (get_or ts after d)
   after-past h =
-      let stops = prefix_len_stops (λ t. nat_le (token_place t) p) (drop next ts) d (omega (arith, h, length-drop next ts)) in
-      let is : nat_le (token_place (get_or ts after d)) p ≡ false = ap (λ t. nat_le (token_place t) p) (sym (get_or-drop next ts count d)) ∙ stops in
+      let stops = prefix_len_stops (λ t. nat_le (token_position t) p) (drop next ts) d (omega (arith, h, length-drop next ts)) in
+      let is : nat_le (token_position (get_or ts after d)) p ≡ false = ap (λ t. nat_le (token_position t) p) (sym (get_or-drop next ts count d)) ∙ stops in
       grind (arith, nat_tests, is)
 
-  passes : (i : ℕ) → next ≤ i → i < after → token_place (get_or ts i d) ≤ p
+  passes : (i : ℕ) → next ≤ i → i < after → token_position (get_or ts i d) ≤ p
   passes i low high =
-      let pass = prefix_len_passes (λ t. nat_le (token_place t) p) (drop next ts) (i - next) d (omega (arith, low, high)) in
+      let pass = prefix_len_passes (λ t. nat_le (token_position t) p) (drop next ts) (i - next) d (omega (arith, low, high)) in
       let same : next + (i - next) ≡ i = omega (arith, low) in
-      let is : nat_le (token_place (get_or ts i d)) p ≡ true = ap (λ t. nat_le (token_place t) p) (sym (get_or-drop next ts (i - next) d ∙ ap (λ j. get_or ts j d) same)) ∙ pass in
+      let is : nat_le (token_position (get_or ts i d)) p ≡ true = ap (λ t. nat_le (token_position t) p) (sym (get_or-drop next ts (i - next) d ∙ ap (λ j. get_or ts j d) same)) ∙ pass in
       grind (arith, nat_tests, is)
 
-  before-end : (end : ℕ) → p < end → (p < end_before ts after end) × (end_before ts after end ≤ end) × (after < length ts → end_before ts after end ≤ token_place (get_or ts after d))
-      × (end_before ts after end < end → (after < length ts) × (end_before ts after end ≡ token_place (get_or ts after d)))
+  before-end : (end : ℕ) → p < end → (p < end_before ts after end) × (end_before ts after end ≤ end) × (after < length ts → end_before ts after end ≤ token_position (get_or ts after d))
+      × (end_before ts after end < end → (after < length ts) × (end_before ts after end ≡ token_position (get_or ts after d)))
   before-end end some = elim (cases_lt after (length ts)) [
     | inl lt ↦
-        (let is = there (λ t. min (token_place t) end) end ts after d lt in
+        (let is = there (λ t. min (token_position t) end) end ts after d lt in
         (omega (arith, is, after-past lt, some), omega (arith, is), (λ _. omega (arith, is)), (λ less. (lt, omega (arith, is, less)))))
     | inr ge ↦
-        (let is = not_there (λ t. min (token_place t) end) end ts after ge in
+        (let is = not_there (λ t. min (token_position t) end) end ts after ge in
         (omega (arith, is, some), omega (arith, is), (λ lt. absurd (omega (arith, lt, ge))), (λ less. absurd (omega (arith, is, less)))))
   ]
 
@@ -129,20 +129,20 @@ before-below ts (suc n) p i h =
 
 found-near : (ts : List TokenRecord) (n p i : ℕ) → holder ts n p ≡ Some i → n ≤ i + 1
 found-near ts n p i h =
-    elim (option_map_or (λ t. token_place t == p) (slice_get ts n) false) as (λ c. (if c then Some n else holder_before ts n p) ≡ Some i → n ≤ i + 1) [
+    elim (option_map_or (λ t. token_position t == p) (slice_get ts n) false) as (λ c. (if c then Some n else holder_before ts n p) ≡ Some i → n ≤ i + 1) [
       | true ↦ (λ e. let same : n ≡ i = cc (e) in omega (arith, same))
       | false ↦ (λ e. omega (arith, before-below ts n p i e))
     ] h
 
-hit-here : (ts : List TokenRecord) (n p : ℕ) → n < length ts → token_place (get_or ts n d) ≡ p → holder ts n p ≡ Some n
+hit-here : (ts : List TokenRecord) (n p : ℕ) → n < length ts → token_position (get_or ts n d) ≡ p → holder ts n p ≡ Some n
 hit-here ts n p lt e =
-    let is : (token_place (get_or ts n d) == p) ≡ true = grind (arith, nat_tests, e) in
-    ap (λ c. if c then Some n else holder_before ts n p) (there (λ t. token_place t == p) false ts n d lt ∙ is)
+    let is : (token_position (get_or ts n d) == p) ≡ true = grind (arith, nat_tests, e) in
+    ap (λ c. if c then Some n else holder_before ts n p) (there (λ t. token_position t == p) false ts n d lt ∙ is)
 
-pub no-hit : (ts : List TokenRecord) (n p : ℕ) → (n < length ts → token_place (get_or ts n d) ≢ p) → holder ts n p ≡ holder_before ts n p
+pub no-hit : (ts : List TokenRecord) (n p : ℕ) → (n < length ts → token_position (get_or ts n d) ≢ p) → holder ts n p ≡ holder_before ts n p
 no-hit ts n p other = ap (λ c. if c then Some n else holder_before ts n p) (elim (cases_lt n (length ts)) [
-  | inl lt ↦ there (λ t. token_place t == p) false ts n d lt ∙ is_other_number _ p (other lt)
-  | inr ge ↦ not_there (λ t. token_place t == p) false ts n ge
+  | inl lt ↦ there (λ t. token_position t == p) false ts n d lt ∙ is_other_number _ p (other lt)
+  | inr ge ↦ not_there (λ t. token_position t == p) false ts n ge
 ])
 
 -- what is found before an index, by the line of the token there
@@ -155,7 +155,7 @@ pub off-line : (ts : List TokenRecord) (i p : ℕ) → i < length ts → (get_or
 off-line ts i p lt h = ap (λ c. if c then Some i else None) (there (λ t. t.dst_line == line_of p) false ts i d lt ∙ is_other_number _ _ h)
 
 -- the same is found before an index at a later place, up to the end of the line
-pub same-before : (ts : List TokenRecord) (n p q : ℕ) → n ≤ length ts → ((i : ℕ) → i < n → token_place (get_or ts i d) ≤ p) → p ≤ q → (is_some (holder_before ts n p) ≡ true → q < line_end p)
+pub same-before : (ts : List TokenRecord) (n p q : ℕ) → n ≤ length ts → ((i : ℕ) → i < n → token_position (get_or ts i d) ≤ p) → p ≤ q → (is_some (holder_before ts n p) ≡ true → q < line_end p)
     → holder_before ts n q ≡ holder_before ts n p
 same-before ts zero p q within low le line = refl
 same-before ts (suc i) p q within low le line =
@@ -185,17 +185,17 @@ module _ (ts : List TokenRecord) (sorted : are_tokens_sorted ts ≡ true) (bound
   abbrev stop : ℕ
   stop = (cut_at ts next p end).end
 
-  rises : IsNonDecreasingBy token_place ts
+  rises : IsNonDecreasingBy token_position ts
   rises = places-rise ts sorted bounds
 
-  pub not_after : (i : ℕ) → i < past → token_place (get_or ts i d) ≤ p
+  pub not_after : (i : ℕ) → i < past → token_position (get_or ts i d) ≤ p
   not_after i h = elim (cases_lt i next) [
     | inl lt ↦ omega (arith, start.before i lt)
     | inr ge ↦ passes ts next p start.within i ge h
   ]
 
   -- places after this one, up to the next token
-  pub starts-at : (q : ℕ) → p < q → (past < length ts → q ≤ token_place (get_or ts past d)) → IsStart ts q past
+  pub starts-at : (q : ℕ) → p < q → (past < length ts → q ≤ token_position (get_or ts past d)) → IsStart ts q past
   starts-at q low high = record {
     within = after-within ts next p start.within;
     before = λ i h. omega (arith, low, not_after i h);
@@ -203,11 +203,11 @@ module _ (ts : List TokenRecord) (sorted : are_tokens_sorted ts ≡ true) (bound
   }
 
   -- a cut is not past the next token
-  not_past-by : (c : Bool) → past < length ts → (if c then p + 1 else run_end ts past found p end) ≤ token_place (get_or ts past d)
+  not_past-by : (c : Bool) → past < length ts → (if c then p + 1 else run_end ts past found p end) ≤ token_position (get_or ts past d)
   not_past-by true lt = omega (arith, after-past ts next p start.within lt)
   not_past-by false lt = omega (arith, (run-between ts next p start.within found end some).1, (before-end ts next p start.within end some).2 lt)
 
-  not_past : past < length ts → stop ≤ token_place (get_or ts past d)
+  not_past : past < length ts → stop ≤ token_position (get_or ts past d)
   not_past lt = not_past-by (nat_lt 1 total) lt
 
   forward : (p < stop) × (stop ≤ end)
@@ -217,24 +217,24 @@ module _ (ts : List TokenRecord) (sorted : are_tokens_sorted ts ≡ true) (bound
   pub stop-start : IsStart ts stop past
   stop-start = starts-at stop forward.0 not_past
 
-  pub found-here : index_at_place ts p ≡ found
+  pub found-here : index_at_position ts p ≡ found
   found-here = found-is ts sorted bounds p next start
 
-  found-after : (q : ℕ) → p < q → q ≤ stop → index_at_place ts q ≡ holder ts past q
+  found-after : (q : ℕ) → p < q → q ≤ stop → index_at_position ts q ≡ holder ts past q
   found-after q low high = found-is ts sorted bounds q past (starts-at q low (λ lt. omega (arith, high, not_past lt)))
 
   -- with one token at the place or none, what is found is found before the next token
   pub found-before : (n : ℕ) → n ≡ total → n ≤ 1 → found ≡ holder_before ts past p
   found-before zero e few =
       let same : past ≡ next = omega (arith, e) in
-      no-hit ts next p (λ lt is. omega (arith, is, same, ap (λ i. token_place (get_or ts i d)) same, after-past ts next p start.within (omega (arith, lt, same))))
+      no-hit ts next p (λ lt is. omega (arith, is, same, ap (λ i. token_position (get_or ts i d)) same, after-past ts next p start.within (omega (arith, lt, same))))
       ∙ ap (λ i. holder_before ts i p) (sym same)
   found-before (suc n) e few =
       let same : past ≡ suc next = omega (arith, e, few) in
       let lt : next < length ts = omega (arith, same, after-within ts next p start.within) in
       let low = start.others next (omega arith) lt in
       let high = not_after next (omega (arith, same)) in
-      let is : token_place (get_or ts next d) ≡ p = omega (arith, low, high) in
+      let is : token_position (get_or ts next d) ≡ p = omega (arith, low, high) in
       let on : (get_or ts next d).dst_line ≡ line_of p = omega (arith, is, (bounds next d lt).dst_col) in
       hit-here ts next p lt is ∙ sym (on-line ts next p lt on) ∙ ap (λ i. holder_before ts i p) (sym same)
 
@@ -242,7 +242,7 @@ module _ (ts : List TokenRecord) (sorted : are_tokens_sorted ts ≡ true) (bound
   line-left None q h e = cc (e)
   line-left (Some i) q h e = omega (arith, h)
 
-  run-same : nat_lt 1 total ≡ false → (q : ℕ) → p < q → q < run_end ts past found p end → q ≤ stop → index_at_place ts q ≡ found
+  run-same : nat_lt 1 total ≡ false → (q : ℕ) → p < q → q < run_end ts past found p end → q ≤ stop → index_at_position ts q ≡ found
   run-same few q low high le =
       let one : total ≤ 1 = grind (arith, nat_tests, few) in
       let is = found-before total refl one in
@@ -253,15 +253,15 @@ module _ (ts : List TokenRecord) (sorted : are_tokens_sorted ts ≡ true) (bound
       ∙ same-before ts past p q (after-within ts next p start.within) not_after (omega (arith, low)) (λ s. line-left found q high (ap is_some is ∙ s))
       ∙ sym is
 
-  same-by : (c : Bool) → nat_lt 1 total ≡ c → (q : ℕ) → p ≤ q → q < (if c then p + 1 else run_end ts past found p end) → q ≤ stop → index_at_place ts q ≡ found
-  same-by true e q low high le = (let same : q ≡ p = omega (arith, low, high) in ap (index_at_place ts) same ∙ found-here)
+  same-by : (c : Bool) → nat_lt 1 total ≡ c → (q : ℕ) → p ≤ q → q < (if c then p + 1 else run_end ts past found p end) → q ≤ stop → index_at_position ts q ≡ found
+  same-by true e q low high le = (let same : q ≡ p = omega (arith, low, high) in ap (index_at_position ts) same ∙ found-here)
   same-by false e q low high le = elim (cases_lt p q) [
     | inl lt ↦ run-same e q lt high le
-    | inr ge ↦ (let same : q ≡ p = omega (arith, low, ge) in ap (index_at_place ts) same ∙ found-here)
+    | inr ge ↦ (let same : q ≡ p = omega (arith, low, ge) in ap (index_at_position ts) same ∙ found-here)
   ]
 
   -- up to the cut the same is found
-  pub same-found : (q : ℕ) → p ≤ q → q < stop → index_at_place ts q ≡ found
+  pub same-found : (q : ℕ) → p ≤ q → q < stop → index_at_position ts q ≡ found
   same-found q low high = same-by (nat_lt 1 total) refl q low high (omega (arith, high))
 
   -- of several tokens at the place the first is found there, and it is not found again
@@ -275,7 +275,7 @@ module _ (ts : List TokenRecord) (sorted : are_tokens_sorted ts ≡ true) (bound
       omega (arith, found-near ts past stop next (is ∙ here), more)
 
   -- an index is found only where its token is the last before the place, on the line
-  run-ends : (o : Option ℕ) (x : ℕ) → x ≡ run_end ts past o p end → x < end → (past < length ts → token_place (get_or ts past d) ≢ x) → (is_some o ≡ true) × (x ≡ line_end p)
+  run-ends : (o : Option ℕ) (x : ℕ) → x ≡ run_end ts past o p end → x < end → (past < length ts → token_position (get_or ts past d) ≢ x) → (is_some o ≡ true) × (x ≡ line_end p)
   run-ends None x e less other =
       let before = before-end ts next p start.within end some in
       let at = before.3 (omega (arith, e, less)) in
@@ -301,7 +301,7 @@ module _ (ts : List TokenRecord) (sorted : are_tokens_sorted ts ≡ true) (bound
   none-is_none None e h = cc (e)
   none-is_none (Some i) e h = cc (h)
 
-  line-case : (x : ℕ) → x ≡ run_end ts past found p end → x < end → (past < length ts → token_place (get_or ts past d) ≢ x) → holder ts past x ≢ found
+  line-case : (x : ℕ) → x ≡ run_end ts past found p end → x < end → (past < length ts → token_position (get_or ts past d) ≢ x) → holder ts past x ≢ found
   line-case x e less other is =
       let ends = run-ends found x e less other in
       none-is_none found ends.0 (sym (no-hit ts past x other ∙ line-other past refl x ends.1) ∙ is)
@@ -311,12 +311,12 @@ module _ (ts : List TokenRecord) (sorted : are_tokens_sorted ts ≡ true) (bound
       let one : total ≤ 1 = grind (arith, nat_tests, few) in
       let before = found-before total refl one in
       elim (cases_lt past (length ts)) [
-        | inl lt ↦ elim (token_place (get_or ts past d) == x) as (λ c. (token_place (get_or ts past d) == x) ≡ c → ⊥) [
+        | inl lt ↦ elim (token_position (get_or ts past d) == x) as (λ c. (token_position (get_or ts past d) == x) ≡ c → ⊥) [
           | true ↦ (λ c.
-              let at : token_place (get_or ts past d) ≡ x = grind (arith, nat_tests, c) in
+              let at : token_position (get_or ts past d) ≡ x = grind (arith, nat_tests, c) in
               let i = before-below ts past p past (sym before ∙ sym is ∙ hit-here ts past x lt at) in
               omega (arith, i))
-          | false ↦ (λ c. let other : token_place (get_or ts past d) ≢ x = grind (arith, nat_tests, c) in line-case x e less (λ l. other) is)
+          | false ↦ (λ c. let other : token_position (get_or ts past d) ≢ x = grind (arith, nat_tests, c) in line-case x e less (λ l. other) is)
         ] refl
         | inr ge ↦ line-case x e less (λ l. absurd (omega (arith, l, ge))) is
       ]
@@ -326,21 +326,21 @@ module _ (ts : List TokenRecord) (sorted : are_tokens_sorted ts ≡ true) (bound
   other-by false e x same is less = run-other e x is less
 
   -- and at the cut another
-  pub other-found : stop < end → index_at_place ts stop ≢ found
+  pub other-found : stop < end → index_at_position ts stop ≢ found
   other-found less is = other-by (nat_lt 1 total) refl stop refl refl less (sym (found-after stop forward.0 (omega arith)) ∙ is)
 
 -- the pieces that are left are those of what is left of the range
 pub left-runs : (ts : List TokenRecord) (next p end n : ℕ) → are_tokens_sorted ts ≡ true → AreInBounds ts → IsStart ts p next → AreLeft ts next p end n
-    → pieces_left ts next p end n ≡ map (piece_of ts) (runs_from (index_at_place ts) p (end - p))
+    → pieces_left ts next p end n ≡ map (piece_of ts) (runs_from (index_at_position ts) p (end - p))
 left-runs ts next p end zero sorted bounds start h =
     let none : end - p ≡ 0 = omega (arith, h) in
-    ap (λ k. map (piece_of ts) (runs_from (index_at_place ts) p k)) (sym none)
+    ap (λ k. map (piece_of ts) (runs_from (index_at_position ts) p k)) (sym none)
 left-runs ts next p end (suc n) sorted bounds start h =
     let cut = cut_at ts next p end in
     let go = forward ts sorted bounds next p end start h.1 in
     let more = left-runs ts cut.next cut.end end n sorted bounds (stop-start ts sorted bounds next p end start h.1) h.2 in
     ap (λ ps. piece_of ts (record { start = p; end = cut.end; found = cut.found }) ∷ ps) more
-    ∙ sym (ap (map (piece_of ts)) (first-run (index_at_place ts) (cut.end - p - 1) p cut.end (end - cut.end) (end - p) cut.found (omega (arith, go.0)) (omega (arith, go.0, go.1))
+    ∙ sym (ap (map (piece_of ts)) (first-run (index_at_position ts) (cut.end - p - 1) p cut.end (end - cut.end) (end - p) cut.found (omega (arith, go.0)) (omega (arith, go.0, go.1))
     (same-found ts sorted bounds next p end start h.1) (λ some. other-found ts sorted bounds next p end start h.1 (omega (arith, some)))))
 
 -- ---- the pieces of a range that begins and ends at these positions
@@ -352,5 +352,5 @@ pub new-pieces : (ts : List TokenRecord) (next p end n line col end_line end_col
     → AreLeft ts next p end n → pieces_left ts next p end n ≡ pieces_of ts line col end_line end_col
 new-pieces ts next p end n line col end_line end_col e f sorted bounds start h =
     left-runs ts next p end n sorted bounds start h
-    ∙ ap (λ x. map (piece_of ts) (runs_from (index_at_place ts) x (end - x))) e
-    ∙ ap (λ y. map (piece_of ts) (runs_from (index_at_place ts) (place line col) (y - place line col))) f
+    ∙ ap (λ x. map (piece_of ts) (runs_from (index_at_position ts) x (end - x))) e
+    ∙ ap (λ y. map (piece_of ts) (runs_from (index_at_position ts) (place line col) (y - place line col))) f

@@ -1,4 +1,4 @@
--- Worked examples, computed by the definitions themselves.
+-- Worked examples of first differences, computed by the definitions themselves.
 use Rattle.std.specs.Prelude.{◌≡◌, refl, ℕ, zero, suc, ◌<◌, List, [], ◌∷◌, Option, Some, None}
 use Rattle.std.proofs.Common.{arith, inl, inr, ap}
 use Rattle.oxc_sourcemap_tokens.specs.Token.{TokenRecord}

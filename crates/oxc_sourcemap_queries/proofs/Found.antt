@@ -19,8 +19,9 @@ use Rattle.oxc_sourcemap_lookup.proofs.LineIndices.{index_for-own, from_line}
 use Rattle.oxc_sourcemap_lookup.proofs.LineStarts.{on_line-between}
 use Rattle.oxc_sourcemap_lookup.proofs.OwnTables.{line_goes_on}
 use Rattle.oxc_sourcemap_lookup.proofs.Tables.{IsFrom, in_order-from_0}
-use Rattle.oxc_sourcemap_queries.specs.RangePieces.{line_of, column_of, index_at_place}
-use Rattle.oxc_sourcemap_queries.specs.Cuts.{token_place, holder, holder_before, IsStart, no_token}
+use Rattle.oxc_sourcemap_queries.specs.RangePieces.{line_of, column_of, index_at_position}
+use Rattle.oxc_sourcemap_queries.specs.Cuts.{token_position, holder, holder_before, IsStart}
+use Rattle.oxc_sourcemap_queries.specs.Cuts.{no_token}
 use Rattle.oxc_sourcemap_queries.proofs.Order.{below, above}
 
 -- what is said of the token at an index
@@ -141,26 +142,26 @@ module _ (ts : List TokenRecord) (sorted : are_tokens_sorted ts ≡ true) (bound
 
   -- whether there is a token at the place, among all, and in the row
   abbrev is_hit : Bool
-  is_hit = option_map_or (λ t. token_place t == q) (slice_get ts b) false
+  is_hit = option_map_or (λ t. token_position t == q) (slice_get ts b) false
 
   hit-inside : b < to → option_map_or (λ t. t.dst_col == col) (slice_get row k) false ≡ is_hit
   hit-inside lt =
       let lt_row : k < length row = omega (arith, lt, row-long, begins) in
       let lt_all : b < length ts = omega (arith, lt, to-within) in
       let same = on b begins lt in
-      let equal : ((at b).dst_col == col) ≡ (token_place (at b) == q) =
-      elim ((at b).dst_col == col) as (λ c. ((at b).dst_col == col) ≡ c → c ≡ (token_place (at b) == q)) [
+      let equal : ((at b).dst_col == col) ≡ (token_position (at b) == q) =
+      elim ((at b).dst_col == col) as (λ c. ((at b).dst_col == col) ≡ c → c ≡ (token_position (at b) == q)) [
         | true ↦ (λ e. let is : (at b).dst_col ≡ col = grind (arith, nat_tests, e) in sym (is_same_number _ q (omega (arith, same, is))))
         | false ↦ (λ e. let is : (at b).dst_col ≢ col = grind (arith, nat_tests, e) in sym (is_other_number _ q (λ p. is (omega (arith, same, p)))))
       ] refl in
       there (λ t. t.dst_col == col) false row k d lt_row ∙ ap (λ t. t.dst_col == col) (row-read k b (omega (arith, lt, begins)) (omega (arith, begins)))
-      ∙ equal ∙ sym (there (λ t. token_place t == q) false ts b d lt_all)
+      ∙ equal ∙ sym (there (λ t. token_position t == q) false ts b d lt_all)
 
   hit-past : to ≤ b → option_map_or (λ t. t.dst_col == col) (slice_get row k) false ≡ is_hit
   hit-past le =
       let none : is_hit ≡ false = elim (cases_lt b (length ts)) [
-        | inl lt ↦ there (λ t. token_place t == q) false ts b d lt ∙ is_other_number _ q (λ p. omega (arith, p, above (line + 1) 0 b ts d ordered le lt))
-        | inr ge ↦ not_there (λ t. token_place t == q) false ts b ge
+        | inl lt ↦ there (λ t. token_position t == q) false ts b d lt ∙ is_other_number _ q (λ p. omega (arith, p, above (line + 1) 0 b ts d ordered le lt))
+        | inr ge ↦ not_there (λ t. token_position t == q) false ts b ge
       ] in
       not_there (λ t. t.dst_col == col) false row k (omega (arith, row-long, le)) ∙ sym none
 
@@ -185,7 +186,7 @@ module _ (ts : List TokenRecord) (sorted : are_tokens_sorted ts ≡ true) (bound
       ] refl
 
   -- the lookup finds the first token at the place, else the last before it on its line
-  pub found-is : index_at_place ts q ≡ holder ts b q
+  pub found-is : index_at_position ts q ≡ holder ts b q
   found-is =
       let order = sorted_in_order ts sorted in
       let goes = line_goes_on line ts sorted in

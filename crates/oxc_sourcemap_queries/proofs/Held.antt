@@ -8,9 +8,10 @@ use Rattle.oxc_sourcemap_parts.specs.DecodedMap.{decoded_map_of}
 use Rattle.oxc_sourcemap_lookup.specs.Lookup.{token_for, index_for}
 use Rattle.oxc_sourcemap_lookup.specs.Trace.{trace, original_in}
 use Rattle.oxc_sourcemap_lookup.proofs.Numbers.{token_of-index_for}
-use Rattle.oxc_sourcemap_lookup.proofs.Traced.{token_traced}
-use Rattle.oxc_sourcemap_queries.specs.RangePieces.{Run, place, line_of, column_of, index_at_place}
-use Rattle.oxc_sourcemap_queries.specs.RangePieces.{piece_of, runs_from, pieces_of}
+use Rattle.oxc_sourcemap_lookup.proofs.Traces.{token_traced}
+use Rattle.oxc_sourcemap_queries.specs.RangePieces.{Run, place, line_of, column_of}
+use Rattle.oxc_sourcemap_queries.specs.RangePieces.{index_at_position, piece_of, runs_from}
+use Rattle.oxc_sourcemap_queries.specs.RangePieces.{pieces_of}
 use Rattle.oxc_sourcemap_queries.specs.RangeLaws.{IsIn, PiecesCover, PiecesHold, PiecesTrace}
 use Rattle.oxc_sourcemap_queries.specs.RangeLaws.{PiecesIndex}
 use Rattle.oxc_sourcemap_queries.specs.declared.pieces.cuts.Piece.{Piece}
@@ -32,7 +33,7 @@ HoldsIn tokens piece = (l c : ℕ) → IsIn piece l c → token_for tokens l c �
 abbrev HasIndex : List TokenRecord → Piece → Type 0
 HasIndex tokens piece = (l c : ℕ) → IsIn piece l c → index_for tokens l c ≡ piece.index
 
-run-index : (tokens : List TokenRecord) (run : Run) → Holds (index_at_place tokens) run → HasIndex tokens (piece_of tokens run)
+run-index : (tokens : List TokenRecord) (run : Run) → Holds (index_at_position tokens) run → HasIndex tokens (piece_of tokens run)
 run-index tokens run h = λ l c is.
     let q = place l c in
     let low : run.start ≤ q = omega (arith, is.from_start, back run.start) in
@@ -41,22 +42,22 @@ run-index tokens run h = λ l c is.
     let col : column_of q ≡ c = omega (arith, is.column) in
     ap (λ n. index_for tokens l n) (sym col) ∙ ap (λ n. index_for tokens n (column_of q)) (sym line) ∙ h q low high
 
-run-holds : (tokens : List TokenRecord) (run : Run) → Holds (index_at_place tokens) run → HoldsIn tokens (piece_of tokens run)
+run-holds : (tokens : List TokenRecord) (run : Run) → Holds (index_at_position tokens) run → HoldsIn tokens (piece_of tokens run)
 run-holds tokens run h = λ l c is. sym (token_of-index_for tokens l c) ∙ ap (option_and_then (slice_get tokens)) (run-index tokens run h l c is)
 
 pub cover : PiecesCover
 cover tokens line col end_line end_col =
-    runs-cover tokens (index_at_place tokens) (place line col) (place end_line end_col) (place end_line end_col - place line col) refl
+    runs-cover tokens (index_at_position tokens) (place line col) (place end_line end_col) (place end_line end_col - place line col) refl
 
 pub hold : PiecesHold
 hold tokens line col end_line end_col =
-    all-mapped (Holds (index_at_place tokens)) (HoldsIn tokens) (piece_of tokens) (run-holds tokens)
-    (runs_from (index_at_place tokens) (place line col) (place end_line end_col - place line col)) (runs-hold (index_at_place tokens) (place line col) (place end_line end_col - place line col))
+    all-mapped (Holds (index_at_position tokens)) (HoldsIn tokens) (piece_of tokens) (run-holds tokens)
+    (runs_from (index_at_position tokens) (place line col) (place end_line end_col - place line col)) (runs-hold (index_at_position tokens) (place line col) (place end_line end_col - place line col))
 
 pub index : PiecesIndex
 index tokens line col end_line end_col =
-    all-mapped (Holds (index_at_place tokens)) (HasIndex tokens) (piece_of tokens) (run-index tokens)
-    (runs_from (index_at_place tokens) (place line col) (place end_line end_col - place line col)) (runs-hold (index_at_place tokens) (place line col) (place end_line end_col - place line col))
+    all-mapped (Holds (index_at_position tokens)) (HasIndex tokens) (piece_of tokens) (run-index tokens)
+    (runs_from (index_at_position tokens) (place line col) (place end_line end_col - place line col)) (runs-hold (index_at_position tokens) (place line col) (place end_line end_col - place line col))
 
 pub traces : PiecesTrace
 traces r line col end_line end_col =

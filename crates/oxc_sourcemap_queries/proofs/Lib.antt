@@ -3,7 +3,7 @@ pub mod Order
 pub mod Found
 pub mod Cutting
 pub mod Held
-mod Worked
+mod PiecesWorked
 pub mod Walked
 pub mod Sources
 mod DifferWorked

@@ -11,11 +11,11 @@ use Rattle.oxc_sourcemap_parts.proofs.Order.{sorted-head}
 use Rattle.oxc_sourcemap_lookup.specs.LineSpans.{count_before_line}
 use Rattle.oxc_sourcemap_lookup.proofs.LineStarts.{counts-one, none-before}
 use Rattle.oxc_sourcemap_lookup.proofs.Tables.{IsFrom}
-use Rattle.oxc_sourcemap_queries.specs.Cuts.{token_place}
+use Rattle.oxc_sourcemap_queries.specs.Cuts.{token_position}
 
-precede-place : (x y : TokenRecord) → may_precede token_line token_column x y ≡ true → x.dst_col < 4294967296 → token_place x ≤ token_place y
+precede-place : (x y : TokenRecord) → may_precede token_line token_column x y ≡ true → x.dst_col < 4294967296 → token_position x ≤ token_position y
 precede-place x y h fits =
-    elim (nat_lt x.dst_line y.dst_line) as (λ b. nat_lt x.dst_line y.dst_line ≡ b → token_place x ≤ token_place y) [
+    elim (nat_lt x.dst_line y.dst_line) as (λ b. nat_lt x.dst_line y.dst_line ≡ b → token_position x ≤ token_position y) [
       | true ↦ (λ e. let lt : x.dst_line < y.dst_line = grind (arith, nat_tests, e) in omega (arith, lt, fits))
       | false ↦ (λ e.
           let same : x.dst_line ≡ y.dst_line = grind (arith, nat_tests, e, h) in
@@ -23,17 +23,17 @@ precede-place x y h fits =
           omega (arith, same, le))
     ] refl
 
-next-place : (ts : List TokenRecord) (k : ℕ) (d : TokenRecord) → are_tokens_sorted ts ≡ true → (get_or ts k d).dst_col < 4294967296 → k + 1 < length ts → token_place (get_or ts k d) ≤ token_place (get_or ts (k + 1) d)
+next-place : (ts : List TokenRecord) (k : ℕ) (d : TokenRecord) → are_tokens_sorted ts ≡ true → (get_or ts k d).dst_col < 4294967296 → k + 1 < length ts → token_position (get_or ts k d) ≤ token_position (get_or ts (k + 1) d)
 next-place [] k d sorted fits h = absurd (omega (arith, h))
 next-place (x ∷ []) k d sorted fits h = absurd (omega (arith, h))
 next-place (x ∷ y ∷ ts) zero d sorted fits h = precede-place x y (sorted-head x y ts sorted).0 fits
 next-place (x ∷ y ∷ ts) (suc k) d sorted fits h =
     let same : suc k + 1 ≡ suc (k + 1) = omega arith in
-    subst (λ i. token_place (get_or (y ∷ ts) k d) ≤ token_place (get_or (x ∷ y ∷ ts) i d)) (sym same) (next-place (y ∷ ts) k d (sorted-head x y ts sorted).1 fits (omega (arith, h)))
+    subst (λ i. token_position (get_or (y ∷ ts) k d) ≤ token_position (get_or (x ∷ y ∷ ts) i d)) (sym same) (next-place (y ∷ ts) k d (sorted-head x y ts sorted).1 fits (omega (arith, h)))
 
 -- places do not fall
-pub places-rise : (ts : List TokenRecord) → are_tokens_sorted ts ≡ true → AreInBounds ts → IsNonDecreasingBy token_place ts
-places-rise ts sorted bounds = IsNonDecreasingBy-from_all_adjacent token_place ts (λ k d h. next-place ts k d sorted (bounds k d (omega (arith, h))).dst_col h)
+pub places-rise : (ts : List TokenRecord) → are_tokens_sorted ts ≡ true → AreInBounds ts → IsNonDecreasingBy token_position ts
+places-rise ts sorted bounds = IsNonDecreasingBy-from_all_adjacent token_position ts (λ k d h. next-place ts k d sorted (bounds k d (omega (arith, h))).dst_col h)
 
 below-by : (b : Bool) (n i : ℕ) (t : TokenRecord) (ts : List TokenRecord) (d : TokenRecord) → nat_lt t.dst_line n ≡ b → IsFrom t.dst_line ts → i < count_before_line n (t ∷ ts)
     → ((j : ℕ) → j < count_before_line n ts → token_line (get_or ts j d) < n) → token_line (get_or (t ∷ ts) i d) < n

@@ -12,9 +12,9 @@ use Rattle.oxc_sourcemap_parts.specs.DecodedMap.{decoded_map_of}
 use Rattle.oxc_sourcemap_parts.specs.Sorted.{are_tokens_sorted}
 use Rattle.oxc_sourcemap_lookup.specs.Trace.{trace, original_in}
 use Rattle.oxc_sourcemap_lookup.proofs.Numbers.{token_of-index_for}
-use Rattle.oxc_sourcemap_lookup.proofs.Traced.{token_traced}
-use Rattle.oxc_sourcemap_queries.specs.RangePieces.{place, line_of, column_of, index_at_place}
-use Rattle.oxc_sourcemap_queries.specs.Cuts.{token_place, holder, holder_before, passed_count}
+use Rattle.oxc_sourcemap_lookup.proofs.Traces.{token_traced}
+use Rattle.oxc_sourcemap_queries.specs.RangePieces.{place, line_of, column_of, index_at_position}
+use Rattle.oxc_sourcemap_queries.specs.Cuts.{token_position, holder, holder_before, passed_count}
 use Rattle.oxc_sourcemap_queries.specs.Cuts.{IsStart, no_token}
 use Rattle.oxc_sourcemap_queries.proofs.Found.{found-is}
 use Rattle.oxc_sourcemap_queries.proofs.Runs.{back}
@@ -23,7 +23,7 @@ use Rattle.oxc_sourcemap_queries.proofs.Cutting.{found-here, found-before, no-hi
 use Rattle.oxc_sourcemap_queries.proofs.Cutting.{same-before}
 use Rattle.oxc_sourcemap_queries.specs.Differences.{HaveSameTraceAt, HaveSameTraceEverywhere}
 use Rattle.oxc_sourcemap_queries.specs.Differences.{IsFirstDifference}
-use Rattle.oxc_sourcemap_queries.specs.Walk.{place_after, change_after, step_at, earlier}
+use Rattle.oxc_sourcemap_queries.specs.Walk.{position_after, change_after, step_at, earlier}
 use Rattle.oxc_sourcemap_queries.specs.declared.differ.walk.Step.{Step}
 use Rattle.oxc_sourcemap_queries.specs.Originals.{found_with}
 
@@ -80,30 +80,30 @@ get-none (t ∷ ts) zero h = absurd (omega (arith, h))
 get-none (t ∷ ts) (suc i) h = get-none ts i (omega (arith, h))
 
 -- ---- one list of tokens
-after_later : (p : ℕ) → LiesBefore p (place_after p)
+after_later : (p : ℕ) → LiesBefore p (position_after p)
 after_later p = elim (nat_lt p 18446744073709551615) as (λ b. LiesBefore p (if b then Some (p + 1) else None)) [ true ↦ omega arith | false ↦ tt ]
 
 -- places that may be there are numbers of 64 bits
 abbrev pub Fits : Option ℕ → Type 0
 Fits change = IfSome change (λ c. c ≤ 18446744073709551615)
 
-after_fits : (p : ℕ) → Fits (place_after p)
+after_fits : (p : ℕ) → Fits (position_after p)
 after_fits p = elim (nat_lt p 18446744073709551615) as (λ b. nat_lt p 18446744073709551615 ≡ b → Fits (if b then Some (p + 1) else None)) [
   | true ↦ (λ e. let lt : p < 18446744073709551615 = grind (arith, nat_tests, e) in omega (arith, lt))
   | false ↦ (λ e. tt)
 ] refl
 
-place-fits : (ts : List TokenRecord) (i : ℕ) → AreInBounds ts → i < length ts → token_place (get_or ts i no_token) ≤ 18446744073709551615
+place-fits : (ts : List TokenRecord) (i : ℕ) → AreInBounds ts → i < length ts → token_position (get_or ts i no_token) ≤ 18446744073709551615
 place-fits ts i bounds h = (let inside = bounds i no_token h in let line = inside.dst_line in let col = inside.dst_col in omega (arith, line, col))
 
 pub change-fits : (ts : List TokenRecord) (next p : ℕ) → AreInBounds ts → Fits (change_after ts next p)
 change-fits ts next p bounds =
     let past = next + passed_count ts next p in
-    elim (nat_lt 1 (passed_count ts next p)) as (λ b. Fits (if b then place_after p else option_map token_place (slice_get ts past))) [
+    elim (nat_lt 1 (passed_count ts next p)) as (λ b. Fits (if b then position_after p else option_map token_position (slice_get ts past))) [
       | true ↦ after_fits p
       | false ↦ elim (cases_lt past (length ts)) [
-        | inl lt ↦ subst (λ o. Fits (option_map token_place o)) (sym (get-some ts past no_token lt)) (place-fits ts past bounds lt)
-        | inr ge ↦ subst (λ o. Fits (option_map token_place o)) (sym (get-none ts past ge)) tt
+        | inl lt ↦ subst (λ o. Fits (option_map token_position o)) (sym (get-some ts past no_token lt)) (place-fits ts past bounds lt)
+        | inr ge ↦ subst (λ o. Fits (option_map token_position o)) (sym (get-none ts past ge)) tt
       ]
     ]
 
@@ -117,11 +117,11 @@ fits-of q (Some c) (Some f) h k e = (let same : min c f ≡ q = cc (e) in omega 
 pub change-later : (ts : List TokenRecord) (next p : ℕ) → next ≤ length ts → LiesBefore p (change_after ts next p)
 change-later ts next p within =
     let past = next + passed_count ts next p in
-    elim (nat_lt 1 (passed_count ts next p)) as (λ b. LiesBefore p (if b then place_after p else option_map token_place (slice_get ts past))) [
+    elim (nat_lt 1 (passed_count ts next p)) as (λ b. LiesBefore p (if b then position_after p else option_map token_position (slice_get ts past))) [
       | true ↦ after_later p
       | false ↦ elim (cases_lt past (length ts)) [
-        | inl lt ↦ subst (λ o. LiesBefore p (option_map token_place o)) (sym (get-some ts past no_token lt)) (after-past ts next p within lt)
-        | inr ge ↦ subst (λ o. LiesBefore p (option_map token_place o)) (sym (get-none ts past ge)) tt
+        | inl lt ↦ subst (λ o. LiesBefore p (option_map token_position o)) (sym (get-some ts past no_token lt)) (after-past ts next p within lt)
+        | inr ge ↦ subst (λ o. LiesBefore p (option_map token_position o)) (sym (get-none ts past ge)) tt
       ]
     ]
 
@@ -138,32 +138,32 @@ module _ (ts : List TokenRecord) (sorted : are_tokens_sorted ts ≡ true) (bound
   abbrev at : ℕ → TokenRecord
   at i = get_or ts i no_token
 
-  fits : (i : ℕ) → i < length ts → token_place (at i) ≤ 18446744073709551615
+  fits : (i : ℕ) → i < length ts → token_position (at i) ≤ 18446744073709551615
   fits i h = place-fits ts i bounds h
 
-  limit-several : (q : ℕ) → past < length ts → IsUpTo q (place_after p) → q ≤ token_place (at past)
-  limit-several q lt = elim (nat_lt p 18446744073709551615) as (λ b. nat_lt p 18446744073709551615 ≡ b → IsUpTo q (if b then Some (p + 1) else None) → q ≤ token_place (at past)) [
+  limit-several : (q : ℕ) → past < length ts → IsUpTo q (position_after p) → q ≤ token_position (at past)
+  limit-several q lt = elim (nat_lt p 18446744073709551615) as (λ b. nat_lt p 18446744073709551615 ≡ b → IsUpTo q (if b then Some (p + 1) else None) → q ≤ token_position (at past)) [
     | true ↦ (λ e h. omega (arith, h, after-past ts next p start.within lt))
     | false ↦ (λ e h. let le : 18446744073709551615 ≤ p = grind (arith, nat_tests, e) in absurd (omega (arith, le, after-past ts next p start.within lt, fits past lt)))
   ] refl
 
   -- the next token does not lie before the change
-  limit : (q : ℕ) → IsUpTo q change → past < length ts → q ≤ token_place (at past)
-  limit q high lt = elim (nat_lt 1 total) as (λ b. IsUpTo q (if b then place_after p else option_map token_place (slice_get ts past)) → q ≤ token_place (at past)) [
+  limit : (q : ℕ) → IsUpTo q change → past < length ts → q ≤ token_position (at past)
+  limit q high lt = elim (nat_lt 1 total) as (λ b. IsUpTo q (if b then position_after p else option_map token_position (slice_get ts past)) → q ≤ token_position (at past)) [
     | true ↦ limit-several q lt
-    | false ↦ (λ h. subst (λ o. IsUpTo q (option_map token_place o)) (get-some ts past no_token lt) h)
+    | false ↦ (λ h. subst (λ o. IsUpTo q (option_map token_position o)) (get-some ts past no_token lt) h)
   ] high
 
   -- how many tokens lie before a place up to the change
   pub starts : (q : ℕ) → p < q → IsUpTo q change → IsStart ts q past
   starts q low high = starts-at ts sorted bounds next p (p + 1) start (omega arith) q low (limit q high)
 
-  before-change : (q : ℕ) → p < q → LiesBefore q change → index_at_place ts q ≡ holder_before ts past q
+  before-change : (q : ℕ) → p < q → LiesBefore q change → index_at_position ts q ≡ holder_before ts past q
   before-change q low high =
       found-is ts sorted bounds q past (starts q low (weaker q change high))
       ∙ no-hit ts past q (λ lt e. omega (arith, e, limit (q + 1) (stronger q change high) lt))
 
-  few-by : (c : Bool) (q : ℕ) → nat_lt 1 total ≡ c → p < q → LiesBefore q (if c then place_after p else option_map token_place (slice_get ts past)) → line_of q ≡ line_of p → total ≤ 1
+  few-by : (c : Bool) (q : ℕ) → nat_lt 1 total ≡ c → p < q → LiesBefore q (if c then position_after p else option_map token_position (slice_get ts past)) → line_of q ≡ line_of p → total ≤ 1
   few-by false q e low high line = grind (arith, nat_tests, e)
   few-by true q e low high line =
       let two : 1 < total = grind (arith, nat_tests, e) in
@@ -175,7 +175,7 @@ module _ (ts : List TokenRecord) (sorted : are_tokens_sorted ts ≡ true) (bound
       ] refl high
 
   -- up to the change, the same is found on the line of the place
-  pub same-line : (q : ℕ) → p < q → LiesBefore q change → line_of q ≡ line_of p → index_at_place ts q ≡ index_at_place ts p
+  pub same-line : (q : ℕ) → p < q → LiesBefore q change → line_of q ≡ line_of p → index_at_position ts q ≡ index_at_position ts p
   same-line q low high line =
       let few = few-by (nat_lt 1 total) q refl low high line in
       before-change q low high
@@ -191,7 +191,7 @@ module _ (ts : List TokenRecord) (sorted : are_tokens_sorted ts ≡ true) (bound
       off-line ts i q inside (λ same. line (omega (arith, same, before, low)))
 
   -- and nothing on later lines
-  pub other-line : (q : ℕ) → p < q → LiesBefore q change → line_of q ≢ line_of p → index_at_place ts q ≡ None
+  pub other-line : (q : ℕ) → p < q → LiesBefore q change → line_of q ≢ line_of p → index_at_position ts q ≡ None
   other-line q low high line = before-change q low high ∙ none-before q low line past refl
 
 -- ---- traces
@@ -213,13 +213,13 @@ step-changes ts us a b i j p s t e f g h =
     ap (λ o. earlier o t.change) (step-change ts a i p s e g) ∙ ap (λ o. earlier (change_after a i p) o) (step-change us b j p t f h)
 
 -- the trace at a place, by what is found there
-pub traced : (r : MapRecord) (q : ℕ) → found_with r (option_and_then (slice_get r.tokens) (index_at_place r.tokens q)) ≡ trace (decoded_map_of r) (line_of q) (column_of q)
+pub traced : (r : MapRecord) (q : ℕ) → found_with r (option_and_then (slice_get r.tokens) (index_at_position r.tokens q)) ≡ trace (decoded_map_of r) (line_of q) (column_of q)
 traced r q = ap (option_map (original_in r)) (token_of-index_for r.tokens (line_of q) (column_of q)) ∙ token_traced r (line_of q) (column_of q)
 
-traced-as : (r : MapRecord) (q p : ℕ) → index_at_place r.tokens q ≡ index_at_place r.tokens p → trace (decoded_map_of r) (line_of q) (column_of q) ≡ trace (decoded_map_of r) (line_of p) (column_of p)
+traced-as : (r : MapRecord) (q p : ℕ) → index_at_position r.tokens q ≡ index_at_position r.tokens p → trace (decoded_map_of r) (line_of q) (column_of q) ≡ trace (decoded_map_of r) (line_of p) (column_of p)
 traced-as r q p e = sym (traced r q) ∙ ap (λ i. found_with r (option_and_then (slice_get r.tokens) i)) e ∙ traced r p
 
-traced-none : (r : MapRecord) (q : ℕ) → index_at_place r.tokens q ≡ None → trace (decoded_map_of r) (line_of q) (column_of q) ≡ None
+traced-none : (r : MapRecord) (q : ℕ) → index_at_position r.tokens q ≡ None → trace (decoded_map_of r) (line_of q) (column_of q) ≡ None
 traced-none r q e = sym (traced r q) ∙ ap (λ i. found_with r (option_and_then (slice_get r.tokens) i)) e
 
 module _ (a b : MapRecord) where

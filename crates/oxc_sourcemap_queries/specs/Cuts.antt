@@ -1,4 +1,4 @@
--- How a range is cut from left to right. Contracts of functions that only crates of this library call cite these.
+-- How a range is cut from left to right.
 use Rattle.std.specs.Prelude.{ℕ, zero, suc, ◌+◌, ◌*◌, ◌<◌, ◌≤◌, ◌==◌, nat_lt, nat_le, false, List}
 use Rattle.std.specs.Prelude.{[], ◌∷◌, length, drop, get_or, slice_get, min, Option, Some, None}
 use Rattle.std.specs.Prelude.{is_some, if◌then◌else◌}
@@ -10,8 +10,8 @@ use Rattle.oxc_sourcemap_queries.specs.declared.pieces.cuts.Cut.{Cut}
 use Rattle.oxc_sourcemap_queries.specs.RangePieces.{place, line_of, piece_of}
 
 -- the place of a token
-abbrev pub token_place : TokenRecord → ℕ
-token_place t = place t.dst_line t.dst_col
+abbrev pub token_position : TokenRecord → ℕ
+token_position t = place t.dst_line t.dst_col
 
 -- the index before `next`, if the token there lies on the line of a place
 abbrev pub holder_before : List TokenRecord → ℕ → ℕ → Option ℕ
@@ -22,11 +22,11 @@ holder_before tokens (suc i) p =
 -- the index of the token that is found at a place, if the token at index `next` is the first that does not lie before it
 abbrev pub holder : List TokenRecord → ℕ → ℕ → Option ℕ
 holder tokens next p =
-    if option_map_or (λ t. token_place t == p) (slice_get tokens next) false then Some next else holder_before tokens next p
+    if option_map_or (λ t. token_position t == p) (slice_get tokens next) false then Some next else holder_before tokens next p
 
 -- how many tokens from index `next` on do not lie after a place, up to the first that does
 abbrev pub passed_count : List TokenRecord → ℕ → ℕ → ℕ
-passed_count tokens next p = prefix_len (λ t. nat_le (token_place t) p) (drop next tokens)
+passed_count tokens next p = prefix_len (λ t. nat_le (token_position t) p) (drop next tokens)
 
 -- where the line after that of a place begins
 abbrev pub line_end : ℕ → ℕ
@@ -34,7 +34,7 @@ line_end p = (line_of p + 1) * 4294967296
 
 -- the end of a range, or the place of the token at this index if that comes first
 abbrev pub end_before : List TokenRecord → ℕ → ℕ → ℕ
-end_before tokens i end = option_map_or (λ t. min (token_place t) end) (slice_get tokens i) end
+end_before tokens i end = option_map_or (λ t. min (token_position t) end) (slice_get tokens i) end
 
 -- where what is found at a place ends: at the token at index `after`, and at the end of the line if it is a token
 abbrev pub run_end : List TokenRecord → ℕ → Option ℕ → ℕ → ℕ → ℕ
@@ -69,5 +69,5 @@ no_token = record { dst_line = 0; dst_col = 0; src_line = 0; src_col = 0; source
 -- this number of tokens lie before a place, and the others do not
 pub record IsStart (tokens : List TokenRecord) (p next : ℕ) : Type 0 where
   pub within : next ≤ length tokens
-  pub before : (i : ℕ) → i < next → token_place (get_or tokens i no_token) < p
-  pub others : (i : ℕ) → next ≤ i → i < length tokens → p ≤ token_place (get_or tokens i no_token)
+  pub before : (i : ℕ) → i < next → token_position (get_or tokens i no_token) < p
+  pub others : (i : ℕ) → next ≤ i → i < length tokens → p ≤ token_position (get_or tokens i no_token)

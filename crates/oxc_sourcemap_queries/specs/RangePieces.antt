@@ -19,8 +19,8 @@ abbrev pub column_of : ℕ → ℕ
 column_of p = p % 4294967296
 
 -- the index of the token that the lookup of a place finds
-abbrev pub index_at_place : List TokenRecord → ℕ → Option ℕ
-index_at_place tokens p = index_for tokens (line_of p) (column_of p)
+abbrev pub index_at_position : List TokenRecord → ℕ → Option ℕ
+index_at_position tokens p = index_for tokens (line_of p) (column_of p)
 
 -- a run of places, from the first up to but not including the end, and the index that is found at each of them
 pub record Run : Type 0 where
@@ -64,7 +64,7 @@ piece_of tokens run = record {
 abbrev pub pieces_of : List TokenRecord → ℕ → ℕ → ℕ → ℕ → List Piece
 pieces_of tokens line col end_line end_col =
     let start = place line col in
-    map (piece_of tokens) (runs_from (index_at_place tokens) start (place end_line end_col - start))
+    map (piece_of tokens) (runs_from (index_at_position tokens) start (place end_line end_col - start))
 
 -- where a piece begins, and where it ends
 abbrev pub start_of : Piece → ℕ

@@ -7,8 +7,8 @@ pub use Rattle.oxc_sourcemap_parts.specs.Views.{record_of_parts}
 pub use Rattle.oxc_sourcemap_lookup.specs.Trace.{original_in}
 pub use Rattle.oxc_sourcemap_queries.specs.RangePieces.{place, line_of, column_of, piece_of}
 pub use Rattle.oxc_sourcemap_queries.specs.RangePieces.{pieces_of, DoCover}
-pub use Rattle.oxc_sourcemap_queries.specs.Cuts.{token_place, holder, line_end, end_before, run_end}
-pub use Rattle.oxc_sourcemap_queries.specs.Cuts.{cut_at, AreLeft, IsStart}
+pub use Rattle.oxc_sourcemap_queries.specs.Cuts.{token_position, holder, line_end, end_before}
+pub use Rattle.oxc_sourcemap_queries.specs.Cuts.{run_end, cut_at, AreLeft, IsStart}
 pub use Rattle.oxc_sourcemap_queries.specs.RangeLaws.{PiecesCover, PiecesHold, PiecesTrace}
 pub use Rattle.oxc_sourcemap_queries.specs.RangeLaws.{PiecesIndex}
 pub use Rattle.oxc_sourcemap_queries.specs.Differences.{HaveSameTraceEverywhere, IsFirstDifference}

@@ -1,4 +1,4 @@
-//! Where the traces of two maps differ first. Part of `oxc_sourcemap`.
+//! Where the traces of two maps differ first.
 
 mod difference;
 mod originals;

@@ -13,7 +13,7 @@ use Rattle.oxc_sourcemap_tokens.specs.Token.{TokenRecord}
 use Rattle.oxc_sourcemap_parts.specs.DecodedMap.{DecodedSource, sources_of, name_of}
 use Rattle.oxc_sourcemap_parts.specs.Record.{Text, MapRecord}
 use Rattle.oxc_sourcemap_steps.specs.Blocks.{flags_of, unless_empty}
-use Rattle.oxc_sourcemap_steps.specs.Bodies.{set_from}
+use Rattle.oxc_sourcemap_steps.specs.RemapSteps.{set_from}
 use Rattle.oxc_sourcemap_steps.proofs.Flags.{marked-unmarked, set-ignored}
 use Rattle.oxc_sourcemap_steps.proofs.SourceBlocks.{flags-are, paths-of}
 use Rattle.oxc_sourcemap_steps.specs.Same.{is_same_source}
@@ -21,18 +21,19 @@ use Rattle.oxc_sourcemap_steps.specs.Simplified.{is_same_marked, index_of_marked
 use Rattle.oxc_sourcemap_steps.specs.Simplified.{simple_tokens, simple_names, simple_sources_of}
 use Rattle.oxc_sourcemap_steps.specs.Simplified.{marked_source_of, token_among, renumbered}
 use Rattle.oxc_sourcemap_steps.specs.Simplified.{simplified, fits}
-use Rattle.oxc_sourcemap_steps.specs.SimplifyBodies.{AreFirsts, listed_in, source_among, source_by}
-use Rattle.oxc_sourcemap_steps.specs.SimplifyBodies.{first_marked, AreTables, target_by, kept_from}
-use Rattle.oxc_sourcemap_steps.specs.SimplifyBodies.{with_name, with_source, with_all, token_to}
-use Rattle.oxc_sourcemap_steps.specs.SimplifyBodies.{IsBelow, IsSourceBelow, AreWithin, own_place}
-use Rattle.oxc_sourcemap_steps.specs.SimplifyBodies.{AreTooMany}
+use Rattle.oxc_sourcemap_steps.specs.SimplifySteps.{AreFirsts, listed_in, source_among, source_by}
+use Rattle.oxc_sourcemap_steps.specs.SimplifySteps.{first_marked, AreTables, target_by, kept_from}
+use Rattle.oxc_sourcemap_steps.specs.SimplifySteps.{with_name, with_source, with_all, token_to}
+use Rattle.oxc_sourcemap_steps.specs.SimplifySteps.{IsBelow, IsSourceBelow, AreWithin, own_index}
+use Rattle.oxc_sourcemap_steps.specs.SimplifySteps.{AreTooMany}
 use Rattle.oxc_sourcemap_steps.specs.declared.simplify.tokens.Tables.{Tables}
 use Rattle.oxc_sourcemap_steps.proofs.Same.{decides_source}
 use Rattle.oxc_sourcemap_steps.proofs.Codes.{AreCodes, eq-codes, items-back, count-codes}
 use Rattle.oxc_sourcemap_steps.proofs.Listed.{decides_marked, AreMarkedCodes}
 use Rattle.oxc_sourcemap_steps.proofs.NextNumbers.{position-below, get-of}
-use Rattle.oxc_sourcemap_steps.proofs.Tables.{kept-is, names-are, sources-are, token-is, get-map}
-use Rattle.oxc_sourcemap_steps.proofs.Tables.{code-of}
+use Rattle.oxc_sourcemap_steps.proofs.SimplifyTables.{kept-is, names-are, sources-are, token-is}
+use Rattle.oxc_sourcemap_steps.proofs.SimplifyTables.{get-map}
+use Rattle.oxc_sourcemap_steps.proofs.SimplifyTables.{code-of}
 
 -- ---- the table of sources
 -- items and their codes, with the marks of both
@@ -118,12 +119,12 @@ sources-below listed (m ∷ ms) n c = (
   sources-below listed ms n c,
 )
 
-own-some : (listed : List (DecodedSource × Bool)) (m : DecodedSource × Bool) (k : ℕ) → index_of_marked m listed ≡ Some k → is_some (own_place (source_among listed m)) ≡ true
+own-some : (listed : List (DecodedSource × Bool)) (m : DecodedSource × Bool) (k : ℕ) → index_of_marked m listed ≡ Some k → is_some (own_index (source_among listed m)) ≡ true
 own-some listed (s, true) k e = ap is_some e
 own-some listed (s, false) k e = ap is_some e
 
 -- a source is listed with its own mark
-own-listed : (listed ms : List (DecodedSource × Bool)) → ((i : ℕ) (m : DecodedSource × Bool) → slice_get ms i ≡ Some m → is_some (own_place (source_among listed m)) ≡ true) → AllByRecursion (λ s. is_some (own_place s) ≡ true) (map (source_among listed) ms)
+own-listed : (listed ms : List (DecodedSource × Bool)) → ((i : ℕ) (m : DecodedSource × Bool) → slice_get ms i ≡ Some m → is_some (own_index (source_among listed m)) ≡ true) → AllByRecursion (λ s. is_some (own_index s) ≡ true) (map (source_among listed) ms)
 own-listed listed [] h = tt
 own-listed listed (m ∷ ms) h = (h 0 m refl, own-listed listed ms (λ i n e. h (suc i) n e))
 
@@ -132,7 +133,7 @@ tables-within r tables are =
     let listed = listed_in r in
     let count : length tables.sources.items ≡ length listed = ap length are.sources ∙ length-map listed (source_among listed) in record {
       sources = subst (λ ss. AllByRecursion (IsSourceBelow (length tables.sources.items)) ss) (sym are.sources) (sources-below listed listed (length tables.sources.items) count);
-      own = subst (λ ss. AllByRecursion (λ s. is_some (own_place s) ≡ true) ss) (sym are.sources)
+      own = subst (λ ss. AllByRecursion (λ s. is_some (own_index s) ≡ true) ss) (sym are.sources)
           (own-listed listed listed (λ i m e. let k = code-of is_same_marked decides_marked listed i m e in own-some listed m k.0 k.1));
       names = firsts-within bytes_eq r.names tables.names.items are.names;
     }

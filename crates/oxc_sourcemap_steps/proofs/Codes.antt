@@ -6,7 +6,7 @@ use Rattle.std.specs.Bool.{Decides}
 use Rattle.std.proofs.lemmas.Bool.Decides.{Decides-eqb}
 use Rattle.std.specs.List.{position_from, list_any}
 use Rattle.std.specs.Option.{option_and_then}
-use Rattle.oxc_sourcemap_steps.specs.SimplifyBodies.{place_of, with_number, AreFirsts}
+use Rattle.oxc_sourcemap_steps.specs.SimplifySteps.{index_in, with_number, AreFirsts}
 
 -- a position, counted from where the search began
 pub record Place {A : Type 0} (x : A) (k : ℕ) (xs : List A) (i : ℕ) : Type 0 where
@@ -88,7 +88,7 @@ module _ {A : Type 0} (same : A → A → Bool) (decides : (x y : A) → Decides
         ∙ ap (λ o. cond (same x y) (Some n) o) (place-same-from (n + 1) k x ks ys e h.1)
 
     -- an item and its code stand at the same place
-    pub place-same : (k : ℕ) (x : A) (ks : List ℕ) (xs : List A) → IsCode k x → AreCodes ks xs → place_of k ks ≡ index x xs
+    pub place-same : (k : ℕ) (x : A) (ks : List ℕ) (xs : List A) → IsCode k x → AreCodes ks xs → index_in k ks ≡ index x xs
     place-same k x ks xs e h = place-same-from 0 k x ks xs e h
 
     codes-last : (k : ℕ) (x : A) (ks : List ℕ) (xs : List A) → IsCode k x → AreCodes ks xs → AreCodes (ks ++ k ∷ []) (xs ++ x ∷ [])
@@ -110,7 +110,7 @@ module _ {A : Type 0} (same : A → A → Bool) (decides : (x y : A) → Decides
     codes-by false false k x ks xs q e h = codes-last k x ks xs e h
 
     pub codes-with : (k : ℕ) (x : A) (ks : List ℕ) (xs : List A) → IsCode k x → AreCodes ks xs → AreCodes (with_number ks k) (with_one xs x)
-    codes-with k x ks xs e h = codes-by (is_some (place_of k ks)) (list_any (same x) xs) k x ks xs (ap is_some (place-same k x ks xs e h) ∙ sym (any-is (same x) 0 xs)) e h
+    codes-with k x ks xs e h = codes-by (is_some (index_in k ks)) (list_any (same x) xs) k x ks xs (ap is_some (place-same k x ks xs e h) ∙ sym (any-is (same x) 0 xs)) e h
 
     -- codes and items that may be there
     abbrev pub IsAnyCode : Option ℕ → Option A → Type 0

@@ -13,7 +13,7 @@ use Rattle.oxc_sourcemap_parts.specs.Record.{Text}
 use Rattle.oxc_sourcemap_join.specs.Joined.{is_same_option}
 use Rattle.oxc_sourcemap_steps.proofs.Indices.{take-one}
 use Rattle.oxc_sourcemap_steps.specs.Same.{is_same_source}
-use Rattle.oxc_sourcemap_steps.specs.SimplifyBodies.{lent_source, SourceKey, is_same_key}
+use Rattle.oxc_sourcemap_steps.specs.SimplifySteps.{lent_source, SourceKey, is_same_key}
 use Rattle.oxc_sourcemap_steps.proofs.Same.{decides_source}
 use Rattle.oxc_sourcemap_steps.proofs.NextNumbers.{position-append, position-push}
 

@@ -7,7 +7,7 @@ use Rattle.std.proofs.lemmas.List.FromFn.{length-map-range_with_len}
 use Rattle.std.specs.List.{list_any, range_with_len}
 use Rattle.oxc_sourcemap_parts.specs.DecodedMap.{DecodedSource}
 use Rattle.oxc_sourcemap_steps.specs.Blocks.{is_listed, listed_flags, marked_from, ignored_from}
-use Rattle.oxc_sourcemap_steps.specs.Bodies.{set_from}
+use Rattle.oxc_sourcemap_steps.specs.RemapSteps.{set_from}
 
 any-last : (p : ℕ → Bool) (xs : List ℕ) (y : ℕ) → list_any p (xs ++ y ∷ []) ≡ (list_any p xs || p y)
 any-last p [] y = elim (p y) as (λ b. (b || false) ≡ b) [ true ↦ refl | false ↦ refl ]

@@ -6,8 +6,9 @@ use Rattle.std.proofs.lemmas.Bool.Decides.{nat_tests}
 use Rattle.std.proofs.lemmas.List.{map-append, length-map}
 use Rattle.std.specs.List.{AllByRecursion, filter_map}
 use Rattle.std.specs.Option.{option_and_then}
-use Rattle.oxc_sourcemap_tokens.specs.declared.error.Error.{Error}
-use Rattle.oxc_sourcemap_tokens.specs.declared.error.Error.TheVariants.{OutOfMemory, TooLarge}
+use Rattle.oxc_sourcemap_tokens.specs.declared.errors.error.Error.{Error}
+use Rattle.oxc_sourcemap_tokens.specs.declared.errors.error.Error.TheVariants.{OutOfMemory}
+use Rattle.oxc_sourcemap_tokens.specs.declared.errors.error.Error.TheVariants.{TooLarge}
 use Rattle.oxc_sourcemap_tokens.specs.Token.{TokenRecord}
 use Rattle.oxc_sourcemap_parts.specs.DecodedMap.{DecodedSource}
 use Rattle.oxc_sourcemap_parts.specs.Record.{Text, MapRecord}
@@ -24,9 +25,9 @@ use Rattle.oxc_sourcemap_steps.specs.Remapped.{remap_targets, Original, original
 use Rattle.oxc_sourcemap_steps.specs.Remapped.{needed_names, token_to, remapped_token}
 use Rattle.oxc_sourcemap_steps.specs.Remapped.{remapped_names, remapped_by, remapping_by, remapping}
 use Rattle.oxc_sourcemap_steps.specs.Remapped.{IsTargetBy, SomeRemapping}
-use Rattle.oxc_sourcemap_steps.specs.Bodies.{block_input, AreBlocks, block_of, block_original}
-use Rattle.oxc_sourcemap_steps.specs.Bodies.{IsBlockTarget, AreBlockTargets, block_ids}
-use Rattle.oxc_sourcemap_steps.specs.Bodies.{put_together}
+use Rattle.oxc_sourcemap_steps.specs.RemapSteps.{block_input, AreBlocks, block_of, block_original}
+use Rattle.oxc_sourcemap_steps.specs.RemapSteps.{IsBlockTarget, AreBlockTargets, block_ids}
+use Rattle.oxc_sourcemap_steps.specs.RemapSteps.{put_together}
 use Rattle.oxc_sourcemap_steps.specs.declared.remap.blocks.Block.{Block}
 use Rattle.oxc_sourcemap_steps.proofs.InputPlaces.{input_for-all}
 use Rattle.oxc_sourcemap_steps.proofs.NeededNames.{all-needed, needed-cons, needed-append}

@@ -5,11 +5,12 @@ use Rattle.std.proofs.lemmas.Option.{slice_get_within}
 use Rattle.std.specs.List.{position_from, AllByRecursion}
 use Rattle.std.specs.Option.{option_map, is_some}
 use Rattle.std.specs.Str.{bytes_eq}
-use Rattle.oxc_sourcemap_tokens.specs.declared.error.Error.TheVariants.{InputLineOrder}
+use Rattle.oxc_sourcemap_tokens.specs.declared.errors.error.Error.TheVariants.{InputLineOrder}
 use Rattle.oxc_sourcemap_parts.specs.Record.{Text}
 use Rattle.oxc_sourcemap_steps.specs.Inputs.{input_for, goes_back, inputs_fault}
-use Rattle.oxc_sourcemap_steps.specs.Bodies.{record_of_input, ready_records, input_paths, IsReady}
-use Rattle.oxc_sourcemap_steps.specs.Bodies.{AreReady}
+use Rattle.oxc_sourcemap_steps.specs.RemapSteps.{record_of_input, ready_records, input_paths}
+use Rattle.oxc_sourcemap_steps.specs.RemapSteps.{IsReady}
+use Rattle.oxc_sourcemap_steps.specs.RemapSteps.{AreReady}
 use Rattle.oxc_sourcemap_steps.specs.declared.remap.inputs.Input.{Input}
 
 -- the input for a path, with its maps seen otherwise

@@ -14,9 +14,9 @@ use Rattle.oxc_sourcemap_parts.proofs.Places.{index-push, index-with, index-stay
 use Rattle.oxc_sourcemap_steps.specs.Composed.{may_be_id}
 
 -- the index of a text among the names up to one more
-pub place_step : {A : Type 0} (f : A → Text) (text : Text) (names : List A) (i : ℕ) (name : A) → i < length names → name ≡ get_or names i name
+pub index_step : {A : Type 0} (f : A → Text) (text : Text) (names : List A) (i : ℕ) (name : A) → i < length names → name ≡ get_or names i name
     → index_of text (map f (take (i + 1) names)) ≡ option_or (index_of text (map f (take i names))) (cond (bytes_eq text (f name)) (Some i) None)
-place_step f text names i name h e =
+index_step f text names i name h e =
     let more : take (i + 1) names ≡ take i names ++ name ∷ [] = take_more names i name h ∙ ap (λ x. take i names ++ x ∷ []) (sym e) in
     let count : length (map f (take i names)) ≡ i = length-map (take i names) f ∙ length-take-le i names (omega (arith, h)) in
     ap (λ xs. index_of text (map f xs)) more ∙ ap (index_of text) (map-append f (take i names) (name ∷ [])) ∙ index-push text (map f (take i names)) (f name)

@@ -3,7 +3,7 @@ pub mod KeptNames
 pub mod Targets
 pub mod Replaced
 pub mod Compositions
-mod WorkedCompositions
+mod ComposeWorked
 pub mod Sorting
 pub mod SortUnique
 pub mod Stable
@@ -16,10 +16,10 @@ pub mod InputPlaces
 pub mod SourceBlocks
 pub mod Gathered
 pub mod MovedSources
-mod Worked
+mod RemapWorked
 pub mod Same
-pub mod Scan
-pub mod Keeping
+pub mod SimplifyScan
+pub mod SimplifyKeeping
 pub mod Order
 pub mod Unique
 pub mod Traces
@@ -30,9 +30,9 @@ pub mod Twice
 pub mod Fewer
 pub mod Codes
 pub mod NextNumbers
-pub mod Found
+pub mod SimplifyFound
 pub mod Listed
-pub mod Tables
+pub mod SimplifyTables
 pub mod Assembled
 pub mod Moved
 pub mod FirstOnes
@@ -40,6 +40,6 @@ pub mod Needed
 pub mod OwnFirsts
 pub mod Renumbered
 pub mod NewIds
-pub mod Kept
-pub mod Walk
+pub mod SimplifyKept
+pub mod SimplifyWalk
 mod SimplifyWorked

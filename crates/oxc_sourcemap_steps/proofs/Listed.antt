@@ -9,7 +9,7 @@ use Rattle.oxc_sourcemap_join.proofs.SameToken.{decides_and, decides_as}
 use Rattle.oxc_sourcemap_steps.specs.Same.{is_same_source}
 use Rattle.oxc_sourcemap_steps.specs.Simplified.{is_same_marked, index_of_marked, listings}
 use Rattle.oxc_sourcemap_steps.specs.Simplified.{with_source}
-use Rattle.oxc_sourcemap_steps.specs.SimplifyBodies.{with_any}
+use Rattle.oxc_sourcemap_steps.specs.SimplifySteps.{with_any}
 use Rattle.oxc_sourcemap_steps.proofs.Same.{decides_source}
 use Rattle.oxc_sourcemap_steps.proofs.Codes.{any-is, with_one, AreCodes, codes-with}
 

@@ -15,21 +15,22 @@ use Rattle.std.specs.declared.alloc.Global.{Global}
 use Rattle.std.specs.HashMap.{HashMap}
 use Rattle.std.specs.List.{position_from, flat_map}
 use Rattle.std.specs.Str.{bytes_eq}
-use Rattle.oxc_sourcemap_tokens.specs.declared.error.Error.{Error}
-use Rattle.oxc_sourcemap_tokens.specs.declared.error.Error.TheVariants.{TooLarge}
+use Rattle.oxc_sourcemap_tokens.specs.declared.errors.error.Error.{Error}
+use Rattle.oxc_sourcemap_tokens.specs.declared.errors.error.Error.TheVariants.{TooLarge}
 use Rattle.oxc_sourcemap_tokens.specs.Errors.{unless}
 use Rattle.oxc_sourcemap_parts.specs.DecodedMap.{DecodedSource, decoded_map_of, sources_of}
 use Rattle.oxc_sourcemap_parts.specs.declared.parts.SourceMapParts.{SourceMapParts}
 use Rattle.oxc_sourcemap_parts.specs.Record.{Text, MapRecord}
 use Rattle.oxc_sourcemap_parts.specs.Views.{record_of_parts, text_of}
-use Rattle.oxc_sourcemap_steps.specs.Inherited.{HasPlaces}
+use Rattle.oxc_sourcemap_steps.specs.InheritSteps.{HasIndices}
 use Rattle.oxc_sourcemap_steps.specs.Blocks.{sources_by, sources_for, remapped_sources}
 use Rattle.oxc_sourcemap_steps.specs.Inputs.{input_for, decoded_inputs, owned_input_records}
 use Rattle.oxc_sourcemap_steps.specs.Inputs.{inputs_fault}
 use Rattle.oxc_sourcemap_steps.specs.Remapped.{listed_sources, remapped_by, has_few, SomeRemapping}
-use Rattle.oxc_sourcemap_steps.specs.Bodies.{source_record, source_records, source_lists, place_in}
-use Rattle.oxc_sourcemap_steps.specs.Bodies.{AreBelow, AreLastUses, sources_in, with_last}
-use Rattle.oxc_sourcemap_steps.specs.Bodies.{KeepsOthers, HasNext, source_paths, without_sources}
+use Rattle.oxc_sourcemap_steps.specs.RemapSteps.{source_record, source_records, source_lists}
+use Rattle.oxc_sourcemap_steps.specs.RemapSteps.{listed_index, AreBelow, AreLastUses, sources_in}
+use Rattle.oxc_sourcemap_steps.specs.RemapSteps.{with_last, KeepsOthers, HasNext, source_paths}
+use Rattle.oxc_sourcemap_steps.specs.RemapSteps.{without_sources}
 use Rattle.oxc_sourcemap_steps.specs.declared.remap.moving.Source.{Source}
 
 -- ---- sources with their contents
@@ -100,13 +101,13 @@ left-path done rest more all x e h =
 
 -- ---- the last use of an input
 module _ {S : Type 0} (places : HashMap (Bor Text) ℕ S) (paths : List Text) (last : List ℕ) (n : ℕ) (h : AreLastUses n places paths last) where
-  before : (i k : ℕ) → i < n + 1 → (place_in places (get_or paths n []) ≢ Some k) → place_in places (get_or paths i []) ≡ Some k → i < n
+  before : (i k : ℕ) → i < n + 1 → (listed_index places (get_or paths n []) ≢ Some k) → listed_index places (get_or paths i []) ≡ Some k → i < n
   before i k f differs g =
-      let apart : i ≢ n = λ q. differs (sym (ap (λ x. place_in places (get_or paths x [])) q) ∙ g) in
+      let apart : i ≢ n = λ q. differs (sym (ap (λ x. listed_index places (get_or paths x [])) q) ∙ g) in
       grind (arith, f, apart)
 
-  last-by : (p : ℕ) → place_in places (get_or paths n []) ≡ Some p → p < length last → (b : Bool) (i k : ℕ) → (k == p) ≡ b → i < n + 1
-      → place_in places (get_or paths i []) ≡ Some k → i ≤ get_or (set last p n) k 0
+  last-by : (p : ℕ) → listed_index places (get_or paths n []) ≡ Some p → p < length last → (b : Bool) (i k : ℕ) → (k == p) ≡ b → i < n + 1
+      → listed_index places (get_or paths i []) ≡ Some k → i ≤ get_or (set last p n) k 0
   last-by p at a true i k e f g =
       let same : k ≡ p = grind (arith, e) in
       let is : get_or (set last p n) k 0 ≡ n = ap (λ x. get_or (set last p n) x 0) same ∙ get_or-set_same last p n 0 a in
@@ -119,15 +120,15 @@ module _ {S : Type 0} (places : HashMap (Bor Text) ℕ S) (paths : List Text) (l
       omega (arith, was, is)
 
   -- one more source, with an input
-  pub last-more : (p : ℕ) → place_in places (get_or paths n []) ≡ Some p → p < length last → AreLastUses (n + 1) places paths (set last p n)
+  pub last-more : (p : ℕ) → listed_index places (get_or paths n []) ≡ Some p → p < length last → AreLastUses (n + 1) places paths (set last p n)
   last-more p at a i k f g = last-by p at a (k == p) i k refl f g
 
   -- one more source, without one
-  pub last-none : place_in places (get_or paths n []) ≡ None → AreLastUses (n + 1) places paths last
+  pub last-none : listed_index places (get_or paths n []) ≡ None → AreLastUses (n + 1) places paths last
   last-none none i k f g = h i k (before i k f (λ q. absurd (cc (none, q))) g) g
 
   -- one more source
-  pub last-next : (o : Option ℕ) → place_in places (get_or paths n []) ≡ o → IfSome o (λ k. k < length last) → AreLastUses (n + 1) places paths (with_last last o n)
+  pub last-next : (o : Option ℕ) → listed_index places (get_or paths n []) ≡ o → IfSome o (λ k. k < length last) → AreLastUses (n + 1) places paths (with_last last o n)
   last-next None at a = last-none at
   last-next (Some p) at a = last-more p at a
 
@@ -232,12 +233,12 @@ flat-same : {A B : Type 0} (f g : A → List B) → ((x : A) → f x ≡ g x) �
 flat-same f g h [] = refl
 flat-same f g h (x ∷ xs) = ap (λ ys. ys ++ flat_map f xs) (h x) ∙ ap (λ ys. g x ++ ys) (flat-same f g h xs)
 
-module _ {S : Type 0} (inputs : List (Bor Text × SourceMapParts)) (places : HashMap (Bor Text) ℕ S) (has : HasPlaces (paths_of inputs) places) where
+module _ {S : Type 0} (inputs : List (Bor Text × SourceMapParts)) (places : HashMap (Bor Text) ℕ S) (has : HasIndices (paths_of inputs) places) where
   pub stands-all : (lists : List (List DecodedSource)) (ss : List DecodedSource) → lists ≡ input_lists inputs
-      → flat_map (λ s. sources_in lists (place_in places s.path) s) ss ≡ remapped_sources (decoded_inputs (owned_input_records inputs)) ss
+      → flat_map (λ s. sources_in lists (listed_index places s.path) s) ss ≡ remapped_sources (decoded_inputs (owned_input_records inputs)) ss
   stands-all lists ss e =
-      ap (λ ls. flat_map (λ s. sources_in ls (place_in places s.path) s) ss) e
-      ∙ flat-same (λ s. sources_in (input_lists inputs) (place_in places s.path) s) (sources_for (decoded_inputs (owned_input_records inputs)))
+      ap (λ ls. flat_map (λ s. sources_in ls (listed_index places s.path) s) ss) e
+      ∙ flat-same (λ s. sources_in (input_lists inputs) (listed_index places s.path) s) (sources_for (decoded_inputs (owned_input_records inputs)))
       (λ s. ap (λ o. sources_in (input_lists inputs) o s) (has s.path) ∙ stands-at inputs s) ss
 
   pub all-below : (lists : List (Vec Source Global)) (n : ℕ) → source_lists lists ≡ input_lists inputs → n ≡ length lists → AreBelow n places

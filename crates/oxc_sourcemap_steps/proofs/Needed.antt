@@ -4,8 +4,8 @@ use Rattle.std.proofs.Common.{drop, Option, Some, None, arith}
 use Rattle.std.proofs.lemmas.List.{drop_more}
 use Rattle.std.specs.Option.{option_and_then}
 use Rattle.oxc_sourcemap_tokens.specs.Token.{TokenRecord}
-use Rattle.oxc_sourcemap_steps.specs.SimplifyBodies.{target_by, with_name, with_listings}
-use Rattle.oxc_sourcemap_steps.specs.SimplifyBodies.{with_source, with_any, with_all}
+use Rattle.oxc_sourcemap_steps.specs.SimplifySteps.{target_by, with_name, with_listings}
+use Rattle.oxc_sourcemap_steps.specs.SimplifySteps.{with_source, with_any, with_all}
 use Rattle.oxc_sourcemap_steps.specs.declared.simplify.tokens.Tables.{Tables}
 use Rattle.oxc_sourcemap_steps.specs.declared.simplify.tokens.Target.{Target}
 use Rattle.oxc_sourcemap_steps.proofs.NextNumbers.{any-more}

@@ -18,7 +18,7 @@ use Rattle.oxc_sourcemap_steps.specs.InheritedNames.{with_inherited}
 use Rattle.oxc_sourcemap_steps.proofs.InheritedNames.{IsPlaced, placed-inherited, with_texts-append}
 use Rattle.oxc_sourcemap_steps.proofs.InheritedNames.{with_texts-front}
 use Rattle.oxc_sourcemap_steps.specs.Remapped.{Original, needed_name, needed_names, token_to}
-use Rattle.oxc_sourcemap_steps.specs.Bodies.{AreApart}
+use Rattle.oxc_sourcemap_steps.specs.RemapSteps.{AreApart}
 
 placed-more : (names more : List Text) (o : Option Text) → IsPlaced names o → IsPlaced (with_texts names more) o
 placed-more names more None p = tt

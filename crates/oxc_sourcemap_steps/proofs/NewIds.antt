@@ -6,13 +6,14 @@ use Rattle.std.proofs.Common.{nat_lt, get_or, Result, Ok, Err, OnOk, IfOk, IfErr
 use Rattle.std.proofs.lemmas.Bool.Decides.{nat_tests}
 use Rattle.std.specs.Option.{option_and_then, option_or, unwrap_or}
 use Rattle.oxc_sourcemap_tokens.specs.Token.{TokenRecord}
-use Rattle.oxc_sourcemap_tokens.specs.declared.error.Error.{Error}
-use Rattle.oxc_sourcemap_tokens.specs.declared.error.Error.TheVariants.{OutOfMemory, TooLarge}
-use Rattle.oxc_sourcemap_steps.specs.SimplifyBodies.{place_of, with_number, with_any, with_all}
-use Rattle.oxc_sourcemap_steps.specs.SimplifyBodies.{own_place, IsNumbering, with_places}
-use Rattle.oxc_sourcemap_steps.specs.SimplifyBodies.{with_places_of, IsPlaced, IsKnown, IsNewId}
-use Rattle.oxc_sourcemap_steps.specs.SimplifyBodies.{AreIds, with_listings, token_to, with_name}
-use Rattle.oxc_sourcemap_steps.specs.SimplifyBodies.{with_source, target_by}
+use Rattle.oxc_sourcemap_tokens.specs.declared.errors.error.Error.{Error}
+use Rattle.oxc_sourcemap_tokens.specs.declared.errors.error.Error.TheVariants.{OutOfMemory}
+use Rattle.oxc_sourcemap_tokens.specs.declared.errors.error.Error.TheVariants.{TooLarge}
+use Rattle.oxc_sourcemap_steps.specs.SimplifySteps.{index_in, with_number, with_any, with_all}
+use Rattle.oxc_sourcemap_steps.specs.SimplifySteps.{own_index, IsNumbering, with_places}
+use Rattle.oxc_sourcemap_steps.specs.SimplifySteps.{with_places_of, IsPlaced, IsKnown, IsNewId}
+use Rattle.oxc_sourcemap_steps.specs.SimplifySteps.{AreIds, with_listings, token_to, with_name}
+use Rattle.oxc_sourcemap_steps.specs.SimplifySteps.{with_source, target_by}
 use Rattle.oxc_sourcemap_steps.specs.declared.simplify.ids.NewIds.{NewIds}
 use Rattle.oxc_sourcemap_steps.specs.declared.simplify.sources.Source.{Source}
 use Rattle.oxc_sourcemap_steps.specs.declared.simplify.tokens.Tables.{Tables}
@@ -26,13 +27,13 @@ some-of (Some x) e = (x, refl)
 
 -- ---- what has a place keeps it
 abbrev pub Grows : List ℕ → List ℕ → Type 0
-Grows ks ls = (k i : ℕ) → place_of k ks ≡ Some i → place_of k ls ≡ Some i
+Grows ks ls = (k i : ℕ) → index_in k ks ≡ Some i → index_in k ls ≡ Some i
 
 last-grows : (ks : List ℕ) (j : ℕ) → Grows ks (ks ++ j ∷ [])
 last-grows ks j k i e = position-push (λ n. k == n) ks j (length ks) refl ∙ ap (λ o. option_or o (cond (k == j) (Some (length ks)) None)) e
 
 number-grows : (ks : List ℕ) (j : ℕ) → Grows ks (with_number ks j)
-number-grows ks j k i e = elim (is_some (place_of j ks)) as (λ b. place_of k (cond b ks (ks ++ j ∷ [])) ≡ Some i) [
+number-grows ks j k i e = elim (is_some (index_in j ks)) as (λ b. index_in k (cond b ks (ks ++ j ∷ [])) ≡ Some i) [
   | true ↦ e
   | false ↦ last-grows ks j k i e
 ]
@@ -65,13 +66,13 @@ or-some : (o : Option ℕ) (n : ℕ) → is_some (option_or o (Some n)) ≡ true
 or-some None n = refl
 or-some (Some i) n = refl
 
-number-placed : (ks : List ℕ) (k : ℕ) → is_some (place_of k (with_number ks k)) ≡ true
-number-placed ks k = elim (is_some (place_of k ks)) as (λ b. is_some (place_of k ks) ≡ b → is_some (place_of k (cond b ks (ks ++ k ∷ []))) ≡ true) [
+number-placed : (ks : List ℕ) (k : ℕ) → is_some (index_in k (with_number ks k)) ≡ true
+number-placed ks k = elim (is_some (index_in k ks)) as (λ b. is_some (index_in k ks) ≡ b → is_some (index_in k (cond b ks (ks ++ k ∷ []))) ≡ true) [
   | true ↦ (λ e. e)
   | false ↦ (λ e.
       let n = length ks in
-      ap is_some (position-push (λ j. k == j) ks k n refl ∙ ap (λ b. option_or (place_of k ks) (cond b (Some n) None)) (itself k))
-      ∙ or-some (place_of k ks) n)
+      ap is_some (position-push (λ j. k == j) ks k n refl ∙ ap (λ b. option_or (index_in k ks) (cond b (Some n) None)) (itself k))
+      ∙ or-some (index_in k ks) n)
 ] refl
 
 any-placed : (ks : List ℕ) (o : Option ℕ) → IsPlaced (with_any ks o) o
@@ -80,37 +81,37 @@ any-placed ks (Some k) = number-placed ks k
 
 placed-grows : (ks ls : List ℕ) (o : Option ℕ) → Grows ks ls → IsPlaced ks o → IsPlaced ls o
 placed-grows ks ls None g p = tt
-placed-grows ks ls (Some k) g p = let h = some-of (place_of k ks) p in ap is_some (g k h.0 h.1)
+placed-grows ks ls (Some k) g p = let h = some-of (index_in k ks) p in ap is_some (g k h.0 h.1)
 
 -- what has a place has the same one later
-place-stays : (ks ls : List ℕ) (o : Option ℕ) → Grows ks ls → IsPlaced ks o → option_and_then (λ k. place_of k ks) o ≡ option_and_then (λ k. place_of k ls) o
+place-stays : (ks ls : List ℕ) (o : Option ℕ) → Grows ks ls → IsPlaced ks o → option_and_then (λ k. index_in k ks) o ≡ option_and_then (λ k. index_in k ls) o
 place-stays ks ls None g p = refl
-place-stays ks ls (Some k) g p = let h = some-of (place_of k ks) p in h.1 ∙ sym (g k h.0 h.1)
+place-stays ks ls (Some k) g p = let h = some-of (index_in k ks) p in h.1 ∙ sym (g k h.0 h.1)
 
 by-mark : (ks : List ℕ) (b : Bool) (p q : Option ℕ) → IsPlaced ks p → IsPlaced ks q → IsPlaced ks (cond b q p)
 by-mark ks true p q e f = f
 by-mark ks false p q e f = e
 
-own-placed : (ks : List ℕ) (s : Source) → IsPlaced ks s.plain → IsPlaced ks s.ignored → IsPlaced ks (own_place s)
+own-placed : (ks : List ℕ) (s : Source) → IsPlaced ks s.plain → IsPlaced ks s.ignored → IsPlaced ks (own_index s)
 own-placed ks s p q = by-mark ks s.is_ignored s.plain s.ignored p q
 
-own-known : (ks : List ℕ) (o : Option ℕ) (id : ℕ) → is_some o ≡ true → IsPlaced ks o → id ≡ unwrap_or (option_and_then (λ k. place_of k ks) o) 4294967295 → option_and_then (λ k. place_of k ks) o ≡ Some id
+own-known : (ks : List ℕ) (o : Option ℕ) (id : ℕ) → is_some o ≡ true → IsPlaced ks o → id ≡ unwrap_or (option_and_then (λ k. index_in k ks) o) 4294967295 → option_and_then (λ k. index_in k ks) o ≡ Some id
 own-known ks None id e p f = absurd (cc (e))
-own-known ks (Some k) id e p f = let h = some-of (place_of k ks) p in h.1 ∙ ap (λ i. Some i) (sym (f ∙ ap (λ o. unwrap_or o 4294967295) h.1))
+own-known ks (Some k) id e p f = let h = some-of (index_in k ks) p in h.1 ∙ ap (λ i. Some i) (sym (f ∙ ap (λ o. unwrap_or o 4294967295) h.1))
 
-own-small : (ks : List ℕ) (o : Option ℕ) (id : ℕ) → length ks ≤ 4294967295 → option_and_then (λ k. place_of k ks) o ≡ Some id → id < 4294967295
+own-small : (ks : List ℕ) (o : Option ℕ) (id : ℕ) → length ks ≤ 4294967295 → option_and_then (λ k. index_in k ks) o ≡ Some id → id < 4294967295
 own-small ks None id few e = absurd (cc (e))
 own-small ks (Some k) id few e = let b = position-below (λ j. k == j) ks id e in omega (arith, b, few)
 
 -- what gets its places is known by the number of its own
-pub now-known : (ks : List ℕ) (s : Source) (id : ℕ) → is_some (own_place s) ≡ true → length (with_places ks s) ≤ 4294967295 → id ≡ unwrap_or (option_and_then (λ k. place_of k (with_places ks s)) (own_place s)) 4294967295
+pub now-known : (ks : List ℕ) (s : Source) (id : ℕ) → is_some (own_index s) ≡ true → length (with_places ks s) ≤ 4294967295 → id ≡ unwrap_or (option_and_then (λ k. index_in k (with_places ks s)) (own_index s)) 4294967295
     → IsNewId (with_places ks s) (Some s) id
 now-known ks s id own few e =
     let one = with_any ks s.plain in
     let plain = placed-grows one (with_any one s.ignored) s.plain (any-grows one s.ignored) (any-placed ks s.plain) in
     let ignored = any-placed one s.ignored in
-    let is = own-known (with_places ks s) (own_place s) id own (own-placed (with_places ks s) s plain ignored) e in
-    (record { plain = plain; ignored = ignored; own = is }, own-small (with_places ks s) (own_place s) id few is)
+    let is = own-known (with_places ks s) (own_index s) id own (own-placed (with_places ks s) s plain ignored) e in
+    (record { plain = plain; ignored = ignored; own = is }, own-small (with_places ks s) (own_index s) id few is)
 
 any-same : (ks : List ℕ) (o : Option ℕ) → IsPlaced ks o → with_any ks o ≡ ks
 any-same ks None p = refl
@@ -119,7 +120,7 @@ any-same ks (Some k) p = ap (λ b. cond b ks (ks ++ k ∷ [])) p
 known-same : (ks : List ℕ) (s : Source) (id : ℕ) → IsKnown ks s id → with_places ks s ≡ ks
 known-same ks s id h = ap (λ os. with_any os s.ignored) (any-same ks s.plain h.plain) ∙ any-same ks s.ignored h.ignored
 
-own-grows : (ks ls : List ℕ) (o : Option ℕ) (id : ℕ) → Grows ks ls → option_and_then (λ k. place_of k ks) o ≡ Some id → option_and_then (λ k. place_of k ls) o ≡ Some id
+own-grows : (ks ls : List ℕ) (o : Option ℕ) (id : ℕ) → Grows ks ls → option_and_then (λ k. index_in k ks) o ≡ Some id → option_and_then (λ k. index_in k ls) o ≡ Some id
 own-grows ks ls None id g e = absurd (cc (e))
 own-grows ks ls (Some k) id g e = g k id e
 
@@ -127,7 +128,7 @@ known-grows : (ks ls : List ℕ) (s : Source) (id : ℕ) → Grows ks ls → IsK
 known-grows ks ls s id g h = record {
   plain = placed-grows ks ls s.plain g h.plain;
   ignored = placed-grows ks ls s.ignored g h.ignored;
-  own = own-grows ks ls (own_place s) id g h.own;
+  own = own-grows ks ls (own_index s) id g h.own;
 }
 
 -- a token with its ids as they are now, and as they are in the end
@@ -141,8 +142,8 @@ settled ks ns sources names t (Some target) g h =
     let plain = placed-grows one now s.plain (any-grows one s.ignored) (any-placed ks s.plain) in
     let own = own-placed now s plain (any-placed one s.ignored) in
     let name = place-stays (with_any ns target.name) names target.name h (any-placed ns target.name) in
-    ap (λ id. record t { source_id = id; name_id = option_and_then (λ k. place_of k (with_any ns target.name)) target.name }) (place-stays now sources (own_place s) g own)
-    ∙ ap (λ id. record t { source_id = option_and_then (λ k. place_of k sources) (own_place s); name_id = id }) name
+    ap (λ id. record t { source_id = id; name_id = option_and_then (λ k. index_in k (with_any ns target.name)) target.name }) (place-stays now sources (own_index s) g own)
+    ∙ ap (λ id. record t { source_id = option_and_then (λ k. index_in k sources) (own_index s); name_id = id }) name
 
 -- ---- the index of an old id
 pub get-none : {A : Type 0} (xs : List A) (i : ℕ) → length xs ≤ i → slice_get xs i ≡ None
@@ -191,7 +192,7 @@ module _ (listed : List Source) (n : NewIds) (are : AreIds listed n) (id : Optio
       let q = slot-in (length listed) (length n.ids.items) k id are.len slot small h in
       let here : slice_get listed k ≡ Some s = sym (ap (option_and_then (slice_get listed)) q.0) ∙ at in
       let known = are.known k new s h e here in
-      (known-same n.numbering.order.items s new known, (known, own-small n.numbering.order.items (own_place s) new are.numbering.few known.own))
+      (known-same n.numbering.order.items s new known, (known, own-small n.numbering.order.items (own_index s) new are.numbering.few known.own))
   hit-by new None e at (inr h) = (refl, sym (inner 4294967295 new (sym (are.last k h) ∙ e)))
   hit-by new (Some s) e at (inr h) =
       let q = slot-out listed (length n.ids.items) k id are.len slot small h in absurd (let f : None ≡ Some s = sym q ∙ at in cc (f))
@@ -227,7 +228,7 @@ pub ids-more : (listed : List Source) (n m : NewIds) (k new : ℕ) (s : Source) 
 ids-more listed n m k new s are h at order numbering count ids known =
     let size : length m.ids.items ≡ length n.ids.items = ap length ids ∙ count-set n.ids.items k (Some new) in
     let get : (j : ℕ) → slice_get m.ids.items j ≡ cond (j == k) (Some (Some new)) (slice_get n.ids.items j) = λ j. ap (λ xs. slice_get xs j) ids ∙ get-set n.ids.items k (Some new) j (omega (arith, h)) in
-    let grows : Grows n.numbering.order.items m.numbering.order.items = λ j i e. ap (place_of j) order ∙ places-grow n.numbering.order.items s j i e in record {
+    let grows : Grows n.numbering.order.items m.numbering.order.items = λ j i e. ap (index_in j) order ∙ places-grow n.numbering.order.items s j i e in record {
       numbering = numbering;
       count = count ∙ are.count;
       len = size ∙ are.len;

@@ -6,7 +6,7 @@ use Rattle.std.proofs.lemmas.Bool.Decides.{nat_tests}
 use Rattle.std.specs.Bool.{beq}
 use Rattle.std.specs.List.{position_from, AllByRecursion}
 use Rattle.std.specs.Option.{option_or}
-use Rattle.oxc_sourcemap_steps.specs.SimplifyBodies.{place_of, with_any, AreApart, first_marked}
+use Rattle.oxc_sourcemap_steps.specs.SimplifySteps.{index_in, with_any, AreApart, first_marked}
 
 pub position-append : {A : Type 0} (t : A → Bool) (k : ℕ) (xs ys : List A) → position_from t k (xs ++ ys) ≡ option_or (position_from t k xs) (position_from t (k + length xs) ys)
 position-append t k [] ys = ap (λ n. position_from t n ys) (omega arith)
@@ -55,16 +55,16 @@ or-none None = refl
 or-none (Some x) = refl
 
 -- the number that comes next
-place-by : (b : Bool) (j k n : ℕ) (ks : List ℕ) (o : Option (Option ℕ)) → (j == k) ≡ b → place_of k ks ≡ None → (b ≡ false → o ≡ Some (place_of j ks))
-    → cond b (Some (Some n)) o ≡ Some (option_or (place_of j ks) (cond b (Some n) None))
+place-by : (b : Bool) (j k n : ℕ) (ks : List ℕ) (o : Option (Option ℕ)) → (j == k) ≡ b → index_in k ks ≡ None → (b ≡ false → o ≡ Some (index_in j ks))
+    → cond b (Some (Some n)) o ≡ Some (option_or (index_in j ks) (cond b (Some n) None))
 place-by true j k n ks o e none h =
     let same : j ≡ k = grind (arith, nat_tests, e) in
-    let gone : place_of j ks ≡ None = ap (λ i. place_of i ks) same ∙ none in
+    let gone : index_in j ks ≡ None = ap (λ i. index_in i ks) same ∙ none in
     ap (λ p. Some (option_or p (Some n))) (sym gone)
-place-by false j k n ks o e none h = h refl ∙ ap (λ p. Some p) (or-none (place_of j ks))
+place-by false j k n ks o e none h = h refl ∙ ap (λ p. Some p) (or-none (index_in j ks))
 
-pub numbers-more : (ns : List (Option ℕ)) (ks : List ℕ) (k n : ℕ) → ((j : ℕ) → j < length ns → slice_get ns j ≡ Some (place_of j ks)) → place_of k ks ≡ None → n ≡ length ks → k < length ns
-    → (j : ℕ) → j < length (set ns k (Some n)) → slice_get (set ns k (Some n)) j ≡ Some (place_of j (ks ++ k ∷ []))
+pub numbers-more : (ns : List (Option ℕ)) (ks : List ℕ) (k n : ℕ) → ((j : ℕ) → j < length ns → slice_get ns j ≡ Some (index_in j ks)) → index_in k ks ≡ None → n ≡ length ks → k < length ns
+    → (j : ℕ) → j < length (set ns k (Some n)) → slice_get (set ns k (Some n)) j ≡ Some (index_in j (ks ++ k ∷ []))
 numbers-more ns ks k n h none e w j l =
     let count = count-set ns k (Some n) in
     get-set ns k (Some n) j w ∙ place-by (j == k) j k n ks (slice_get ns j) refl none (λ _. h j (omega (arith, l, count)))
@@ -87,7 +87,7 @@ apart-by : (ks : List ℕ) (k : ℕ) → AllByRecursion (λ j. (j == k) ≡ fals
 apart-by [] k a h = (tt, tt)
 apart-by (j ∷ ks) k a h = (all-last (λ i. (j == i) ≡ false) ks k h.0 a.0, apart-by ks k a.1 h.1)
 
-pub apart-more : (ks : List ℕ) (k : ℕ) → place_of k ks ≡ None → AreApart ks → AreApart (ks ++ k ∷ [])
+pub apart-more : (ks : List ℕ) (k : ℕ) → index_in k ks ≡ None → AreApart ks → AreApart (ks ++ k ∷ [])
 apart-more ks k none h = apart-by ks k (away 0 k ks none) h
 
 pub within-more : (n : ℕ) (ks : List ℕ) (k : ℕ) → AllByRecursion (λ j. j < n) ks → k < n → AllByRecursion (λ j. j < n) (ks ++ k ∷ [])
@@ -101,13 +101,13 @@ one-more false (j ∷ ks) k = let q = one-more false ks k in omega (arith, q)
 
 pub any-more : (ks : List ℕ) (o : Option ℕ) → length ks ≤ length (with_any ks o)
 any-more ks None = omega arith
-any-more ks (Some k) = one-more (is_some (place_of k ks)) ks k
+any-more ks (Some k) = one-more (is_some (index_in k ks)) ks k
 
 is-none : (o : Option ℕ) → is_some o ≡ false → o ≡ None
 is-none None e = refl
 is-none (Some x) e = absurd (cc (e))
 
-small-by : (x : Option ℕ) (ks : List ℕ) (k : ℕ) → x ≡ place_of k ks → length ks ≤ 4294967295 → IfSome x (λ id. id < 4294967295)
+small-by : (x : Option ℕ) (ks : List ℕ) (k : ℕ) → x ≡ index_in k ks → length ks ≤ 4294967295 → IfSome x (λ id. id < 4294967295)
 small-by None ks k e few = tt
 small-by (Some i) ks k e few = let b = position-below (λ j. k == j) ks i (sym e) in omega (arith, b, few)
 
@@ -126,8 +126,8 @@ get-same (y ∷ ys) (suc k) d e h = get-same ys k d e (omega (arith, h))
 pub none-at : (ns : List (Option ℕ)) (k : ℕ) (o x : Option ℕ) → slice_get ns k ≡ Some o → x ≡ get_or ns k x → is_some x ≡ false → o ≡ None
 none-at ns k o x e f g = let same : x ≡ o = f ∙ get-of ns k x o e in is-none o (sym (ap is_some same) ∙ g)
 
-pub place-small : (ns : List (Option ℕ)) (k : ℕ) (ks : List ℕ) (x : Option ℕ) → slice_get ns k ≡ Some (place_of k ks) → x ≡ get_or ns k x → length ks ≤ 4294967295 → IfSome x (λ id. id < 4294967295)
-place-small ns k ks x e f few = small-by x ks k (f ∙ get-of ns k x (place_of k ks) e) few
+pub place-small : (ns : List (Option ℕ)) (k : ℕ) (ks : List ℕ) (x : Option ℕ) → slice_get ns k ≡ Some (index_in k ks) → x ≡ get_or ns k x → length ks ≤ 4294967295 → IfSome x (λ id. id < 4294967295)
+place-small ns k ks x e f few = small-by x ks k (f ∙ get-of ns k x (index_in k ks) e) few
 
 -- ---- the first ones with a mark
 mark-by : (b f : Bool) (c k i : ℕ) (mark : Bool) (before : List (ℕ × Bool)) (places : List (Option ℕ)) → (c == k) ≡ b → (b ≡ true → slice_get places k ≡ Some (first_marked before k mark)) → (b ≡ false → slice_get places c ≡ Some (first_marked before c mark))

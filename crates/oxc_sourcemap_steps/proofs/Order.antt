@@ -7,8 +7,8 @@ use Rattle.oxc_sourcemap_parts.specs.Sorted.{is_sorted_by}
 use Rattle.oxc_sourcemap_lookup.specs.Lookup.{first, on_line}
 use Rattle.oxc_sourcemap_steps.specs.Simple.{is_further, is_followed, found_after, found_items}
 use Rattle.oxc_sourcemap_steps.specs.Simple.{is_repeat, is_after_repeat, kept_after, are_together}
-use Rattle.oxc_sourcemap_steps.proofs.Keeping.{Apart, sorted-rest, sorted-two, together-is}
-use Rattle.oxc_sourcemap_steps.proofs.Keeping.{follows-not}
+use Rattle.oxc_sourcemap_steps.proofs.SimplifyKeeping.{Apart, sorted-rest, sorted-two, together-is}
+use Rattle.oxc_sourcemap_steps.proofs.SimplifyKeeping.{follows-not}
 
 pub precedes-by : (a b c d : ℕ) → a ≤ c → (a ≡ c → b ≤ d) → (nat_lt a c || (a == c && nat_le b d)) ≡ true
 precedes-by a b c d e f = grind (arith, nat_tests, e, f)

@@ -9,7 +9,7 @@ use Rattle.oxc_sourcemap_parts.specs.Record.{Text}
 use Rattle.oxc_sourcemap_join.specs.Joined.{is_same_option}
 use Rattle.oxc_sourcemap_steps.proofs.SourceBlocks.{paths-of}
 use Rattle.oxc_sourcemap_steps.specs.Same.{is_same_source}
-use Rattle.oxc_sourcemap_steps.specs.SimplifyBodies.{AreFirsts}
+use Rattle.oxc_sourcemap_steps.specs.SimplifySteps.{AreFirsts}
 use Rattle.oxc_sourcemap_steps.proofs.Codes.{position-same}
 use Rattle.oxc_sourcemap_steps.proofs.Same.{decides_source}
 

@@ -24,10 +24,10 @@ use Rattle.oxc_sourcemap_steps.specs.Blocks.{unless_empty, remapped_ignore_list}
 use Rattle.oxc_sourcemap_steps.specs.Inputs.{input_for, decoded_inputs}
 use Rattle.oxc_sourcemap_steps.specs.Remapped.{listed_sources, input_of, original_by, block_start}
 use Rattle.oxc_sourcemap_steps.specs.Remapped.{original_at, original}
-use Rattle.oxc_sourcemap_steps.specs.Bodies.{record_of_input, IsFor, block_sources, block_input}
-use Rattle.oxc_sourcemap_steps.specs.Bodies.{HasSources, IsBlock, AreBlocksFrom, AreBlocks}
-use Rattle.oxc_sourcemap_steps.specs.Bodies.{HasInput, IsUsable, AreUsable, block_of}
-use Rattle.oxc_sourcemap_steps.specs.Bodies.{block_original, set_from, block_ids}
+use Rattle.oxc_sourcemap_steps.specs.RemapSteps.{record_of_input, IsFor, block_sources, block_input}
+use Rattle.oxc_sourcemap_steps.specs.RemapSteps.{HasSources, IsBlock, AreBlocksFrom, AreBlocks}
+use Rattle.oxc_sourcemap_steps.specs.RemapSteps.{HasInput, IsUsable, AreUsable, block_of}
+use Rattle.oxc_sourcemap_steps.specs.RemapSteps.{block_original, set_from, block_ids}
 use Rattle.oxc_sourcemap_steps.specs.declared.remap.blocks.Block.{Block}
 use Rattle.oxc_sourcemap_steps.specs.declared.remap.inputs.Input.{Input}
 use Rattle.oxc_sourcemap_steps.proofs.Indices.{one-at, some_is}

@@ -17,10 +17,10 @@ use Rattle.oxc_sourcemap_steps.specs.Simplified.{at_next_column}
 use Rattle.oxc_sourcemap_steps.specs.Same.{point_alike}
 use Rattle.oxc_sourcemap_steps.specs.SimplifyLaws.{TracesStay, StaysSorted, IsLeast, MappingsStay}
 use Rattle.oxc_sourcemap_steps.proofs.Same.{decides_originals, entry_by}
-use Rattle.oxc_sourcemap_steps.proofs.Scan.{scan, found-scan}
-use Rattle.oxc_sourcemap_steps.proofs.Keeping.{place_of, off, front, here, past, sorted-two}
-use Rattle.oxc_sourcemap_steps.proofs.Keeping.{sorted-rest, scan-off, scan-front, scan-here}
-use Rattle.oxc_sourcemap_steps.proofs.Keeping.{scan-beyond, kept-scan}
+use Rattle.oxc_sourcemap_steps.proofs.SimplifyScan.{scan, found-scan}
+use Rattle.oxc_sourcemap_steps.proofs.SimplifyKeeping.{place_of, off, front, here, past, sorted-two}
+use Rattle.oxc_sourcemap_steps.proofs.SimplifyKeeping.{sorted-rest, scan-off, scan-front, scan-here}
+use Rattle.oxc_sourcemap_steps.proofs.SimplifyKeeping.{scan-beyond, kept-scan}
 use Rattle.oxc_sourcemap_steps.proofs.Order.{found-sorted, found-is-apart, found-first}
 use Rattle.oxc_sourcemap_steps.proofs.Order.{found-length, found-all, keeps, keep-sorted}
 use Rattle.oxc_sourcemap_steps.proofs.Order.{keep-first, keep-length, keep-all}

@@ -13,7 +13,7 @@ use Rattle.oxc_sourcemap_steps.specs.Simple.{is_repeat, is_after_repeat, kept_af
 use Rattle.oxc_sourcemap_steps.specs.Simplified.{at_next_column, found_mappings, simple_mappings}
 use Rattle.oxc_sourcemap_steps.specs.Simplified.{with_source, with_sources, source_in}
 use Rattle.oxc_sourcemap_steps.specs.Simplified.{needed_sources}
-use Rattle.oxc_sourcemap_steps.proofs.Keeping.{Apart}
+use Rattle.oxc_sourcemap_steps.proofs.SimplifyKeeping.{Apart}
 use Rattle.oxc_sourcemap_steps.proofs.NeededPlaces.{with-source-has}
 use Rattle.oxc_sourcemap_steps.proofs.Order.{found-is-apart}
 use Rattle.oxc_sourcemap_steps.proofs.Same.{decides_originals}

@@ -6,10 +6,12 @@ use Rattle.std.specs.Option.{option_map}
 use Rattle.std.proofs.lemmas.Bool.{and_parts}
 use Rattle.std.proofs.lemmas.Bool.Decides.{nat_tests}
 use Rattle.oxc_sourcemap_steps.specs.Simple.{is_further, is_followed, is_repeat}
-use Rattle.oxc_sourcemap_steps.proofs.Scan.{scan}
-use Rattle.oxc_sourcemap_steps.proofs.Keeping.{Apart, Sorted, sorted-rest, sorted-two, together-is}
-use Rattle.oxc_sourcemap_steps.proofs.Keeping.{together-not, follows-not, Past, scan-past, scan-off}
-use Rattle.oxc_sourcemap_steps.proofs.Keeping.{scan-front, scan-here}
+use Rattle.oxc_sourcemap_steps.proofs.SimplifyScan.{scan}
+use Rattle.oxc_sourcemap_steps.proofs.SimplifyKeeping.{Apart, Sorted, sorted-rest, sorted-two}
+use Rattle.oxc_sourcemap_steps.proofs.SimplifyKeeping.{together-is}
+use Rattle.oxc_sourcemap_steps.proofs.SimplifyKeeping.{together-not, follows-not, Past, scan-past}
+use Rattle.oxc_sourcemap_steps.proofs.SimplifyKeeping.{scan-off}
+use Rattle.oxc_sourcemap_steps.proofs.SimplifyKeeping.{scan-front, scan-here}
 use Rattle.oxc_sourcemap_steps.proofs.Order.{keeps, near-by}
 
 -- how two positions lie to one another

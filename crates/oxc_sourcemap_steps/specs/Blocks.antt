@@ -1,4 +1,4 @@
--- The sources of a remapped map: for each source of the first map a block, the source itself or all sources of its input. Said of
+-- The sources of a remapped map: for each source of the first map a block, the source itself or all sources of its input. ReadForm of
 -- decoded maps, so that it is one definition for maps and for what they mean.
 use Rattle.std.specs.Prelude.{ℕ, ◌+◌, Bool, false, List, [], ◌∷◌, Option, Some, None, if◌then◌else◌}
 use Rattle.std.specs.Prelude.{◌==◌, map, length}

@@ -1,4 +1,4 @@
-//! Composing two maps: what the first leads to, the second leads on. Part of `oxc_sourcemap`.
+//! Composing two maps: what the first leads to, the second leads on.
 
 mod compose;
 mod inherited_names;

@@ -1,4 +1,4 @@
-//! Remapping: a map some of whose sources are themselves generated, and the maps of these, made one. Part of `oxc_sourcemap`.
+//! Remapping: a map some of whose sources are themselves generated, and the maps of these, made one.
 
 mod as_parts;
 mod blocks;

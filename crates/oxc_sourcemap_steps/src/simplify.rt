@@ -1,4 +1,4 @@
-//! Maps with no more tokens, names and sources than their traces need. Part of `oxc_sourcemap`.
+//! Maps with no more tokens, names and sources than their traces need.
 
 ghost use Rattle.oxc_sourcemap_steps.specs.Words.{TracesStay, StaysSorted, IsLeast, MappingsStay};
 ghost use Rattle.oxc_sourcemap_steps.specs.Words.{DecodedMapOfSimplified, SimplifiedIsSound};

@@ -1,4 +1,4 @@
-//! Sorting the tokens of a map by generated line and column. Part of `oxc_sourcemap`.
+//! Sorting the tokens of a map by generated line and column.
 
 ghost use Rattle.std.specs.Prelude.{◌≡◌, true, IsOk, OnOk, OnErr};
 ghost use Rattle.std.specs.Box.{boxed_slice_items};

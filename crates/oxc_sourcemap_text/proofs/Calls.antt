@@ -11,7 +11,7 @@ use Rattle.oxc_sourcemap_text.specs.declared.positions.position_error.PositionEr
 use Rattle.oxc_sourcemap_text.specs.declared.positions.position_error.PositionError.TheVariants.{NoLine}
 use Rattle.oxc_sourcemap_text.specs.declared.positions.position_error.PositionError.TheVariants.{PastLine}
 use Rattle.oxc_sourcemap_text.specs.declared.positions.position_error.PositionError.TheVariants.{InsidePair}
-use Rattle.oxc_sourcemap_tokens.specs.declared.error.Error.TheVariants.{TooLarge}
+use Rattle.oxc_sourcemap_tokens.specs.declared.errors.error.Error.TheVariants.{TooLarge}
 use Rattle.oxc_sourcemap_text.specs.TextLines.{units_of, text_lines}
 use Rattle.oxc_sourcemap_text.specs.Positions.{line_start, column_count, is_inside_pair, line_of}
 use Rattle.oxc_sourcemap_text.specs.Positions.{offset_of, position_of, in_size}

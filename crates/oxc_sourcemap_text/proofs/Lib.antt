@@ -4,7 +4,7 @@ pub mod Pairs
 pub mod Steps
 pub mod Inverse
 pub mod Calls
-mod Worked
+mod PositionsWorked
 pub mod Bytes
 mod Chars
 mod Pieces

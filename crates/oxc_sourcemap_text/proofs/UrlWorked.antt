@@ -1,4 +1,4 @@
--- Worked examples, computed by the definitions themselves.
+-- Worked examples of data URLs and comments that name a map, computed by the definitions themselves.
 use Rattle.std.specs.Prelude.{◌≡◌, refl, ◌∷◌, ◌++◌, codes, Some, None, Ok, Err}
 use lib.Utf8.{encode}
 use Rattle.std.specs.Str.{is_utf8, chars}

@@ -24,13 +24,13 @@ behind_mark [] = None
 behind_mark (c ∷ cs) = if is_mark c then Some cs else None
 
 -- the text, if it has no white space
-abbrev pub unbroken : List ℕ → Option (List ℕ)
-unbroken text = if list_any is_whitespace text then None else Some text
+abbrev pub without_white_space : List ℕ → Option (List ℕ)
+without_white_space text = if list_any is_whitespace text then None else Some text
 
 -- what is behind `sourceMappingURL=`, without white space at its end; it may have none
 abbrev pub behind_key : List ℕ → Option (List ℕ)
 behind_key text =
-    if starts_with nat_eq text (codes "sourceMappingURL=") then unbroken (drop_trailing_whitespace (drop 17 text)) else None
+    if starts_with nat_eq text (codes "sourceMappingURL=") then without_white_space (drop_trailing_whitespace (drop 17 text)) else None
 
 -- The URL that the text of a comment names: it is a `#` or a `@`, white space or none, `sourceMappingURL=`, the URL, and white space
 -- or none.

@@ -1,6 +1,7 @@
 -- The words of this crate's clauses, from one place.
 pub use Rattle.oxc_sourcemap_tokens.specs.Results.{Answers, GivesBut}
-pub use Rattle.oxc_sourcemap_tokens.specs.declared.error.Error.TheVariants.{OutOfMemory, TooLarge}
+pub use Rattle.oxc_sourcemap_tokens.specs.declared.errors.error.Error.TheVariants.{OutOfMemory}
+pub use Rattle.oxc_sourcemap_tokens.specs.declared.errors.error.Error.TheVariants.{TooLarge}
 pub use Rattle.oxc_sourcemap_text.specs.TextLines.{units_of, lines_of, text_lines, ends_line}
 pub use Rattle.oxc_sourcemap_text.specs.TextLines.{line_at}
 pub use Rattle.oxc_sourcemap_text.specs.Positions.{line_start, column_count, is_inside_pair}
@@ -13,8 +14,8 @@ pub use Rattle.oxc_sourcemap_text.specs.DataUrls.{has_data_scheme, behind_scheme
 pub use Rattle.oxc_sourcemap_text.specs.DataUrls.{media_type, is_json_type, is_base64, is_json_url}
 pub use Rattle.oxc_sourcemap_text.specs.DataUrls.{base64_fault_at, base64_bytes, data_bytes}
 pub use Rattle.oxc_sourcemap_text.specs.DataUrls.{utf8_text, data_text, decoded_data_url}
-pub use Rattle.oxc_sourcemap_text.specs.MappingUrls.{behind_mark, unbroken, behind_key, named_url}
-pub use Rattle.oxc_sourcemap_text.specs.MappingUrls.{is_mark, is_quote, begins_with}
+pub use Rattle.oxc_sourcemap_text.specs.MappingUrls.{behind_mark, without_white_space, behind_key}
+pub use Rattle.oxc_sourcemap_text.specs.MappingUrls.{named_url, is_mark, is_quote, begins_with}
 pub use Rattle.oxc_sourcemap_text.specs.MappingUrls.{around_block_end, may_end_another}
 pub use Rattle.oxc_sourcemap_text.specs.MappingUrls.{has_line_comments, pieces, known_after}
 pub use Rattle.oxc_sourcemap_text.specs.MappingUrls.{mapping_url, url_known, lent_chars}

@@ -1,4 +1,4 @@
-//! The lines of a text, and positions in it: lines and columns, and offsets in UTF-16 code units. Part of `oxc_sourcemap`.
+//! The lines of a text, and positions in it: lines and columns, and offsets in UTF-16 code units.
 
 mod laws;
 mod position_error;

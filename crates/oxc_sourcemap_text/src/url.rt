@@ -1,4 +1,4 @@
-//! Data URLs of maps, and the URL that a code names for its map. Part of `oxc_sourcemap`.
+//! Data URLs of maps, and the URL that a code names for its map.
 
 mod comment;
 mod data_url;

@@ -2,9 +2,9 @@
 use Rattle.std.specs.Prelude.{◌≡◌, Option, Some, None, Result, Err}
 use Rattle.serde_json.specs.declared.error.Error as json
 use Rattle.serde_json.specs.Errors.{IsMemory}
-use Rattle.oxc_sourcemap_tokens.specs.declared.error.Error.{Error}
-use Rattle.oxc_sourcemap_tokens.specs.declared.error.Error.TheVariants.{BadJson, OutOfMemory}
-use Rattle.oxc_sourcemap_tokens.specs.declared.error.JsonFault.TheVariants.{Reading}
+use Rattle.oxc_sourcemap_tokens.specs.declared.errors.error.Error.{Error}
+use Rattle.oxc_sourcemap_tokens.specs.declared.errors.error.Error.TheVariants.{BadJson, OutOfMemory}
+use Rattle.oxc_sourcemap_tokens.specs.declared.errors.error.JsonFault.TheVariants.{Reading}
 
 -- this result, unless there is a fault
 abbrev pub unless : {A : Type 0} → Option Error → Result A Error → Result A Error

@@ -1,27 +1,33 @@
 -- The messages of errors, as bytes.
 use Rattle.std.specs.Prelude.{ℕ, List, ◌++◌, codes, Option, Some, None}
 use Rattle.std.specs.Fmt.{decimal}
-use Rattle.oxc_sourcemap_tokens.specs.declared.error.Field.{Field}
-use Rattle.oxc_sourcemap_tokens.specs.declared.error.Field.TheVariants.{Object}
-use Rattle.oxc_sourcemap_tokens.specs.declared.error.Field.TheVariants.{Version as VersionField}
-use Rattle.oxc_sourcemap_tokens.specs.declared.error.Field.TheVariants.{File, Mappings, SourceRoot}
-use Rattle.oxc_sourcemap_tokens.specs.declared.error.Field.TheVariants.{Sources, SourcesContent}
-use Rattle.oxc_sourcemap_tokens.specs.declared.error.Field.TheVariants.{Names, DebugId, IgnoreList}
-use Rattle.oxc_sourcemap_tokens.specs.declared.error.Field.TheVariants.{GoogleIgnoreList, Sections}
-use Rattle.oxc_sourcemap_tokens.specs.declared.error.Field.TheVariants.{Offset, Map}
-use Rattle.oxc_sourcemap_tokens.specs.declared.error.JsonFault.{JsonFault}
-use Rattle.oxc_sourcemap_tokens.specs.declared.error.JsonFault.TheVariants.{Reading, Shape, Version}
-use Rattle.oxc_sourcemap_tokens.specs.declared.error.Error.{Error}
-use Rattle.oxc_sourcemap_tokens.specs.declared.error.Error.TheVariants.{VlqLeftover, VlqNoValues}
-use Rattle.oxc_sourcemap_tokens.specs.declared.error.Error.TheVariants.{VlqOverflow, BadJson}
-use Rattle.oxc_sourcemap_tokens.specs.declared.error.Error.TheVariants.{BadSegmentSize}
-use Rattle.oxc_sourcemap_tokens.specs.declared.error.Error.TheVariants.{BadSourceReference}
-use Rattle.oxc_sourcemap_tokens.specs.declared.error.Error.TheVariants.{BadNameReference}
-use Rattle.oxc_sourcemap_tokens.specs.declared.error.Error.TheVariants.{OutOfMemory, TooLarge}
-use Rattle.oxc_sourcemap_tokens.specs.declared.error.Error.TheVariants.{LineOrder, BadChunks}
-use Rattle.oxc_sourcemap_tokens.specs.declared.error.Error.TheVariants.{SeveralSources}
-use Rattle.oxc_sourcemap_tokens.specs.declared.error.Error.TheVariants.{SectionOrder}
-use Rattle.oxc_sourcemap_tokens.specs.declared.error.Error.TheVariants.{InputLineOrder}
+use Rattle.oxc_sourcemap_tokens.specs.declared.errors.error.Field.{Field}
+use Rattle.oxc_sourcemap_tokens.specs.declared.errors.error.Field.TheVariants.{Object}
+use Rattle.oxc_sourcemap_tokens.specs.declared.errors.error.Field.TheVariants.{Version as VersionField}
+use Rattle.oxc_sourcemap_tokens.specs.declared.errors.error.Field.TheVariants.{File, Mappings}
+use Rattle.oxc_sourcemap_tokens.specs.declared.errors.error.Field.TheVariants.{SourceRoot, Sources}
+use Rattle.oxc_sourcemap_tokens.specs.declared.errors.error.Field.TheVariants.{SourcesContent}
+use Rattle.oxc_sourcemap_tokens.specs.declared.errors.error.Field.TheVariants.{Names, DebugId}
+use Rattle.oxc_sourcemap_tokens.specs.declared.errors.error.Field.TheVariants.{IgnoreList}
+use Rattle.oxc_sourcemap_tokens.specs.declared.errors.error.Field.TheVariants.{GoogleIgnoreList}
+use Rattle.oxc_sourcemap_tokens.specs.declared.errors.error.Field.TheVariants.{Sections, Offset}
+use Rattle.oxc_sourcemap_tokens.specs.declared.errors.error.Field.TheVariants.{Map}
+use Rattle.oxc_sourcemap_tokens.specs.declared.errors.error.JsonFault.{JsonFault}
+use Rattle.oxc_sourcemap_tokens.specs.declared.errors.error.JsonFault.TheVariants.{Reading, Shape}
+use Rattle.oxc_sourcemap_tokens.specs.declared.errors.error.JsonFault.TheVariants.{Version}
+use Rattle.oxc_sourcemap_tokens.specs.declared.errors.error.Error.{Error}
+use Rattle.oxc_sourcemap_tokens.specs.declared.errors.error.Error.TheVariants.{VlqLeftover}
+use Rattle.oxc_sourcemap_tokens.specs.declared.errors.error.Error.TheVariants.{VlqNoValues}
+use Rattle.oxc_sourcemap_tokens.specs.declared.errors.error.Error.TheVariants.{VlqOverflow, BadJson}
+use Rattle.oxc_sourcemap_tokens.specs.declared.errors.error.Error.TheVariants.{BadSegmentSize}
+use Rattle.oxc_sourcemap_tokens.specs.declared.errors.error.Error.TheVariants.{BadSourceReference}
+use Rattle.oxc_sourcemap_tokens.specs.declared.errors.error.Error.TheVariants.{BadNameReference}
+use Rattle.oxc_sourcemap_tokens.specs.declared.errors.error.Error.TheVariants.{OutOfMemory}
+use Rattle.oxc_sourcemap_tokens.specs.declared.errors.error.Error.TheVariants.{TooLarge, LineOrder}
+use Rattle.oxc_sourcemap_tokens.specs.declared.errors.error.Error.TheVariants.{BadChunks}
+use Rattle.oxc_sourcemap_tokens.specs.declared.errors.error.Error.TheVariants.{SeveralSources}
+use Rattle.oxc_sourcemap_tokens.specs.declared.errors.error.Error.TheVariants.{SectionOrder}
+use Rattle.oxc_sourcemap_tokens.specs.declared.errors.error.Error.TheVariants.{InputLineOrder}
 
 -- the key of a field of the JSON object, and none for the object itself
 abbrev pub key_of : Field → Option (List ℕ)

@@ -3,12 +3,12 @@ use Rattle.std.specs.Prelude.{ℕ, List, ◌++◌, codes, Option, Some, None}
 use Rattle.std.specs.Option.{unwrap_or}
 use Rattle.std.specs.Fmt.{decimal}
 use Rattle.oxc_sourcemap_tokens.specs.Messages.{key_of}
-use Rattle.oxc_sourcemap_tokens.specs.declared.error.Field.{Field}
-use Rattle.oxc_sourcemap_tokens.specs.declared.fault.SegmentPlace.{SegmentPlace}
-use Rattle.oxc_sourcemap_tokens.specs.declared.fault.FaultPlace.{FaultPlace}
-use Rattle.oxc_sourcemap_tokens.specs.declared.fault.FaultSpot.{FaultSpot}
-use Rattle.oxc_sourcemap_tokens.specs.declared.fault.FaultSpot.TheVariants.{Segment, Reading}
-use Rattle.oxc_sourcemap_tokens.specs.declared.fault.FaultSpot.TheVariants.{Member, Entry}
+use Rattle.oxc_sourcemap_tokens.specs.declared.errors.error.Field.{Field}
+use Rattle.oxc_sourcemap_tokens.specs.declared.errors.fault.SegmentPlace.{SegmentPlace}
+use Rattle.oxc_sourcemap_tokens.specs.declared.errors.fault.FaultPlace.{FaultPlace}
+use Rattle.oxc_sourcemap_tokens.specs.declared.errors.fault.FaultSpot.{FaultSpot}
+use Rattle.oxc_sourcemap_tokens.specs.declared.errors.fault.FaultSpot.TheVariants.{Segment, Reading}
+use Rattle.oxc_sourcemap_tokens.specs.declared.errors.fault.FaultSpot.TheVariants.{Member, Entry}
 
 -- the key of a member, and `the value` for the value itself
 abbrev pub name_of : Field → List ℕ

@@ -1,12 +1,12 @@
 -- Errors with their places.
-use Rattle.std.specs.Prelude.{◌≡◌, ◌≢◌, ℕ, true, Option, Some, None, is_some, Result, Ok, Err}
-use Rattle.std.specs.Prelude.{IfOk, IfErr, IsErrAnd}
+use Rattle.std.specs.Prelude.{◌≡◌, ◌≢◌, ℕ, true, Option, Some, None, is_some, Result, Ok, Err, IfOk}
+use Rattle.std.specs.Prelude.{IfErr, IsErrAnd}
 use Rattle.std.specs.Option.{option_map}
-use Rattle.oxc_sourcemap_tokens.specs.declared.error.Error.{Error}
-use Rattle.oxc_sourcemap_tokens.specs.declared.error.Error.TheVariants.{OutOfMemory}
-use Rattle.oxc_sourcemap_tokens.specs.declared.fault.Fault.{Fault}
-use Rattle.oxc_sourcemap_tokens.specs.declared.fault.FaultPlace.{FaultPlace}
-use Rattle.oxc_sourcemap_tokens.specs.declared.fault.FaultSpot.{FaultSpot}
+use Rattle.oxc_sourcemap_tokens.specs.declared.errors.error.Error.{Error}
+use Rattle.oxc_sourcemap_tokens.specs.declared.errors.error.Error.TheVariants.{OutOfMemory}
+use Rattle.oxc_sourcemap_tokens.specs.declared.errors.fault.Fault.{Fault}
+use Rattle.oxc_sourcemap_tokens.specs.declared.errors.fault.FaultPlace.{FaultPlace}
+use Rattle.oxc_sourcemap_tokens.specs.declared.errors.fault.FaultSpot.{FaultSpot}
 
 -- a place in this section, or in a text without sections
 abbrev pub place_in : Option ℕ → FaultSpot → FaultPlace
@@ -33,7 +33,7 @@ abbrev pub Reads : {A B : Type 0} → (A → B) → Result A Fault → Result B 
 Reads view result defined =
     IfOk result (λ x. defined ≡ Ok (view x)) × IfErr result (λ f. (f.error ≢ OutOfMemory) → defined ≡ Err f.error)
 
--- The place of the error of the call is this one, if it does not lack memory; where it succeeds, there is no such place.
+-- The error of the call has a place, and it is this one, if it does not lack memory; where it succeeds, there is no such place.
 abbrev pub Locates : {A : Type 0} → Result A Fault → Option FaultPlace → Type 0
 Locates result place =
     IfOk result (λ x. place ≡ None)

@@ -12,5 +12,5 @@ pub use Rattle.oxc_sourcemap_tokens.specs.State.{state_at, initial}
 pub use Rattle.oxc_sourcemap_tokens.specs.Steps.{state_of, advanced, advanced_all, source_given}
 pub use Rattle.oxc_sourcemap_tokens.specs.Steps.{last_given}
 pub use Rattle.oxc_sourcemap_tokens.specs.Token.{AreInBounds, mapped_name, kept_id, IsInBounds}
-pub use Rattle.oxc_sourcemap_tokens.specs.declared.error.Error.TheVariants.{OutOfMemory}
-pub use Rattle.oxc_sourcemap_tokens.specs.declared.plan_error.PlanError.TheVariants.{Map}
+pub use Rattle.oxc_sourcemap_tokens.specs.declared.errors.error.Error.TheVariants.{OutOfMemory}
+pub use Rattle.oxc_sourcemap_tokens.specs.declared.errors.plan_error.PlanError.TheVariants.{Map}

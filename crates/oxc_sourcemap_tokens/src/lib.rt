@@ -3,21 +3,20 @@
 #![tactic(auto)]
 
 mod chunks;
-mod error;
-mod fault;
+mod errors;
 mod laws;
 mod order;
-mod plan_error;
 mod position;
 mod state;
 mod token;
 
 pub use chunks::{chunk_fault, next_chunk, tokens_of};
-pub use error::{Error, Field, JsonFault, Memory, Result};
-pub use fault::{Fault, FaultPlace, FaultSpot, Located, SegmentPlace, name_of};
+pub use errors::{
+    Error, Fault, FaultPlace, FaultSpot, Field, JsonFault, Located, Memory, PlanError, Result,
+    SegmentPlace, name_of,
+};
 pub use laws::tokens_in_bounds;
 pub use order::{line_back_from, line_order_fault};
-pub use plan_error::PlanError;
 pub use position::Position;
 pub use state::Previous;
 pub use token::{Token, TokenChunk};

@@ -2,8 +2,9 @@
 use Rattle.std.proofs.Common.{◌≡◌, ◌≢◌, ℕ, List, Option, Some, None, Ok, Err, true, option_map, ap}
 use Rattle.std.proofs.Common.{◌∙◌, refl, sym, cond, slice_get, codes}
 use Rattle.std.specs.Option.{option_and_then}
-use Rattle.oxc_sourcemap_tokens.specs.declared.error.Error.{Error}
-use Rattle.oxc_sourcemap_tokens.specs.declared.error.Error.TheVariants.{LineOrder, OutOfMemory}
+use Rattle.oxc_sourcemap_tokens.specs.declared.errors.error.Error.{Error}
+use Rattle.oxc_sourcemap_tokens.specs.declared.errors.error.Error.TheVariants.{LineOrder}
+use Rattle.oxc_sourcemap_tokens.specs.declared.errors.error.Error.TheVariants.{OutOfMemory}
 use Rattle.oxc_sourcemap_parts.specs.Record.{Text, MapRecord}
 use Rattle.oxc_sourcemap_json.specs.Shape.{◌>>=◌}
 use Rattle.oxc_sourcemap_json.specs.ReadMap.{read_map}
@@ -15,8 +16,8 @@ use Rattle.oxc_sourcemap_parts.specs.Sorted.{are_tokens_sorted}
 use Rattle.oxc_sourcemap_parts.specs.DecodedMap.{DecodedSource, decoded_map_of, sources_of, name_of}
 use Rattle.oxc_sourcemap_parts.specs.DecodedMap.{original_at}
 use Rattle.oxc_sourcemap_lookup.specs.Trace.{trace, original_in}
-use Rattle.oxc_sourcemap_lookup.proofs.Traced.{token_traced, source_path}
-use Rattle.oxc_sourcemap_tokens.specs.declared.plan_error.PlanError.TheVariants.{Unsorted}
+use Rattle.oxc_sourcemap_lookup.proofs.Traces.{token_traced, source_path}
+use Rattle.oxc_sourcemap_tokens.specs.declared.errors.plan_error.PlanError.TheVariants.{Unsorted}
 use Rattle.smap_run.specs.Answer.{normalised, normalised_url}
 use Rattle.smap_run.specs.Traced.{original_text, trace_text, traced_of}
 

@@ -3,15 +3,16 @@ use Rattle.std.proofs.Common.{◌≡◌, ◌≢◌, ℕ, List, length, sym, ap, 
 use Rattle.std.proofs.Common.{Err, inl, inr, ◌⊎◌}
 use Rattle.std.specs.Result.{IsErrOf, OnErr}
 use Rattle.std.proofs.lemmas.Bool.{cases_lt, false_from_ne_true}
-use Rattle.oxc_sourcemap_tokens.specs.declared.error.Error.{Error}
-use Rattle.oxc_sourcemap_tokens.specs.declared.error.Error.TheVariants.{TooLarge, OutOfMemory}
+use Rattle.oxc_sourcemap_tokens.specs.declared.errors.error.Error.{Error}
+use Rattle.oxc_sourcemap_tokens.specs.declared.errors.error.Error.TheVariants.{TooLarge}
+use Rattle.oxc_sourcemap_tokens.specs.declared.errors.error.Error.TheVariants.{OutOfMemory}
 use Rattle.oxc_sourcemap_parts.specs.Record.{MapRecord}
 use Rattle.oxc_sourcemap_json.specs.Shape.{◌>>=◌}
 use Rattle.oxc_sourcemap_json.specs.Encoded.{encoded, encoded_record}
 use Rattle.oxc_sourcemap_json.specs.JsonText.{json_text, map_text}
 use Rattle.oxc_sourcemap_laws.specs.MapLaws.{SoundIsTooLarge}
-use Rattle.oxc_sourcemap_tokens.specs.declared.plan_error.PlanError.{PlanError}
-use Rattle.oxc_sourcemap_tokens.specs.declared.plan_error.PlanError.TheVariants.{Map}
+use Rattle.oxc_sourcemap_tokens.specs.declared.errors.plan_error.PlanError.{PlanError}
+use Rattle.oxc_sourcemap_tokens.specs.declared.errors.plan_error.PlanError.TheVariants.{Map}
 use Rattle.oxc_sourcemap_plan.specs.declared.run_error.RunError.{RunError}
 use Rattle.oxc_sourcemap_plan.specs.declared.run_error.RunError.TheVariants.{Plan}
 use Rattle.oxc_sourcemap_plan.specs.RunErrors.{out_of_memory}

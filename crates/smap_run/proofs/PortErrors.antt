@@ -2,10 +2,10 @@
 use Rattle.std.proofs.Common.{◌≡◌, ◌≢◌, ℕ, true, false, List, refl, sym, ap, ◌∙◌, subst, Option}
 use Rattle.std.proofs.Common.{Some, None, Result, Ok, Err, inl, inr}
 use Rattle.std.specs.Result.{IsErrOf, IsErrAnd}
-use Rattle.oxc_sourcemap_tokens.specs.declared.error.Error.{Error}
-use Rattle.oxc_sourcemap_tokens.specs.declared.plan_error.PlanError.{PlanError}
+use Rattle.oxc_sourcemap_tokens.specs.declared.errors.error.Error.{Error}
+use Rattle.oxc_sourcemap_tokens.specs.declared.errors.plan_error.PlanError.{PlanError}
 use Rattle.oxc_sourcemap_tokens.specs.Token.{TokenRecord}
-use Rattle.oxc_sourcemap_mappings.specs.Pieces.{writing_fault}
+use Rattle.oxc_sourcemap_mappings.specs.ChunkTexts.{writing_fault}
 use Rattle.oxc_sourcemap_mappings.specs.Reading.{reading}
 use Rattle.oxc_sourcemap_plan.specs.Outcome.{Outcome}
 use Rattle.oxc_sourcemap_plan.specs.declared.run_error.RunError.{RunError}

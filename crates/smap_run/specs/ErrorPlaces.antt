@@ -1,13 +1,13 @@
 -- Where the input of a command has the fault that its error tells.
 use Rattle.std.specs.Prelude.{◌≡◌, ◌≢◌, ℕ, List, Some, None, Err, IfSome, slice_get}
-use Rattle.oxc_sourcemap_tokens.specs.declared.error.Error.{Error}
-use Rattle.oxc_sourcemap_tokens.specs.declared.plan_error.PlanError.TheVariants.{Map}
+use Rattle.oxc_sourcemap_tokens.specs.declared.errors.error.Error.{Error}
+use Rattle.oxc_sourcemap_tokens.specs.declared.errors.plan_error.PlanError.TheVariants.{Map}
 use Rattle.oxc_sourcemap_parts.specs.Record.{Text}
-use Rattle.oxc_sourcemap_tokens.specs.declared.fault.SegmentPlace.{SegmentPlace}
+use Rattle.oxc_sourcemap_tokens.specs.declared.errors.fault.SegmentPlace.{SegmentPlace}
 use Rattle.oxc_sourcemap_mappings.specs.SegmentPlaces.{fault_place}
 use Rattle.oxc_sourcemap_json.specs.ReadMap.{read_map}
-use Rattle.oxc_sourcemap_tokens.specs.declared.fault.FaultPlace.{FaultPlace}
-use Rattle.oxc_sourcemap_tokens.specs.declared.fault.FaultSpot.TheVariants.{Segment}
+use Rattle.oxc_sourcemap_tokens.specs.declared.errors.fault.FaultPlace.{FaultPlace}
+use Rattle.oxc_sourcemap_tokens.specs.declared.errors.fault.FaultSpot.TheVariants.{Segment}
 use Rattle.oxc_sourcemap_tokens.specs.Places.{place_in}
 use Rattle.oxc_sourcemap_plan.specs.declared.run_error.RunError.{RunError}
 use Rattle.oxc_sourcemap_plan.specs.declared.run_error.RunError.TheVariants.{Plan}
@@ -39,6 +39,6 @@ IsPlaceIn (PlanOf arguments) text error place = IsInputPlace (inputs_of text) er
 abbrev pub IsPlaceFor : Request → Text → RunError → FaultPlace → Type 0
 IsPlaceFor request text e place = (error : Error) × (e ≡ Plan (Map error)) × IsPlaceIn request text error place
 
--- The place of a failure, unless it is want of memory, is such a one for the error of a call, if there is one.
+-- If a failure, unless it is want of memory, has a place, its error is that of a call, and the place is such a one for it.
 abbrev pub IsPlacedBy : (Error → FaultPlace → Type 0) → Failure → Type 0
 IsPlacedBy These f = (f.error ≢ out_of_memory) → IfSome f.place (λ place. (e : Error) × (f.error ≡ Plan (Map e)) × These e place)

@@ -1,15 +1,16 @@
 -- The answer of `trace`: the trace of a map at a generated position, as a text.
 use Rattle.std.specs.Prelude.{ℕ, [], ◌++◌, codes, decimal, Option, Some, None, Result, Ok, Err}
 use Rattle.std.specs.Prelude.{if◌then◌else◌}
-use Rattle.oxc_sourcemap_tokens.specs.declared.error.Error.{Error}
+use Rattle.oxc_sourcemap_tokens.specs.declared.errors.error.Error.{Error}
 use Rattle.oxc_sourcemap_parts.specs.Record.{Text, MapRecord}
 use Rattle.oxc_sourcemap_parts.specs.Sorted.{are_tokens_sorted}
 use Rattle.oxc_sourcemap_parts.specs.DecodedMap.{OriginalPosition, decoded_map_of}
 use Rattle.oxc_sourcemap_lookup.specs.Trace.{trace}
 use Rattle.oxc_sourcemap_json.specs.JsonString.{json_string}
 use Rattle.oxc_sourcemap_json.specs.ReadMap.{read_map}
-use Rattle.oxc_sourcemap_tokens.specs.declared.plan_error.PlanError.{PlanError}
-use Rattle.oxc_sourcemap_tokens.specs.declared.plan_error.PlanError.TheVariants.{Map, Unsorted}
+use Rattle.oxc_sourcemap_tokens.specs.declared.errors.plan_error.PlanError.{PlanError}
+use Rattle.oxc_sourcemap_tokens.specs.declared.errors.plan_error.PlanError.TheVariants.{Map}
+use Rattle.oxc_sourcemap_tokens.specs.declared.errors.plan_error.PlanError.TheVariants.{Unsorted}
 
 -- a colon and a number
 abbrev pub number_part : ℕ → Text

@@ -1,10 +1,10 @@
 -- The words of this crate's clauses, from one place.
 pub use Rattle.oxc_sourcemap_lookup.specs.Lookup.{token_for}
 pub use Rattle.oxc_sourcemap_parts.specs.DecodedMap.{name_of}
-pub use Rattle.oxc_sourcemap_tokens.specs.declared.error.Error.TheVariants.{OutOfMemory}
+pub use Rattle.oxc_sourcemap_tokens.specs.declared.errors.error.Error.TheVariants.{OutOfMemory}
 pub use Rattle.oxc_sourcemap_json.specs.JsonText.{map_text}
 pub use Rattle.oxc_sourcemap_tokens.specs.LineOrder.{IsInLineOrder}
-pub use Rattle.oxc_sourcemap_tokens.specs.declared.plan_error.PlanError.TheVariants.{Map}
+pub use Rattle.oxc_sourcemap_tokens.specs.declared.errors.plan_error.PlanError.TheVariants.{Map}
 pub use Rattle.oxc_sourcemap_mappings.specs.Reading.{reading}
 pub use Rattle.oxc_sourcemap_parts.specs.Sorted.{are_tokens_sorted}
 pub use Rattle.oxc_sourcemap_lookup.specs.Trace.{original_in}
@@ -27,4 +27,4 @@ pub use Rattle.smap_run.specs.ErrorPlaces.{IsMappingsPlace, IsInputPlace, IsPlac
 pub use Rattle.smap_run.specs.ErrorPlaces.{IsPlacedBy}
 pub use Rattle.oxc_sourcemap_plan.specs.PlanPlaces.{IsTextPlace, TellsText}
 pub use Rattle.oxc_sourcemap_plan.specs.declared.run_error.RunError.TheVariants.{Plan}
-pub use Rattle.oxc_sourcemap_tokens.specs.declared.error.Error.{Error}
+pub use Rattle.oxc_sourcemap_tokens.specs.declared.errors.error.Error.{Error}

@@ -8,9 +8,9 @@ ghost use Rattle.smap_run.specs.Words.{number_part, name_part, original_text, tr
 ghost use Rattle.smap_run.specs.Words.{traced_of, traced, OnlyMemory, Pushes, lent_item};
 
 use oxc_sourcemap_json::{decode_parts_from_string, push_json_string};
-use oxc_sourcemap_lookup::LineIndex;
+use oxc_sourcemap_lookup::{Bias, LineIndex, Traced};
 use oxc_sourcemap_parts::{SourceMapParts, are_sorted};
-use oxc_sourcemap_tokens::{Error, PlanError, Token};
+use oxc_sourcemap_tokens::{Error, PlanError, Position, Token};
 use std::alloc::Global;
 
 /// Appends a colon and a number.
@@ -104,7 +104,7 @@ fn token_at(
 {
     let tokens = map.tokens.as_slice();
     let index = LineIndex::new(alloc, tokens)?;
-    Ok(index.lookup(tokens, line, col))
+    Ok(Traced::new(tokens, &index).token(Position { line, column: col }, Bias::Before))
 }
 
 /// The text of the trace of a map at a generated position.

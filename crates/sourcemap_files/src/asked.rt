@@ -1,8 +1,7 @@
 //! What a command was asked for, and how it ends.
 ghost use Rattle.std.specs.Prelude.{◌≡◌, MatchBool};
 
-use crate::finding::Places;
-use crate::matching::{InputPrefix, Prefix};
+use crate::finding::{InputPrefix, Places, Prefix};
 use crate::paths::{folder_name, is_folder, with_slash};
 use clap::ArgMatches;
 use sourcemap_words::{Outcome, failure_of};

@@ -6,7 +6,6 @@ mod asked;
 mod finding;
 mod input;
 mod limit;
-mod matching;
 mod paths;
 mod progress;
 mod rebasing;
@@ -14,13 +13,12 @@ mod writing;
 
 pub use asked::{Asked, Status};
 pub use finding::{
-    CodeFile, Lookup, MapText, Places, Sought, error_text, find_code, found_error_text, is_in_root,
-    is_map, is_map_file, language_of, map_by_name, map_of_code, map_of_file, map_without_code,
-    read_map, rooted_map,
+    CodeFile, InputPrefix, Lookup, MapText, Places, Sought, error_text, find_code,
+    found_error_text, is_in_root, is_map, is_map_file, language_of, map_by_name, map_of_code,
+    map_of_file, map_without_code, read_map, rooted_map,
 };
 pub use input::{is_file, print, print_bytes, read_text, shown_name, tell, usage, warn};
 pub use limit::{limit_of, limited_json};
-pub use matching::{CodePath, InputPrefix, Prefix};
 pub use paths::{
     file_name, folder_of, has_scheme, is_inside, path_of_url, real_name, with_slash, written_name,
 };

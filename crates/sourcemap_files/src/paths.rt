@@ -40,7 +40,7 @@ pub fn is_absolute(path: &str) -> bool {
 }
 
 /// A path in a folder, where the folder is empty or ends in a slash. A path that stands by itself stays.
-pub fn joined(alloc: Global, folder: &str, path: &str) -> Result<String, AllocError> {
+pub fn join_path(alloc: Global, folder: &str, path: &str) -> Result<String, AllocError> {
     if is_absolute(path) {
         return String::from_str(alloc, path);
     }

@@ -1,8 +1,8 @@
 -- The text of its positions.
 use Rattle.std.proofs.Common.{◌≡◌, ℕ, List, Bool, true, false, cond, nat_lt, length, Ok, Err}
 use Rattle.std.proofs.Common.{Result}
-use Rattle.oxc_sourcemap_tokens.specs.declared.error.Error.{Error}
-use Rattle.oxc_sourcemap_tokens.specs.declared.error.Error.TheVariants.{TooLarge}
+use Rattle.oxc_sourcemap_tokens.specs.declared.errors.error.Error.{Error}
+use Rattle.oxc_sourcemap_tokens.specs.declared.errors.error.Error.TheVariants.{TooLarge}
 use Rattle.oxc_sourcemap_text.specs.TextLines.{units_of}
 use Rattle.oxc_sourcemap_text.specs.Positions.{in_size}
 

@@ -5,10 +5,10 @@ use Rattle.oxc_sourcemap_tokens.specs.Token.{TokenRecord}
 use Rattle.oxc_sourcemap_parts.specs.Record.{Text, MapRecord}
 use Rattle.oxc_sourcemap_parts.specs.DecodedMap.{DecodedSource, sources_of, name_of, original_at}
 use Rattle.oxc_sourcemap_lookup.specs.Trace.{original_in}
-use Rattle.oxc_sourcemap_lookup.proofs.Traced.{source_path, token_traced, token_clamped_traced}
-use Rattle.sourcemap_run.specs.declared.tracer.Bias.{Bias}
-use Rattle.sourcemap_run.specs.declared.tracer.Bias.TheVariants.{Lower, Clamped, Upper}
-use Rattle.sourcemap_run.specs.Answers.{Place, place_of, placed, pointed, said}
+use Rattle.oxc_sourcemap_lookup.proofs.Traces.{source_path, token_traced, token_clamped_traced}
+use Rattle.oxc_sourcemap_lookup.specs.declared.bias.Bias.{Bias}
+use Rattle.oxc_sourcemap_lookup.specs.declared.bias.Bias.TheVariants.{Before, Clamped, After}
+use Rattle.sourcemap_run.specs.Answers.{Place, place_of, placed, pointed, map_answer}
 
 -- the place of a token in a source with this path
 abbrev pub path_place : List Text → TokenRecord → Text → Place
@@ -37,7 +37,7 @@ pub no_place : (r : MapRecord) (t : TokenRecord) → None ≡ option_and_then (s
 no_place r t e = ap (option_map (path_place r.names t)) e ∙ sym (by_id r t t.source_id)
 
 -- the trace of what a map means is what its token points to
-pub pointed_said : (bias : Bias) (r : MapRecord) (line col : ℕ) → pointed bias r line col ≡ said bias r line col
-pointed_said Lower r line col = ap placed (token_traced r line col)
-pointed_said Clamped r line col = ap placed (token_clamped_traced r line col)
-pointed_said Upper r line col = refl
+pub pointed_answer : (bias : Bias) (r : MapRecord) (line col : ℕ) → pointed bias r line col ≡ map_answer bias r line col
+pointed_answer Before r line col = ap placed (token_traced r line col)
+pointed_answer Clamped r line col = ap placed (token_clamped_traced r line col)
+pointed_answer After r line col = refl

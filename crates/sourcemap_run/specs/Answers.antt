@@ -1,22 +1,14 @@
 -- What a map answers for a generated position.
-use Rattle.std.specs.Prelude.{ℕ, List, Option, Some, None, option_map, slice_get}
-use Rattle.std.specs.Option.{option_and_then}
-use Rattle.oxc_sourcemap_tokens.specs.Token.{TokenRecord}
+use Rattle.std.specs.Prelude.{ℕ, Option, Some, None, option_map}
 use Rattle.oxc_sourcemap_parts.specs.Record.{Text, MapRecord}
 use Rattle.oxc_sourcemap_parts.specs.DecodedMap.{OriginalPosition, decoded_map_of}
-use Rattle.oxc_sourcemap_lookup.specs.Lookup.{token_for, clamped_token_for, index_after}
+use Rattle.oxc_sourcemap_lookup.specs.Biased.{token_by}
 use Rattle.oxc_sourcemap_lookup.specs.Trace.{original_in, trace, clamped_trace}
-use Rattle.sourcemap_run.specs.declared.tracer.Bias.{Bias}
-use Rattle.sourcemap_run.specs.declared.tracer.Bias.TheVariants.{Lower, Clamped, Upper}
+use Rattle.oxc_sourcemap_lookup.specs.declared.bias.Bias.{Bias}
+use Rattle.oxc_sourcemap_lookup.specs.declared.bias.Bias.TheVariants.{Before, Clamped, After}
 use Rattle.sourcemap_run.specs.declared.tracer.Spot.{Spot}
 use Rattle.sourcemap_run.specs.declared.tracer.Answer.{Answer}
 use Rattle.sourcemap_run.specs.declared.tracer.Answer.TheVariants.{Nothing, Unmapped, At}
-
--- the token that answers for a position
-abbrev pub token_by : Bias → List TokenRecord → ℕ → ℕ → Option TokenRecord
-token_by Lower tokens line col = token_for tokens line col
-token_by Clamped tokens line col = clamped_token_for tokens line col
-token_by Upper tokens line col = option_and_then (slice_get tokens) (index_after tokens line col)
 
 -- an original position, without the content of its source
 pub record Place : Type 0 where
@@ -36,12 +28,12 @@ placed told = option_map (option_map place_of) told
 abbrev pub pointed : Bias → MapRecord → ℕ → ℕ → Option (Option Place)
 pointed bias r line col = placed (option_map (original_in r) (token_by bias r.tokens line col))
 
--- The place that a map answers with: what the trace of what it means says, or the clamped trace. For `Upper`, which has no trace, what
+-- The place that a map answers with: what the trace of what it means says, or the clamped trace. For `After`, which has no trace, what
 -- the first token from the position on points to.
-abbrev pub said : Bias → MapRecord → ℕ → ℕ → Option (Option Place)
-said Lower r line col = placed (trace (decoded_map_of r) line col)
-said Clamped r line col = placed (clamped_trace (decoded_map_of r) line col)
-said Upper r line col = pointed Upper r line col
+abbrev pub map_answer : Bias → MapRecord → ℕ → ℕ → Option (Option Place)
+map_answer Before r line col = placed (trace (decoded_map_of r) line col)
+map_answer Clamped r line col = placed (clamped_trace (decoded_map_of r) line col)
+map_answer After r line col = pointed After r line col
 
 abbrev pub place_seen : Spot → Place
 place_seen s = record { path = s.source.now; line = s.line; column = s.column; name = option_map (λ n. n.now) s.name }

@@ -2,11 +2,11 @@
 use Rattle.std.specs.Prelude.{ℕ, List, ◌++◌, Option, Some, None, slice_get}
 use Rattle.std.specs.Option.{option_and_then}
 use Rattle.oxc_sourcemap_parts.specs.Record.{Text, MapRecord}
-use Rattle.sourcemap_run.specs.declared.tracer.Bias.TheVariants.{Lower}
+use Rattle.oxc_sourcemap_lookup.specs.declared.bias.Bias.TheVariants.{Before}
 use Rattle.sourcemap_run.specs.declared.frames.Frame.{Frame}
 use Rattle.sourcemap_run.specs.declared.frames.Target.{Target}
 use Rattle.sourcemap_run.specs.declared.frames.Paint.{Paint}
-use Rattle.sourcemap_run.specs.Answers.{Place, said}
+use Rattle.sourcemap_run.specs.Answers.{Place, map_answer}
 use Rattle.sourcemap_run.specs.Texts.{place_text}
 
 -- a line as it is
@@ -16,7 +16,7 @@ frame_text f = f.front.now ++ (f.location.now ++ f.back.now)
 -- what the map of a target says of its position
 abbrev pub answer_to : List MapRecord → Option Target → Option (Option Place)
 answer_to maps None = None
-answer_to maps (Some t) = option_and_then (λ r. said Lower r t.position.line t.position.column) (slice_get maps t.map)
+answer_to maps (Some t) = option_and_then (λ r. map_answer Before r t.position.line t.position.column) (slice_get maps t.map)
 
 -- a place between the codes of a colour
 abbrev pub painted : Paint → Place → Text

@@ -1,4 +1,4 @@
-pub mod Indexed
+pub mod Indices
 pub mod Answers
 pub mod Texts
 pub mod Lines

@@ -3,7 +3,7 @@ use Rattle.std.specs.Prelude.{ℕ, ◌+◌, [], ◌∷◌, ◌++◌, codes, deci
 use Rattle.oxc_sourcemap_tokens.specs.declared.position.Position.{Position}
 use Rattle.oxc_sourcemap_parts.specs.Record.{Text, MapRecord}
 use Rattle.sourcemap_run.specs.declared.answers.Style.{Style}
-use Rattle.sourcemap_run.specs.Answers.{Place, said}
+use Rattle.sourcemap_run.specs.Answers.{Place, map_answer}
 use Rattle.sourcemap_run.specs.Texts.{answer_text, answer_members, number_member}
 
 -- an answer for a position, as a JSON object
@@ -15,5 +15,5 @@ answer_object base p answer =
 -- the line for a position: what the map says of it
 abbrev pub answer_line : Style → MapRecord → Position → Text
 answer_line style r p =
-    let answer = said style.bias r p.line p.column in
+    let answer = map_answer style.bias r p.line p.column in
     (if style.json then answer_object style.base p answer else answer_text style.base answer) ++ 10 ∷ []

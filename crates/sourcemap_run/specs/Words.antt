@@ -1,13 +1,16 @@
 -- The words of this crate's clauses, from one place.
 pub use Rattle.oxc_sourcemap_tokens.specs.Results.{Answers, OnlyMemory, Pushes, lent_item}
 pub use Rattle.oxc_sourcemap_tokens.specs.Results.{lent_items}
-pub use Rattle.oxc_sourcemap_tokens.specs.declared.error.Error.TheVariants.{OutOfMemory, TooLarge}
-pub use Rattle.oxc_sourcemap_tokens.specs.declared.plan_error.PlanError.TheVariants.{Map, Unsorted}
+pub use Rattle.oxc_sourcemap_tokens.specs.declared.errors.error.Error.TheVariants.{OutOfMemory}
+pub use Rattle.oxc_sourcemap_tokens.specs.declared.errors.error.Error.TheVariants.{TooLarge}
+pub use Rattle.oxc_sourcemap_tokens.specs.declared.errors.plan_error.PlanError.TheVariants.{Map}
+pub use Rattle.oxc_sourcemap_tokens.specs.declared.errors.plan_error.PlanError.TheVariants.{Unsorted}
 pub use Rattle.oxc_sourcemap_parts.specs.DecodedMap.{name_of}
 pub use Rattle.oxc_sourcemap_parts.specs.Sorted.{are_tokens_sorted}
+pub use Rattle.oxc_sourcemap_lookup.specs.Biased.{token_by}
 pub use Rattle.oxc_sourcemap_lookup.specs.Trace.{original_in}
-pub use Rattle.sourcemap_run.specs.Answers.{token_by, pointed, said, place_of, place_seen, seen}
-pub use Rattle.sourcemap_run.specs.Answers.{lent_place}
+pub use Rattle.sourcemap_run.specs.Answers.{pointed, map_answer, place_of, place_seen}
+pub use Rattle.sourcemap_run.specs.Answers.{seen, lent_place}
 pub use Rattle.sourcemap_run.specs.Texts.{is_hidden, unicode_escape, visible_char, visible}
 pub use Rattle.sourcemap_run.specs.Texts.{visible_string, is_plain, shown, number_part, place_text}
 pub use Rattle.sourcemap_run.specs.Texts.{name_part, number_member, text_member, name_member}

@@ -6,10 +6,11 @@ ghost use Rattle.sourcemap_run.specs.Words.{answer_members, answer_object, answe
 ghost use Rattle.sourcemap_run.specs.Words.{position_members};
 
 use crate::texts::{
-    from_base, push_name_member, push_name_part, push_number, push_number_member, push_place,
+    from_base, push_name_member, push_name_part, push_number, push_number_member, push_original,
     push_text_member,
 };
-use crate::tracer::{Answer, Bias, Spot, Tracer};
+use crate::tracer::{Answer, Spot, Tracer};
+use oxc_sourcemap_lookup::Bias;
 use oxc_sourcemap_tokens::{Position, Result};
 use std::alloc::Global;
 
@@ -25,12 +26,12 @@ pub struct Style {
 }
 
 /// Appends a place and its name.
-fn push_named_place(alloc: Global, spot: &Spot<'_>, base: u8, out: &mut String) -> Result<()>
+fn push_named_original(alloc: Global, spot: &Spot<'_>, base: u8, out: &mut String) -> Result<()>
     ensures text { Pushes result out.old out.new
         (answer_text base (Some (Some (place_seen spot.now)))) }
     ensures error { OnlyMemory result }
 {
-    push_place(alloc, spot, base, out)?;
+    push_original(alloc, spot, base, out)?;
     push_name_part(spot.name, out)
 }
 
@@ -42,7 +43,7 @@ fn push_text(alloc: Global, answer: Answer<'_>, base: u8, out: &mut String) -> R
     match answer {
         Answer::Nothing => Ok(out.push_str("nothing")?),
         Answer::Unmapped => Ok(out.push_str("unmapped")?),
-        Answer::At(spot) => push_named_place(alloc, &spot, base, out),
+        Answer::At(spot) => push_named_original(alloc, &spot, base, out),
     }
 }
 
@@ -58,7 +59,7 @@ fn push_position_members(alloc: Global, spot: &Spot<'_>, base: u8, out: &mut Str
 }
 
 /// Appends the members of a place.
-fn push_place_members(alloc: Global, spot: &Spot<'_>, base: u8, out: &mut String) -> Result<()>
+fn push_original_members(alloc: Global, spot: &Spot<'_>, base: u8, out: &mut String) -> Result<()>
     ensures text { Pushes result out.old out.new
         (answer_members base (Some (Some (place_seen spot.now)))) }
     ensures error { OnlyMemory result }
@@ -76,7 +77,7 @@ pub fn push_members(alloc: Global, answer: Answer<'_>, base: u8, out: &mut Strin
     match answer {
         Answer::Nothing => push_text_member("found", "nothing", out),
         Answer::Unmapped => push_text_member("found", "unmapped", out),
-        Answer::At(spot) => push_place_members(alloc, &spot, base, out),
+        Answer::At(spot) => push_original_members(alloc, &spot, base, out),
     }
 }
 

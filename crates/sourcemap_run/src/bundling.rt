@@ -60,7 +60,7 @@ fn with_line_feed(alloc: Global, text: &str) -> Result<String>
 }
 
 /// A text, with a line feed at its end: its own, or, if it has none there, one more. Fails only with `OutOfMemory`.
-pub fn ended(alloc: Global, text: &str) -> Result<String>
+pub fn with_line_end(alloc: Global, text: &str) -> Result<String>
     ensures text { IfOk result (λ whole. IsEnded text.now (string_bytes whole)) }
     ensures error { OnlyMemory result }
 {
@@ -102,7 +102,7 @@ impl Bundle {
         ensures pushed { OnOk result (IsPushed text.now [] self.old self.new) }
         ensures error { IfErr result (λ e. (e ≢ OutOfMemory) → e ≡ TooLarge) }
     {
-        let whole = ended(alloc, text)?;
+        let whole = with_line_end(alloc, text)?;
         let Some(line) = self.line.checked_add(line_ends(alloc, whole.as_str())?) else {
             return Err(Error::TooLarge);
         };

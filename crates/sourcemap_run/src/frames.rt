@@ -4,8 +4,9 @@ ghost use Rattle.std.specs.List.{flat_map};
 ghost use Rattle.sourcemap_run.specs.Words.{OnlyMemory, Pushes, seen, answer_to, location_text};
 ghost use Rattle.sourcemap_run.specs.Words.{painted, led_back};
 
-use crate::texts::push_place;
-use crate::tracer::{Answer, Bias, Tracer};
+use crate::texts::push_original;
+use crate::tracer::{Answer, Tracer};
+use oxc_sourcemap_lookup::Bias;
 use oxc_sourcemap_tokens::{Position, Result};
 use std::alloc::Global;
 
@@ -79,7 +80,7 @@ pub fn answer_to<'m>(tracers: &'m [Tracer], target: Option<Target>) -> Answer<'m
         return Answer::Nothing;
     };
     match tracers.get(target.map) {
-        Some(tracer) => tracer.answer(target.position, Bias::Lower),
+        Some(tracer) => tracer.answer(target.position, Bias::Before),
         None => Answer::Nothing,
     }
 }
@@ -101,7 +102,7 @@ fn push_location(
         return Ok(());
     };
     out.push_str(paint.before)?;
-    push_place(alloc, &spot, 1, out)?;
+    push_original(alloc, &spot, 1, out)?;
     out.push_str(paint.after)?;
     Ok(())
 }

@@ -10,12 +10,13 @@ mod texts;
 mod tracer;
 
 pub use answers::{Style, push_answer, push_answers, push_members};
-pub use bundling::{Bundle, ended, line_ends};
+pub use bundling::{Bundle, line_ends, with_line_end};
 pub use counting::{Block, Mark, push_marks};
 pub use frames::{Frame, Paint, Target, answer_to, push_frame, push_frames};
-pub use page::{MARK, filled};
+pub use oxc_sourcemap_lookup::Bias;
+pub use page::{MARK, fill_template};
 pub use texts::{
-    is_hidden, push_number_member, push_object, push_place, push_shown, push_text_member,
+    is_hidden, push_number_member, push_object, push_original, push_shown, push_text_member,
     push_visible,
 };
-pub use tracer::{Answer, Bias, Spot, Tracer};
+pub use tracer::{Answer, Spot, Tracer};

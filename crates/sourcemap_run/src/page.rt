@@ -9,7 +9,11 @@ use std::alloc::{AllocError, Global};
 pub const MARK: &str = "{{data}}";
 
 /// The template with a content in place of a mark, as base64, which has no character of HTML; None if there is no mark.
-pub fn filled(alloc: Global, template: &str, content: &str) -> Result<Option<String>, AllocError>
+pub fn fill_template(
+    alloc: Global,
+    template: &str,
+    content: &str,
+) -> Result<Option<String>, AllocError>
     ensures page { IfOk result (λ page. MatchOption page (¬ HasMark template.now)
         (λ p. IsFilled template.now content.now (string_bytes p))) }
 {

@@ -134,7 +134,7 @@ pub(crate) fn push_name_part(name: Option<&str>, out: &mut String) -> Result<()>
 }
 
 /// Appends a place as `SOURCE:LINE:COLUMN`, counted from `base`.
-pub fn push_place(alloc: Global, spot: &Spot<'_>, base: u8, out: &mut String) -> Result<()>
+pub fn push_original(alloc: Global, spot: &Spot<'_>, base: u8, out: &mut String) -> Result<()>
     ensures text { Pushes result out.old out.new (place_text base (place_seen spot.now)) }
     ensures error { OnlyMemory result }
 {

@@ -2,25 +2,15 @@
 ghost use Rattle.std.specs.Prelude.{◌≡◌, ◌≢◌, false, slice_get, option_map, IfOk, IfErr};
 ghost use Rattle.std.specs.Option.{option_and_then};
 ghost use Rattle.sourcemap_run.specs.Words.{Map, OutOfMemory, Unsorted, are_tokens_sorted};
-ghost use Rattle.sourcemap_run.specs.Words.{token_by, pointed, said, seen, original_in, place_of};
+ghost use Rattle.sourcemap_run.specs.Words.{token_by, pointed, map_answer, seen, original_in};
+ghost use Rattle.sourcemap_run.specs.Words.{place_of};
 ghost use Rattle.sourcemap_run.specs.Words.{lent_item, lent_place, name_of};
 
-use oxc_sourcemap_lookup::LineIndex;
+use oxc_sourcemap_lookup::{Bias, LineIndex, Traced};
 use oxc_sourcemap_map::SourceMap;
 use oxc_sourcemap_tokens::{PlanError, Position, Token};
 use std::alloc::Global;
 use std::marker::Model;
-
-/// Which token answers for a generated position.
-#[derive(Clone, Copy, Debug, PartialEq, Eq)]
-pub enum Bias {
-    /// The last one at or before it on its line.
-    Lower,
-    /// The same, and before the first one of its line that one.
-    Clamped,
-    /// The first one at or after it on its line.
-    Upper,
-}
 
 /// What a generated position comes from: a line and a column of a source, from 0, and a name.
 #[derive(Clone, Copy)]
@@ -52,7 +42,7 @@ pub struct Tracer {
 
 impl Model for Tracer {
     ghost use Rattle.oxc_sourcemap_parts.specs.Record.{MapRecord};
-    ghost use Rattle.sourcemap_run.specs.Indexed.{IsIndexed};
+    ghost use Rattle.sourcemap_run.specs.Indices.{IsIndexed};
 
     ghost Value = { MapRecord };
 
@@ -93,16 +83,7 @@ impl Tracer {
     pub fn token(&self, position: Position, bias: Bias) -> Option<Token>
         ensures { result ≡ token_by bias self.now.tokens position.line position.column }
     {
-        let tokens = self.tokens();
-        let (line, column) = (position.line, position.column);
-        match bias {
-            Bias::Lower => self.index.lookup(tokens, line, column),
-            Bias::Clamped => self.index.lookup_clamped(tokens, line, column),
-            Bias::Upper => {
-                let index = self.index.lookup_index_after(tokens, line, column)?;
-                tokens.get(index).copied()
-            }
-        }
+        Traced::new(self.tokens(), &self.index).token(position, bias)
     }
 
     /// The source of a token. None if it has no source id, or one out of range.
@@ -156,7 +137,7 @@ impl Tracer {
 
     /// What the map says of a position: what its trace there is, the clamped one for `Clamped`.
     pub fn answer(&self, position: Position, bias: Bias) -> Answer<'_>
-        ensures { seen result ≡ said bias self.now position.line position.column }
+        ensures { seen result ≡ map_answer bias self.now position.line position.column }
     {
         self.answer_by(position, bias)
     }

@@ -63,7 +63,7 @@ complete -o filenames -F _sourcemap sourcemap\n",
 }
 
 /// A text between single quotes of a shell. It has none itself but those that are doubled here.
-fn quoted(alloc: Global, text: &str) -> Result<String, AllocError> {
+fn quote_for_shell(alloc: Global, text: &str) -> Result<String, AllocError> {
     let mut out = String::from_str(alloc, "'")?;
     for ch in text.chars() {
         match ch {
@@ -87,7 +87,7 @@ fn push_zsh_command(
         let Some(long) = arg.get_long() else {
             continue;
         };
-        let help = quoted(alloc, arg.get_help().unwrap_or(""))?;
+        let help = quote_for_shell(alloc, arg.get_help().unwrap_or(""))?;
         let value = if takes_value(arg) {
             "':value:_files'"
         } else {
@@ -111,7 +111,7 @@ fn zsh(alloc: Global, program: &Command<'_>) -> Result<String, AllocError> {
     for command in program.get_subcommands() {
         let (name, about) = (
             command.get_name(),
-            quoted(alloc, command.get_about().unwrap_or(""))?,
+            quote_for_shell(alloc, command.get_about().unwrap_or(""))?,
         );
         out.push_str(format!(in alloc; "\n            {name}:{about}")?.as_str())?;
     }
@@ -135,7 +135,7 @@ fn push_fish_options(
         let Some(long) = arg.get_long() else {
             continue;
         };
-        let help = quoted(alloc, arg.get_help().unwrap_or(""))?;
+        let help = quote_for_shell(alloc, arg.get_help().unwrap_or(""))?;
         let value = if takes_value(arg) { " -r" } else { "" };
         let line = format!(in alloc;
             "complete -c sourcemap -n '__fish_seen_subcommand_from {name}' -l {long}{value} -d {help}\n"
@@ -150,7 +150,7 @@ fn fish(alloc: Global, program: &Command<'_>) -> Result<String, AllocError> {
     for command in program.get_subcommands() {
         let (name, about) = (
             command.get_name(),
-            quoted(alloc, command.get_about().unwrap_or(""))?,
+            quote_for_shell(alloc, command.get_about().unwrap_or(""))?,
         );
         let line = format!(in alloc;
             "complete -c sourcemap -f -n __fish_use_subcommand -a {name} -d {about}\n"

@@ -96,7 +96,7 @@ pub struct Patterns {
     elsewhere: Vec<Regex>,
 }
 
-fn compiled(alloc: Global, patterns: &[&str]) -> Outcome<Vec<Regex>> {
+fn compile_patterns(alloc: Global, patterns: &[&str]) -> Outcome<Vec<Regex>> {
     let mut all = Vec::new(alloc);
     for pattern in patterns {
         match Regex::new(alloc, pattern) {
@@ -111,11 +111,11 @@ impl Patterns {
     pub fn new(alloc: Global) -> Outcome<Patterns> {
         let [node, eval, engine, wasm, column] = ELSEWHERE;
         Ok(Patterns {
-            eval: compiled(alloc, &[V8_EVAL])?,
-            v8: compiled(alloc, &[V8])?,
-            whole: compiled(alloc, &[V8_CALL, V8_BARE])?,
-            others: compiled(alloc, &[VITEST, AT_SIGN, PLACE])?,
-            elsewhere: compiled(alloc, &[node.0, eval.0, engine.0, wasm.0, column.0])?,
+            eval: compile_patterns(alloc, &[V8_EVAL])?,
+            v8: compile_patterns(alloc, &[V8])?,
+            whole: compile_patterns(alloc, &[V8_CALL, V8_BARE])?,
+            others: compile_patterns(alloc, &[VITEST, AT_SIGN, PLACE])?,
+            elsewhere: compile_patterns(alloc, &[node.0, eval.0, engine.0, wasm.0, column.0])?,
         })
     }
 

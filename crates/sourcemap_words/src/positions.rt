@@ -4,7 +4,7 @@ use oxc_sourcemap_tokens::Position;
 use std::alloc::Global;
 
 /// A number of decimal digits alone, without `base`.
-fn number_of(word: &str, base: u32) -> Option<u32> {
+fn decimal_number(word: &str, base: u32) -> Option<u32> {
     if !word.bytes().all(|byte| byte.is_ascii_digit()) {
         return None;
     }
@@ -15,8 +15,8 @@ fn number_of(word: &str, base: u32) -> Option<u32> {
 pub fn position_of(word: &str, base: u32) -> Option<Position> {
     let (line, column) = word.split_once(':')?;
     Some(Position {
-        line: number_of(line, base)?,
-        column: number_of(column, base)?,
+        line: decimal_number(line, base)?,
+        column: decimal_number(column, base)?,
     })
 }
 

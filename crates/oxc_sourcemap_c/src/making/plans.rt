@@ -16,7 +16,7 @@ use oxc_sourcemap_tokens::{Error, Memory, PlanError};
 use std::alloc::Global;
 
 /// Copies of words.
-fn copied(alloc: Global, words: &[&str]) -> Memory<Vec<String>>
+fn copy_words(alloc: Global, words: &[&str]) -> Memory<Vec<String>>
     ensures { IfOk result (λ copies. map string_bytes copies.items ≡ lent_items words.now) }
 {
     let mut copies = Vec::with_capacity(alloc, words.len())?;
@@ -38,7 +38,7 @@ fn call_error_of(error: RunError) -> CallError
 }
 
 /// The number of the first of these texts that is equal to one.
-fn number_of(texts: &[&str], text: &str) -> Option<usize>
+fn text_number(texts: &[&str], text: &str) -> Option<usize>
     ensures { IfSome result (λ k. slice_get (lent_items texts.now) k ≡ Some text.now) }
 {
     for k in 0..texts.len() {
@@ -60,7 +60,7 @@ fn plan_failure(inputs: &[&str], fault: &PlanFault<'_>) -> Failure
     let Some((text, place)) = fault.at else {
         return Failure::of(error);
     };
-    match number_of(inputs, text) {
+    match text_number(inputs, text) {
         Some(k) => Failure {
             error,
             place: Some(place.in_text(k)),
@@ -90,7 +90,7 @@ fn evaluate_words(alloc: Global, words: &[&str], texts: &[&str]) -> Result<Owned
     ensures error { IfErr result (IsFailure (IsEvaluationErrorAt (lent_items words.now)
         (lent_items texts.now))) }
 {
-    let Ok(words) = copied(alloc, words) else {
+    let Ok(words) = copy_words(alloc, words) else {
         return Err(Failure::memory());
     };
     match read_plan(alloc, texts, words.as_slice()) {

@@ -17,7 +17,7 @@ use oxc_sourcemap_mappings::read_mappings;
 use oxc_sourcemap_parts::SourceMapParts;
 use std::alloc::Global;
 
-fn read_text(alloc: Global, text: &str) -> Result<OwnedSourceMap, Failure>
+fn read_owned_map(alloc: Global, text: &str) -> Result<OwnedSourceMap, Failure>
     ensures map { IfOk result (λ map. read_map text.now ≡ Ok map) }
     ensures error { IfErr result (IsFailure (IsTextErrorAt text.now)) }
 {
@@ -31,7 +31,7 @@ fn read(alloc: Global, json: &[u8]) -> Result<OwnedSourceMap, Failure>
     ensures error { IfErr result (IsFailure (IsReadErrorAt json.now)) }
 {
     match text_of(json) {
-        Ok(text) => read_text(alloc, text),
+        Ok(text) => read_owned_map(alloc, text),
         Err(error) => Err(Failure::of(error)),
     }
 }

@@ -115,7 +115,7 @@ fn lists_fault(parts: &SourceMapParts<'_>) -> Option<Error>
 }
 
 /// Owned copies of texts.
-fn owned(alloc: Global, texts: &[&str]) -> Memory<Vec<CowStr<'static>>>
+fn own_texts(alloc: Global, texts: &[&str]) -> Memory<Vec<CowStr<'static>>>
     ensures { IfOk result (λ owned. cow_texts owned.items ≡ lent_items texts.now) }
 {
     let mut owned = Vec::with_capacity(alloc, texts.len())?;
@@ -157,9 +157,9 @@ fn parts_of_lists(
     let contents = contents_of(alloc, contents, known)?;
     Ok(SourceMapParts {
         file: None,
-        names: owned(alloc, names.as_slice())?,
+        names: own_texts(alloc, names.as_slice())?,
         source_root: None,
-        sources: owned(alloc, sources.as_slice())?,
+        sources: own_texts(alloc, sources.as_slice())?,
         source_contents: owned_contents(alloc, contents)?,
         tokens: tokens_of(alloc, tokens)?.into_boxed_slice(),
         token_chunks: None,

@@ -10,7 +10,7 @@ ghost use Rattle.oxc_sourcemap_c.specs.Words.{position_at, IsGivenBack, IsCodeOf
 
 use crate::answers::{write_fault, write_found};
 use crate::reading::reverse::generated;
-use oxc_sourcemap_handles::{Bias, CallError, Fault, GivenBack, Lent, Original, PieceNumbers};
+use oxc_sourcemap_handles::{CallError, Fault, GivenBack, Lent, Original, PieceNumbers, bias_from};
 use oxc_sourcemap_queries::Pieces;
 use oxc_sourcemap_tokens::Position;
 
@@ -98,7 +98,7 @@ fn trace(map: &mut Lent, at: Position, bias: u32, out: &mut Original) -> Result<
     ensures back { IsBack map.old map.new }
 {
     let loaded = map.map()?;
-    let bias = Bias::of(bias)?;
+    let bias = bias_from(bias)?;
     Ok(loaded.trace(at, bias, out)?)
 }
 
@@ -151,7 +151,7 @@ fn trace_all(
 {
     let loaded = map.map()?;
     have_one_length(positions.len(), out.len())?;
-    let bias = Bias::of(bias)?;
+    let bias = bias_from(bias)?;
     Ok(loaded.trace_all(positions, bias, out)?)
 }
 
@@ -192,7 +192,7 @@ fn find_all(
 {
     let loaded = map.map()?;
     have_one_length(positions.len(), out.len())?;
-    let bias = Bias::of(bias)?;
+    let bias = bias_from(bias)?;
     Ok(loaded.find_all(positions, bias, out)?)
 }
 

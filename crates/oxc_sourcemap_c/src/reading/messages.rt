@@ -86,7 +86,7 @@ fn reason_in(alloc: Global, text: &[u8], place: &PlaceNumbers) -> Option<FaultRe
 
 /// The same of what is really wrong with a text at a place; 0 too where the text has no such fault, and where its error tells already.
 fn write_reason_message(alloc: Global, text: &[u8], place: &PlaceNumbers, out: &mut [u8]) -> usize
-    ensures { (said : List ℕ) × IsMessage said out.old out.new result }
+    ensures { (words : List ℕ) × IsMessage words out.old out.new result }
 {
     match reason_in(alloc, text, place) {
         Some(reason) => write_text(reason.to_string(alloc), out),
@@ -102,7 +102,7 @@ pub extern "C" fn proved_reason_message(
     fault: &Fault,
     out: &mut [u8],
 ) -> usize
-    ensures { (said : List ℕ) × IsMessage said out.old out.new result }
+    ensures { (words : List ℕ) × IsMessage words out.old out.new result }
 {
     write_reason_message(alloc, text, &fault.place, out)
 }

@@ -9,8 +9,9 @@ ghost use Rattle.std.specs.Simd.Lanes.{mask_l};
 ghost use Rattle.json.specs.Lex.{between, lex, token};
 ghost use Rattle.json.specs.Token as spec;
 ghost use Rattle.json.specs.Word.{is_space};
-ghost use Rattle.oxc_sourcemap_json.specs.Plain.{tokens_left, opening, is_stop, is_plain, MayBegin};
-ghost use Rattle.oxc_sourcemap_json.specs.Plain.{MayClose, EndsValue, IsRead};
+ghost use Rattle.oxc_sourcemap_json.specs.PlainReader.{tokens_left, opening, is_stop, is_plain};
+ghost use Rattle.oxc_sourcemap_json.specs.PlainReader.{MayBegin};
+ghost use Rattle.oxc_sourcemap_json.specs.PlainReader.{MayClose, EndsValue, IsRead};
 
 use oxc_sourcemap_tokens::Memory;
 use std::alloc::Global;
@@ -137,7 +138,7 @@ fn ends_value(byte: u8) -> bool
 }
 
 /// The plain text whose quote is at an index, and where what follows it begins.
-fn quoted<'a>(text: &'a str, at: usize) -> Option<(&'a str, usize)>
+fn quoted_text<'a>(text: &'a str, at: usize) -> Option<(&'a str, usize)>
     requires { get_or text.now at 32 ≡ 34 }
     ensures { IfSome result (λ found. lex between (drop at text.now)
         ≡ token (spec.string found.0.now) ∷ lex between (drop found.1 text.now)) }
@@ -172,7 +173,7 @@ const FEW_BYTES: usize = 32;
 
 /// The text that begins at an index, behind its quote, and where what follows it begins. None if an escape is none of two
 /// characters.
-fn escaped(alloc: Global, text: &str, from: usize) -> Memory<Option<(String, usize)>>
+fn escaped_text(alloc: Global, text: &str, from: usize) -> Memory<Option<(String, usize)>>
     requires { IsCharBoundary text.now from }
     ensures { IfOk result (λ found. IfSome found
         (λ read. IsRead text.now from (string_bytes read.0) read.1)) }
@@ -204,9 +205,9 @@ fn text_at(alloc: Global, text: &str, at: usize) -> Memory<Option<(String, usize
     ensures { IfOk result (λ found. IfSome found (λ read. lex between (drop at text.now)
         ≡ token (spec.string (string_bytes read.0)) ∷ lex between (drop read.1 text.now))) }
 {
-    match quoted(text, at) {
+    match quoted_text(text, at) {
         Some((plain, end)) => Ok(Some((String::from_str(alloc, plain)?, end))),
-        None => escaped(alloc, text, at + 1),
+        None => escaped_text(alloc, text, at + 1),
     }
 }
 
@@ -279,7 +280,7 @@ impl<'a> PlainReader<'a> {
         if byte != b'"' || !self.place.may_begin() {
             return None;
         }
-        let (key, end) = quoted(self.text, self.at)?;
+        let (key, end) = quoted_text(self.text, self.at)?;
         if byte_at(self.text.as_bytes(), end) != b':' {
             return None;
         }
@@ -315,7 +316,7 @@ impl<'a> PlainReader<'a> {
         if self.peek() != b'"' || !self.place.may_begin() {
             return None;
         }
-        let (text, end) = quoted(self.text, self.at)?;
+        let (text, end) = quoted_text(self.text, self.at)?;
         if !ends_value(byte_at(self.text.as_bytes(), end)) {
             return None;
         }

@@ -29,7 +29,7 @@ fn present(member: Option<&Value>) -> Option<&Value>
 }
 
 /// A copy of the string of a member, or the fault of its field.
-fn read_text(alloc: Global, member: &Value, field: Field) -> Located<String>
+fn copy_text(alloc: Global, member: &Value, field: Field) -> Located<String>
     ensures text { Reads string_bytes result (text_in field (view member.now)) }
     ensures fault { FailsAs (misshapen field (Member field)) result }
 {
@@ -92,7 +92,7 @@ fn optional_text(alloc: Global, value: &Value, key: &str, field: Field) -> Locat
     let Some(member) = present(value.get(key)) else {
         return Ok(None);
     };
-    Ok(Some(read_text(alloc, member, field)?))
+    Ok(Some(copy_text(alloc, member, field)?))
 }
 
 /// The ignore list; if it is missing or null, the one of the older key, which may be missing or null, too.

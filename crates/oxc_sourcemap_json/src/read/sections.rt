@@ -3,8 +3,8 @@ ghost use Rattle.std.specs.Prelude.{◌≡◌, ◌≢◌, option_map, string_byt
 ghost use Rattle.std.specs.Prelude.{IfSome, []};
 ghost use Rattle.oxc_sourcemap_json.specs.Words.{view, items_view, get, record_of_parts, file_of};
 ghost use Rattle.oxc_sourcemap_json.specs.Words.{is_indexed, is_plain, section_map, all_sections};
-ghost use Rattle.oxc_sourcemap_json.specs.Words.{joined_sections, sections_in, indexed_said};
-ghost use Rattle.oxc_sourcemap_json.specs.Words.{indexed_record, map_said, read_value, read_map};
+ghost use Rattle.oxc_sourcemap_json.specs.Words.{joined_sections, sections_in, indexed_form};
+ghost use Rattle.oxc_sourcemap_json.specs.Words.{indexed_record, map_of_form, read_value, read_map};
 ghost use Rattle.oxc_sourcemap_json.specs.Words.{Answers, OutOfMemory, Reads, Locates, read_alone};
 ghost use Rattle.oxc_sourcemap_json.specs.Words.{value_spot, plain_map, map_spot, place_at};
 ghost use Rattle.oxc_sourcemap_json.specs.Words.{offset_place, sections_place, indexed_place};
@@ -13,7 +13,7 @@ ghost use Rattle.oxc_sourcemap_json.specs.Words.{LocatesIn, misshapen};
 
 use crate::object::{ignored_field, json_of, plain_map, read_file, usual_map};
 use crate::read::decode::{read_fields, read_usual};
-use crate::read::place::place_after;
+use crate::read::offsets::offset_after;
 use crate::read::reading::reading_fault;
 use json::Scratch;
 use oxc_sourcemap_join::JoinedParts;
@@ -120,7 +120,7 @@ fn join_sections(alloc: Global, sections: Vec<Value>) -> Located<JoinedParts<'st
     let mut before = None;
     for section in sections {
         let number = joined.map_count();
-        let position = match place_after(&joined, before, &section) {
+        let position = match offset_after(&joined, before, &section) {
             Ok(position) => position,
             Err(error) => {
                 let place = Some(offset_place(number, &section));
@@ -151,8 +151,8 @@ fn indexed_parts(joined: JoinedParts<'static>, file: Option<String>) -> SourceMa
 
 /// The parts of the map that an indexed map stands for.
 fn read_indexed(alloc: Global, value: Value) -> Located<SourceMapParts<'static>>
-    ensures map { Reads record_of_parts result (map_said
-        (indexed_said (file_of (view value)) (sections_in (view value)))) }
+    ensures map { Reads record_of_parts result (map_of_form
+        (indexed_form (file_of (view value)) (sections_in (view value)))) }
     ensures place { Locates result (indexed_place (view value)) }
 {
     let file = read_file(alloc, &value)?;

@@ -73,7 +73,7 @@ static ESCAPED: [u64; 256] = [
 
 /// Places a byte, escaped, in `buf` from index `at` on. Returns the index after it; the bytes from there on have no meaning.
 #[inline(always)]
-pub(crate) fn place_byte(buf: &mut [u8], at: usize, byte: u8) -> usize
+pub(crate) fn write_byte(buf: &mut [u8], at: usize, byte: u8) -> usize
     requires room { at + 8 ≤ length buf.old }
     ensures bytes { take result buf.new ≡ take at buf.old ++ escaped byte }
     ensures within { result ≤ at + 6 }

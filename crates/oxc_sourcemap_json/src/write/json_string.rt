@@ -7,9 +7,9 @@ ghost use Rattle.std.specs.Simd.Lanes.{mask_l};
 ghost use Rattle.oxc_sourcemap_json.specs.Words.{escaped, json_string, OnlyAdds, comma_text};
 ghost use Rattle.oxc_sourcemap_json.specs.Words.{item_text, cow_texts, needs_escape, block_of};
 ghost use Rattle.oxc_sourcemap_json.specs.Words.{OnlyMemory, Pushes};
-ghost use Rattle.oxc_sourcemap_json.specs.WritePlain.{is_plain};
+ghost use Rattle.oxc_sourcemap_json.specs.UnescapedBytes.{is_plain};
 
-use crate::write::escapes::place_byte;
+use crate::write::escapes::write_byte;
 use oxc_sourcemap_tokens::{Error, Memory, Result};
 use std::borrow::CowStr;
 use std::simd::prelude::*;
@@ -74,7 +74,7 @@ fn first_block(text: &[u8]) -> u8x16
 
 /// Places the bytes at the front of a text that need no escape, at most 16. Returns how many.
 #[inline(always)]
-fn place_run(buf: &mut [u8], at: usize, text: &[u8]) -> usize
+fn write_run(buf: &mut [u8], at: usize, text: &[u8]) -> usize
     requires room { at + 16 ≤ length buf.old }
     ensures bytes { take (at + result) buf.new ≡ take at buf.old ++ take result text.now }
     ensures plain { result ≤ prefix_len is_plain text.now }
@@ -86,7 +86,7 @@ fn place_run(buf: &mut [u8], at: usize, text: &[u8]) -> usize
 }
 
 /// Places a text, escaped. Returns the index after it.
-fn place_escaped(buf: &mut [u8], at: usize, text: &[u8]) -> usize
+fn write_escaped(buf: &mut [u8], at: usize, text: &[u8]) -> usize
     requires room { at + 6 * length text.now + 16 ≤ length buf.old }
     ensures bytes { take result buf.new ≡ take at buf.old ++ flat_map escaped text.now }
     ensures within { result ≤ at + 6 * length text.now }
@@ -94,11 +94,11 @@ fn place_escaped(buf: &mut [u8], at: usize, text: &[u8]) -> usize
     let mut end = at;
     let mut done = 0;
     while done < text.len() {
-        let plain = place_run(buf, end, &text[done..]);
+        let plain = write_run(buf, end, &text[done..]);
         end += plain;
         done += plain;
         if plain < 16 && done < text.len() {
-            end = place_byte(buf, end, text[done]);
+            end = write_byte(buf, end, text[done]);
             done += 1;
         }
     }
@@ -106,7 +106,7 @@ fn place_escaped(buf: &mut [u8], at: usize, text: &[u8]) -> usize
 }
 
 /// How many bytes of a text are gathered at once: all, or as many as have room however they are escaped.
-fn piece_len(text: &str) -> usize
+fn gathered_len(text: &str) -> usize
     requires { 0 < length text.now }
     ensures boundary { IsCharBoundary text.now result }
     ensures some { 0 < result }
@@ -134,8 +134,8 @@ fn push_escaped(out: &mut String, text: &str) -> Memory<()>
     let mut buf = [0u8; ROOM];
     let mut rest = text;
     while !rest.is_empty() {
-        let (piece, after) = rest.split_at(piece_len(rest));
-        let end = place_escaped(&mut buf, 0, piece.as_bytes());
+        let (piece, after) = rest.split_at(gathered_len(rest));
+        let end = write_escaped(&mut buf, 0, piece.as_bytes());
         push_gathered(out, &buf[..end])?;
         rest = after;
     }
@@ -163,7 +163,7 @@ fn commas(is_first: bool) -> usize
 }
 
 /// Places a text as a JSON string of a list. Returns the index after it.
-fn place_item(buf: &mut [u8], at: usize, is_first: bool, text: &[u8]) -> usize
+fn write_item(buf: &mut [u8], at: usize, is_first: bool, text: &[u8]) -> usize
     requires room { at + 6 * length text.now + 19 ≤ length buf.old }
     ensures bytes { take result buf.new ≡ take at buf.old ++ item_text is_first text.now }
     ensures within { result ≤ at + 6 * length text.now + 3 }
@@ -171,7 +171,7 @@ fn place_item(buf: &mut [u8], at: usize, is_first: bool, text: &[u8]) -> usize
     buf[at] = b',';
     let start = at + commas(is_first);
     buf[start] = b'"';
-    let end = place_escaped(buf, start + 1, text);
+    let end = write_escaped(buf, start + 1, text);
     buf[end] = b'"';
     end + 1
 }
@@ -238,7 +238,7 @@ fn push_item(
         return Ok(0);
     }
     let at = make_room(out, buf, len)?;
-    Ok(place_item(buf, at, is_first, text.as_bytes()))
+    Ok(write_item(buf, at, is_first, text.as_bytes()))
 }
 
 /// Adds texts as JSON strings with commas between them.

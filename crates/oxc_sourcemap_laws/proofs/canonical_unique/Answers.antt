@@ -26,8 +26,8 @@ returns-clause-reads_again c = λ text names sources tokens e.
 pub returns-clause-in_pieces : goal.returns-clause-in_pieces
 returns-clause-in_pieces c = pieces-is
 
-pub returns-clause-pieces_are_ascii : goal.returns-clause-pieces_are_ascii
-returns-clause-pieces_are_ascii c = piece-plain
+pub returns-clause-chunk_texts_are_ascii : goal.returns-clause-chunk_texts_are_ascii
+returns-clause-chunk_texts_are_ascii c = piece-plain
 
 pub returns-clause-sound_is_written : goal.returns-clause-sound_is_written
 returns-clause-sound_is_written c = is_written

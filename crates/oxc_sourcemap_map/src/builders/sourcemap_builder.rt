@@ -55,7 +55,7 @@ impl<'a> Model for SourceMapBuilder<'a> {
     ghost use Rattle.std.specs.Coded.{codes};
     ghost use Rattle.std.specs.FinMap as fin;
     ghost use Rattle.oxc_sourcemap_parts.specs.Views.{text_of, texts_of, contents_of, chunks_of};
-    ghost use Rattle.oxc_sourcemap_map.specs.Built.{Built, ids_code, HasPlaces};
+    ghost use Rattle.oxc_sourcemap_map.specs.Built.{Built, ids_code, HasIndices};
 
     ghost Value = { Built };
 
@@ -77,7 +77,7 @@ impl<'a> Model for SourceMapBuilder<'a> {
     } };
 
     // So the index of a name fits in a `u32`, and `name_ids` has it.
-    ghost invariant = { λ b. (length b.names.items ≤ 4294967295) × HasPlaces b.names b.name_ids };
+    ghost invariant = { λ b. (length b.names.items ≤ 4294967295) × HasIndices b.names b.name_ids };
 }
 
 /// The id of a new last item after this many others.

@@ -2,9 +2,9 @@
 ghost use Rattle.std.specs.Prelude.{◌≡◌, ◌↔◌, ◌+◌, ◌*◌, ◌<◌, ◌≤◌, length, get_or, IsTrue};
 ghost use Rattle.std.specs.List.{All};
 ghost use Rattle.oxc_sourcemap_map.specs.Words.{IsOrderOf, generated_for, generated_from, listed};
-ghost use Rattle.oxc_sourcemap_map.specs.Words.{token_place, no_token, binary_digits};
+ghost use Rattle.oxc_sourcemap_map.specs.Words.{token_original, no_token, binary_digits};
 
-use crate::reverse::order::{count_before, place_number, token_place};
+use crate::reverse::order::{count_before, original_number, token_original};
 use oxc_sourcemap_tokens::Token;
 
 /// The token at an index of an order.
@@ -17,13 +17,13 @@ fn token_at(tokens: &[Token], order: &[u32], at: usize) -> Token
 }
 
 /// The place of a token, counted as compared.
-fn counted_place(token: &Token, steps: &mut u64) -> u128
+fn counted_original(token: &Token, steps: &mut u64) -> u128
     requires { steps.old < 18446744073709551615 }
-    ensures value { result ≡ token_place token.now }
+    ensures value { result ≡ token_original token.now }
     ensures counted { steps.new ≡ steps.old + 1 }
 {
     *steps += 1;
-    token_place(token)
+    token_original(token)
 }
 
 /// Whether the token at an index of an order is there and points to a place. A comparison is counted.
@@ -31,10 +31,10 @@ fn is_hit(tokens: &[Token], order: &[u32], at: usize, place: u128, steps: &mut u
     requires within { All (λ i. i < length tokens.now) order.now }
     requires few { steps.old < 18446744073709551615 }
     ensures hit { IsTrue result ↔ ((at < length order.now)
-        × (token_place (get_or (listed tokens.now order.now) at no_token) ≡ place)) }
+        × (token_original (get_or (listed tokens.now order.now) at no_token) ≡ place)) }
     ensures counted { steps.new ≤ steps.old + 1 }
 {
-    at < order.len() && counted_place(&token_at(tokens, order, at), steps) == place
+    at < order.len() && counted_original(&token_at(tokens, order, at), steps) == place
 }
 
 /// The token of the greatest source column not past `col` on a line of a source.
@@ -52,7 +52,7 @@ pub(crate) fn find_for(
     ensures counted { steps.new ≤ steps.old + binary_digits (length order.now) + 2 }
     ensures few { steps.new ≤ steps.old + 66 }
 {
-    let place = place_number(source_id, line, col);
+    let place = original_number(source_id, line, col);
     let start = count_before(tokens, order, place, steps);
     if is_hit(tokens, order, start, place, steps) {
         return Some(token_at(tokens, order, start));
@@ -61,7 +61,7 @@ pub(crate) fn find_for(
         return None;
     }
     let near = token_at(tokens, order, start - 1);
-    if counted_place(&near, steps) < place_number(source_id, line, 0) {
+    if counted_original(&near, steps) < original_number(source_id, line, 0) {
         return None;
     }
     Some(near)
@@ -82,17 +82,17 @@ pub(crate) fn find_from(
     ensures counted { steps.new ≤ steps.old + 2 * binary_digits (length order.now) + 1 }
     ensures few { steps.new ≤ steps.old + 129 }
 {
-    let place = place_number(source_id, line, col);
+    let place = original_number(source_id, line, col);
     let start = count_before(tokens, order, place, steps);
     if start == order.len() {
         return None;
     }
     let near = token_at(tokens, order, start);
-    let near_place = counted_place(&near, steps);
-    if near_place >= place_number(source_id, line, 0) + 4294967296 {
+    let near_original = counted_original(&near, steps);
+    if near_original >= original_number(source_id, line, 0) + 4294967296 {
         return None;
     }
-    if near_place > place {
+    if near_original > place {
         return Some(near);
     }
     let end = count_before(tokens, order, place + 1, steps);

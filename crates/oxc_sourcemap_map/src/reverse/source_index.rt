@@ -4,12 +4,13 @@ ghost use Rattle.std.specs.List.Sorted.{IsNonDecreasingBy};
 ghost use Rattle.oxc_sourcemap_map.specs.Words.{TokenRecord, is_mapped, is_into, Answers, Reports};
 ghost use Rattle.oxc_sourcemap_map.specs.Words.{generated_at, generated_for, generated_from};
 ghost use Rattle.oxc_sourcemap_map.specs.Words.{all_generated_for, all_generated_from};
-ghost use Rattle.oxc_sourcemap_map.specs.Words.{IsLineByColumn, index_fault, indexed, token_place};
-ghost use Rattle.oxc_sourcemap_map.specs.Words.{AreBetween, AreInBounds, binary_digits};
+ghost use Rattle.oxc_sourcemap_map.specs.Words.{IsLineByColumn, index_fault, indexed};
+ghost use Rattle.oxc_sourcemap_map.specs.Words.{token_original, AreBetween, AreInBounds};
+ghost use Rattle.oxc_sourcemap_map.specs.Words.{binary_digits};
 
 use crate::maps::{SourceMap, parts_of};
 use crate::reverse::index_tokens::IndexTokens;
-use crate::reverse::order::{between, place_number};
+use crate::reverse::order::{between, original_number};
 use crate::reverse::search::{find_for, find_from};
 use crate::reverse::source_order::SourceOrder;
 use oxc_sourcemap_tokens::{Result, Token};
@@ -79,7 +80,7 @@ impl<'m> SourceIndex<'m> {
         ensures { IsLineByColumn source_id line self.now result }
     {
         let _ = &self.tokens;
-        let start = place_number(source_id, line, 0);
+        let start = original_number(source_id, line, 0);
         self.between(start, start + 4294967296, &mut 0)
     }
 
@@ -128,7 +129,7 @@ impl<'m> SourceIndex<'m> {
     {
         let _ = &self.tokens;
         *steps = 0;
-        let place = place_number(source_id, line, col);
+        let place = original_number(source_id, line, col);
         self.between(place, place + 1, steps)
     }
 
@@ -158,10 +159,10 @@ impl<'m> SourceIndex<'m> {
         requires few { steps.old ≤ 1024 }
         ensures in_bounds { AreInBounds result }
         ensures only { AreBetween from to result }
-        ensures rises { IsNonDecreasingBy token_place result }
+        ensures rises { IsNonDecreasingBy token_original result }
         ensures each { (place : ℕ) → from ≤ place → place < to
-            → filter (λ t. token_place t == place) result
-            ≡ filter (λ t. is_mapped t && token_place t == place) self.now }
+            → filter (λ t. token_original t == place) result
+            ≡ filter (λ t. is_mapped t && token_original t == place) self.now }
         ensures counted { steps.new ≤ steps.old + 2 * binary_digits (length self.now) }
         ensures few { steps.new ≤ steps.old + 128 }
     {

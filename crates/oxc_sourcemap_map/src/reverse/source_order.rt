@@ -5,7 +5,7 @@ ghost use Rattle.oxc_sourcemap_map.specs.Words.{TokenRecord, index_fault, FailsB
 ghost use Rattle.oxc_sourcemap_map.specs.Words.{IsSourceOrderOf, order_bytes, indices_at};
 ghost use Rattle.oxc_sourcemap_map.specs.Words.{indices_for, indices_from, is_into};
 
-use crate::reverse::order::{between, order_of, place_number};
+use crate::reverse::order::{between, order_of, original_number};
 use crate::reverse::search::{find_for, find_from};
 use oxc_sourcemap_tokens::{Error, Result, Token};
 use std::alloc::Global;
@@ -54,7 +54,7 @@ impl SourceOrder {
         requires { IsSourceOrderOf tokens.now self.now }
         ensures { result.now ≡ indices_at source_id line col tokens.now }
     {
-        let place = place_number(source_id, line, col);
+        let place = original_number(source_id, line, col);
         between(tokens, self.as_slice(), place, place + 1, &mut 0)
     }
 
@@ -89,7 +89,7 @@ impl SourceOrder {
             → is_into source_id line (get_or tokens.now i t) ≡ true
             → (result.0 ≤ i) × (i < result.1) }
     {
-        let start = place_number(source_id, line, 0);
+        let start = original_number(source_id, line, 0);
         let found = between(tokens, self.as_slice(), start, start + 4294967296, &mut 0);
         bounds_of(found)
     }

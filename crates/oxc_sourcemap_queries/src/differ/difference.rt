@@ -11,7 +11,7 @@ use oxc_sourcemap_parts::SourceMapParts;
 use oxc_sourcemap_tokens::{Position, tokens_in_bounds};
 
 /// The position of a place.
-fn position_of(place: u64) -> Position
+fn position_from(place: u64) -> Position
     ensures { result ≡ record { line = line_of place; column = column_of place } }
 {
     Position {
@@ -47,7 +47,7 @@ pub fn first_difference_of_parts(a: &SourceMapParts<'_>, b: &SourceMapParts<'_>)
         let found_first = token_at(first, holder(first, passed_first, place));
         let found_second = token_at(second, holder(second, passed_second, place));
         if !is_found_alike(a, found_first, b, found_second, &mut equal) {
-            return Some(position_of(place));
+            return Some(position_from(place));
         }
         let step_first = step_at(first, passed_first, place);
         let step_second = step_at(second, passed_second, place);

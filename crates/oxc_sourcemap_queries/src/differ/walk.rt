@@ -1,9 +1,9 @@
 //! From one place to the next where another token may be found. Positions stand as numbers here (`place`, in `RangePieces`), so
 //! that they compare as numbers do.
 ghost use Rattle.std.specs.Prelude.{◌≡◌, ◌≤◌, length, option_map, slice_get};
-ghost use Rattle.oxc_sourcemap_queries.specs.Words.{step_at, earlier, token_place};
+ghost use Rattle.oxc_sourcemap_queries.specs.Words.{step_at, earlier, token_position};
 
-use crate::pieces::{count_passed, place_of};
+use crate::pieces::{count_passed, token_position};
 use oxc_sourcemap_tokens::Token;
 
 /// The tokens that do not lie after a place, and where another one may be found next.
@@ -16,10 +16,10 @@ pub(crate) struct Step {
 }
 
 /// The place of the token at an index, if there is one.
-fn place_at(tokens: &[Token], i: usize) -> Option<u64>
-    ensures { result ≡ option_map token_place (slice_get tokens.now i) }
+fn position_at(tokens: &[Token], i: usize) -> Option<u64>
+    ensures { result ≡ option_map token_position (slice_get tokens.now i) }
 {
-    Some(place_of(tokens.get(i)?))
+    Some(token_position(tokens.get(i)?))
 }
 
 /// The step from a place, if `next` is the index of the first token that does not lie before it. Of several tokens at the place the
@@ -33,7 +33,7 @@ pub(crate) fn step_at(tokens: &[Token], next: usize, place: u64) -> Step
     let change = if count > 1 {
         place.checked_add(1)
     } else {
-        place_at(tokens, passed)
+        position_at(tokens, passed)
     };
     Step { passed, change }
 }

@@ -3,7 +3,7 @@ ghost use Rattle.std.specs.Prelude.{◌≡◌, ◌<◌, ◌≤◌, ◌==◌, nat
 ghost use Rattle.std.specs.List.{prefix_len};
 ghost use Rattle.std.specs.Option.{option_map_or, option_and_then};
 ghost use Rattle.oxc_sourcemap_queries.specs.Words.{place, line_of, column_of, piece_of};
-ghost use Rattle.oxc_sourcemap_queries.specs.Words.{token_place, holder, line_end, end_before};
+ghost use Rattle.oxc_sourcemap_queries.specs.Words.{token_position, holder, line_end, end_before};
 ghost use Rattle.oxc_sourcemap_queries.specs.Words.{run_end, cut_at, AreLeft, IsStart};
 ghost use Rattle.oxc_sourcemap_queries.specs.Words.{are_tokens_sorted, AreInBounds};
 
@@ -39,8 +39,8 @@ pub(crate) fn place(line: u32, col: u32) -> u64
 }
 
 /// The place of a token.
-pub fn place_of(token: &Token) -> u64
-    ensures { result ≡ token_place token.now }
+pub fn token_position(token: &Token) -> u64
+    ensures { result ≡ token_position token.now }
 {
     place(token.get_dst_line(), token.get_dst_col())
 }
@@ -61,10 +61,11 @@ pub fn column_of(place: u64) -> u32
 
 /// Whether there is a token at this index, and it lies at a place.
 fn is_at(tokens: &[Token], i: usize, place: u64) -> bool
-    ensures { result ≡ option_map_or (λ t. token_place t == place) (slice_get tokens.now i) false }
+    ensures { result ≡ option_map_or (λ t. token_position t == place)
+        (slice_get tokens.now i) false }
 {
     match tokens.get(i) {
-        Some(token) => place_of(token) == place,
+        Some(token) => token_position(token) == place,
         None => false,
     }
 }
@@ -96,14 +97,14 @@ pub fn holder(tokens: &[Token], next: usize, place: u64) -> Option<usize>
 
 /// Whether a token does not lie after a place.
 fn is_passed(token: &Token, place: u64) -> bool
-    ensures { result ≡ nat_le (token_place token.now) place }
+    ensures { result ≡ nat_le (token_position token.now) place }
 {
-    place_of(token) <= place
+    token_position(token) <= place
 }
 
 /// How many tokens at the front do not lie after a place.
 pub fn count_passed(tokens: &[Token], place: u64) -> usize
-    ensures { result ≡ prefix_len (λ t. nat_le (token_place t) place) tokens.now }
+    ensures { result ≡ prefix_len (λ t. nat_le (token_position t) place) tokens.now }
 {
     tokens
         .iter()
@@ -116,7 +117,7 @@ fn end_before(tokens: &[Token], i: usize, end: u64) -> u64
     ensures { result ≡ end_before tokens.now i end }
 {
     match tokens.get(i) {
-        Some(token) => place_of(token).min(end),
+        Some(token) => token_position(token).min(end),
         None => end,
     }
 }
@@ -184,7 +185,7 @@ pub(crate) fn count_before(tokens: &[Token], place: u64) -> usize
     ensures start { are_tokens_sorted tokens.now ≡ true → AreInBounds tokens.now
         → IsStart tokens.now place result }
 {
-    tokens.partition_point(|token: &Token| place_of(token) < place)
+    tokens.partition_point(|token: &Token| token_position(token) < place)
 }
 
 /// How many pieces the range from a place up to an end has.

@@ -4,7 +4,8 @@ ghost use Rattle.std.specs.Prelude.{None, true, false};
 ghost use Rattle.std.specs.Option.{option_and_then};
 ghost use Rattle.oxc_sourcemap_steps.specs.Words.{OutOfMemory, TooLarge, texts_of, cow_texts};
 ghost use Rattle.oxc_sourcemap_steps.specs.Words.{index_of, with_text, may_be_id, with_inherited};
-ghost use Rattle.oxc_sourcemap_steps.specs.Words.{inherited_index, names_with, HasPlaces, HasNames};
+ghost use Rattle.oxc_sourcemap_steps.specs.Words.{inherited_index, names_with, HasIndices};
+ghost use Rattle.oxc_sourcemap_steps.specs.Words.{HasNames};
 ghost use Rattle.oxc_sourcemap_steps.specs.Words.{IsInheriting, lent_items};
 
 use oxc_sourcemap_parts::owned_text;
@@ -44,9 +45,9 @@ pub(crate) fn no_names<'n>(
 }
 
 /// Stores the index of each name, that of the first where names are equal.
-fn fill_places<'n>(places: &mut HashMap<&'n str, usize>, names: &'n [CowStr<'_>]) -> Memory<()>
+fn fill_indices<'n>(places: &mut HashMap<&'n str, usize>, names: &'n [CowStr<'_>]) -> Memory<()>
     requires { places.old.entries ≡ [] }
-    ensures { OnOk result (HasPlaces (cow_texts names.now) places.new) }
+    ensures { OnOk result (HasIndices (cow_texts names.now) places.new) }
 {
     places.reserve(names.len())?;
     for (i, name) in names.iter().enumerate() {
@@ -58,13 +59,13 @@ fn fill_places<'n>(places: &mut HashMap<&'n str, usize>, names: &'n [CowStr<'_>]
 /// Stores the indices of the second map's names, unless that is done: it is put off until a name is inherited.
 fn fill<'n>(inherited: &mut InheritedNames<'n>, second: &'n [CowStr<'_>]) -> Memory<()>
     requires { HasNames (cow_texts second.now) inherited.old }
-    ensures places { OnOk result (HasPlaces (names_with
+    ensures places { OnOk result (HasIndices (names_with
         (cow_texts second.now) inherited.new) inherited.new.places) }
     ensures names { inherited.new.names.items ≡ inherited.old.names.items }
     ensures ids { inherited.new.ids.items ≡ inherited.old.ids.items }
 {
     if inherited.places.is_empty() {
-        fill_places(&mut inherited.places, second)?;
+        fill_indices(&mut inherited.places, second)?;
     }
     Ok(())
 }

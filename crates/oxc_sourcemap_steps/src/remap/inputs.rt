@@ -4,7 +4,7 @@ ghost use Rattle.std.specs.List.{position_from};
 ghost use Rattle.oxc_sourcemap_steps.specs.Words.{Error, FailsBy, Reports, record_of_parts};
 ghost use Rattle.oxc_sourcemap_steps.specs.Words.{input_records, goes_back, inputs_fault};
 ghost use Rattle.oxc_sourcemap_steps.specs.Words.{listed_flags, flags_of, IsReady, AreReady};
-ghost use Rattle.oxc_sourcemap_steps.specs.Words.{HasPlaces, IsFor, ready_records, input_paths};
+ghost use Rattle.oxc_sourcemap_steps.specs.Words.{HasIndices, IsFor, ready_records, input_paths};
 
 use crate::remap::as_parts::AsParts;
 use oxc_sourcemap_lookup::LineIndex;
@@ -122,7 +122,7 @@ pub(crate) fn input_indices<'p>(
     alloc: Global,
     inputs: &[Input<'p, '_>],
 ) -> Memory<HashMap<&'p str, usize>>
-    ensures { IfOk result (λ places. HasPlaces (input_paths inputs.now) places) }
+    ensures { IfOk result (λ places. HasIndices (input_paths inputs.now) places) }
 {
     let mut places = HashMap::new(alloc);
     places.reserve(inputs.len())?;
@@ -139,7 +139,7 @@ pub(crate) fn input_at<'p, 'm, 'i>(
     path: &str,
 ) -> Option<&'i Input<'p, 'm>>
     requires ready { AreReady inputs.now }
-    requires places { HasPlaces (input_paths inputs.now) places.now }
+    requires places { HasIndices (input_paths inputs.now) places.now }
     ensures { IsFor (ready_records inputs.now) path.now result }
 {
     let place = *places.get(path)?;

@@ -4,10 +4,10 @@ ghost use Rattle.std.specs.Prelude.{IfSome};
 ghost use Rattle.std.specs.List.{flat_map};
 ghost use Rattle.std.specs.Vec.Iter.{into_iter_items};
 ghost use Rattle.oxc_sourcemap_steps.specs.Words.{record_of_parts, texts_of, contents_of};
-ghost use Rattle.oxc_sourcemap_steps.specs.Words.{owned_input_records, decoded_inputs, HasPlaces};
+ghost use Rattle.oxc_sourcemap_steps.specs.Words.{owned_input_records, decoded_inputs, HasIndices};
 ghost use Rattle.oxc_sourcemap_steps.specs.Words.{listed_sources, remapped_sources, source_record};
 ghost use Rattle.oxc_sourcemap_steps.specs.Words.{source_records, source_lists, source_paths};
-ghost use Rattle.oxc_sourcemap_steps.specs.Words.{sources_in, place_in, AreBelow, AreLastUses};
+ghost use Rattle.oxc_sourcemap_steps.specs.Words.{sources_in, listed_index, AreBelow, AreLastUses};
 ghost use Rattle.oxc_sourcemap_steps.specs.Words.{HasNext, with_last, KeepsOthers, text_of};
 
 use crate::remap::lists::content_at;
@@ -87,7 +87,7 @@ fn path_indices<'p>(
     alloc: Global,
     inputs: &[(&'p str, SourceMapParts<'_>)],
 ) -> Memory<HashMap<&'p str, usize>>
-    ensures { IfOk result (λ places. HasPlaces (map (λ input. input.0.now) inputs.now) places) }
+    ensures { IfOk result (λ places. HasIndices (map (λ input. input.0.now) inputs.now) places) }
 {
     let mut places = HashMap::new(alloc);
     places.reserve(inputs.len())?;
@@ -98,8 +98,8 @@ fn path_indices<'p>(
 }
 
 /// The index that is listed for a path.
-fn place_of(places: &HashMap<&str, usize>, path: &str) -> Option<usize>
-    ensures { result ≡ place_in places.now path.now }
+fn listed_index(places: &HashMap<&str, usize>, path: &str) -> Option<usize>
+    ensures { result ≡ listed_index places.now path.now }
 {
     places.get(path).copied()
 }
@@ -129,7 +129,7 @@ fn last_uses(
     let mut last = Vec::with_capacity(alloc, count)?;
     last.resize(count, 0)?;
     for (i, source) in sources.iter().enumerate() {
-        set_last(&mut last, place_of(places, source.path.as_str()), i);
+        set_last(&mut last, listed_index(places, source.path.as_str()), i);
     }
     Ok(last)
 }
@@ -207,7 +207,7 @@ fn add_standing<'a>(
 }
 
 /// What stands for the sources, of these lists of the inputs.
-fn stand_in<'a>(
+fn replace_sources<'a>(
     alloc: Global,
     sources: Vec<Source<'a>>,
     places: &HashMap<&str, usize>,
@@ -220,12 +220,12 @@ fn stand_in<'a>(
         (source_paths sources.items) last.now }
     ensures { IfOk result (λ all. source_records all.items ≡ flat_map
         (λ source. sources_in (source_lists lists.entry.items)
-        (place_in places.now source.path) source) (source_records sources.entry.items)) }
+        (listed_index places.now source.path) source) (source_records sources.entry.items)) }
 {
     let mut all = Vec::with_capacity(alloc, sources.len())?;
     let mut i = 0;
     for source in sources {
-        let place = place_of(places, source.path.as_str());
+        let place = listed_index(places, source.path.as_str());
         add_standing(&mut all, source, i, place, last, &mut lists)?;
         i += 1;
     }
@@ -246,7 +246,7 @@ pub(crate) fn move_sources<'a>(
     let places = path_indices(alloc, inputs.as_slice())?;
     let lists = take_all_sources(alloc, inputs)?;
     let last = last_uses(alloc, sources.as_slice(), &places, lists.len())?;
-    Ok(stand_in(alloc, sources, &places, last.as_slice(), lists)?)
+    Ok(replace_sources(alloc, sources, &places, last.as_slice(), lists)?)
 }
 
 /// The paths of sources, and their contents.

@@ -1,7 +1,7 @@
 //! The names that the tokens of a remapped map need. A name is hashed if it is not where it was found before.
 ghost use Rattle.std.specs.Prelude.{◌≡◌, ◌≢◌, ◌<◌, [], length, IfOk, OnOk, IfErr, IfSome, Some};
 ghost use Rattle.oxc_sourcemap_steps.specs.Words.{OutOfMemory, TooLarge, index_of, with_text};
-ghost use Rattle.oxc_sourcemap_steps.specs.Words.{texts_of, names_in, ArePlaced};
+ghost use Rattle.oxc_sourcemap_steps.specs.Words.{texts_of, names_in, AreIndexed};
 
 use oxc_sourcemap_tokens::{Error, Memory, Result};
 use std::alloc::Global;
@@ -20,7 +20,7 @@ pub(crate) struct NeededNames<'m> {
 
 /// No names. There will be hints for ids below `hint_count`.
 pub(crate) fn no_names<'m>(alloc: Global, hint_count: usize) -> Memory<NeededNames<'m>>
-    ensures placed { IfOk result ArePlaced }
+    ensures placed { IfOk result AreIndexed }
     ensures none { IfOk result (λ needed. names_in needed ≡ []) }
 {
     let mut hints = Vec::with_capacity(alloc, hint_count)?;
@@ -34,7 +34,7 @@ pub(crate) fn no_names<'m>(alloc: Global, hint_count: usize) -> Memory<NeededNam
 
 /// The id of a name, if the hint for its own id leads to it.
 fn hinted_id(needed: &NeededNames<'_>, name: &str, own_id: u32) -> Option<u32>
-    requires { ArePlaced needed.now }
+    requires { AreIndexed needed.now }
     ensures { IfSome result (λ id. (index_of name.now (names_in needed.now) ≡ Some id)
         × (id < 4294967295)) }
 {
@@ -54,12 +54,12 @@ fn set_hint(hints: &mut Vec<u32>, own_id: u32, id: u32) {
 /// The id of a name, by hashing: that of the equal one, else that of a new last one.
 // It is rare: inlined, it takes the registers of the loop over tokens.
 #[cold]
-fn place_name<'m>(needed: &mut NeededNames<'m>, name: &'m str) -> Result<u32>
-    requires { ArePlaced needed.old }
+fn hashed_id<'m>(needed: &mut NeededNames<'m>, name: &'m str) -> Result<u32>
+    requires { AreIndexed needed.old }
     ensures names { OnOk result (names_in needed.new ≡ with_text (names_in needed.old) name.now) }
     ensures id { IfOk result (λ id. (index_of name.now (names_in needed.new) ≡ Some id)
         × (id < 4294967295)) }
-    ensures placed { OnOk result (ArePlaced needed.new) }
+    ensures placed { OnOk result (AreIndexed needed.new) }
     ensures error { IfErr result (λ e. (e ≢ OutOfMemory) → (e ≡ TooLarge)
         × (4294967295 < length (with_text (names_in needed.old) name.now))) }
 {
@@ -78,18 +78,18 @@ fn place_name<'m>(needed: &mut NeededNames<'m>, name: &'m str) -> Result<u32>
 
 /// The id of a name, which has this id in its own map: that of the equal one, else that of a new last one.
 pub(crate) fn need_name<'m>(needed: &mut NeededNames<'m>, name: &'m str, own_id: u32) -> Result<u32>
-    requires { ArePlaced needed.old }
+    requires { AreIndexed needed.old }
     ensures names { OnOk result (names_in needed.new ≡ with_text (names_in needed.old) name.now) }
     ensures id { IfOk result (λ id. (index_of name.now (names_in needed.new) ≡ Some id)
         × (id < 4294967295)) }
-    ensures placed { OnOk result (ArePlaced needed.new) }
+    ensures placed { OnOk result (AreIndexed needed.new) }
     ensures error { IfErr result (λ e. (e ≢ OutOfMemory) → (e ≡ TooLarge)
         × (4294967295 < length (with_text (names_in needed.old) name.now))) }
 {
     if let Some(id) = hinted_id(needed, name, own_id) {
         return Ok(id);
     }
-    let id = place_name(needed, name)?;
+    let id = hashed_id(needed, name)?;
     set_hint(&mut needed.hints, own_id, id);
     Ok(id)
 }

@@ -8,7 +8,7 @@ ghost use Rattle.oxc_sourcemap_steps.specs.Words.{NoInputColumnGoesBack, SomeRem
 ghost use Rattle.oxc_sourcemap_steps.specs.Words.{AreUsable, block_of, lent_block, block_original};
 ghost use Rattle.oxc_sourcemap_steps.specs.Words.{IsBlockTarget, AreBlockTargets, input_original};
 ghost use Rattle.oxc_sourcemap_steps.specs.Words.{lent_original, needed_name, needed_names};
-ghost use Rattle.oxc_sourcemap_steps.specs.Words.{token_to, names_in, ArePlaced, with_inherited};
+ghost use Rattle.oxc_sourcemap_steps.specs.Words.{token_to, names_in, AreIndexed, with_inherited};
 ghost use Rattle.oxc_sourcemap_steps.specs.Words.{put_together};
 
 use crate::compose::target;
@@ -120,13 +120,13 @@ fn token_at<'m>(
     token: &Token,
     original: Option<LentOriginal<'m>>,
 ) -> Result<Token>
-    requires placed { ArePlaced needed.old }
+    requires placed { AreIndexed needed.old }
     requires small { IfSome original (λ o. o.source_id < 4294967295) }
     ensures names { OnOk result (names_in needed.new ≡ with_inherited
         (names_in needed.old) (needed_name (option_map lent_original original.entry))) }
     ensures token { IfOk result (λ t. t ≡ token_to (names_in needed.new) token.now
         (option_map lent_original original.entry)) }
-    ensures placed { OnOk result (ArePlaced needed.new) }
+    ensures placed { OnOk result (AreIndexed needed.new) }
     ensures error { IfErr result (λ e. (e ≢ OutOfMemory) → (e ≡ TooLarge)
         × (4294967295 < length (with_inherited (names_in needed.old)
         (needed_name (option_map lent_original original.entry))))) }

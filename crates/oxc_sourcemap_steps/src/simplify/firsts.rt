@@ -5,7 +5,7 @@ ghost use Rattle.std.specs.Option.{option_and_then, unwrap_or};
 ghost use Rattle.oxc_sourcemap_steps.specs.Words.{found_for, KeepsFirst, cow_texts, AreFirsts};
 ghost use Rattle.oxc_sourcemap_steps.specs.Words.{is_same_source, lent_source, lent_item, text_of};
 ghost use Rattle.std.specs.Str.{bytes_eq};
-ghost use Rattle.oxc_sourcemap_steps.specs.SimplifyBodies.{sources_in};
+ghost use Rattle.oxc_sourcemap_steps.specs.SimplifySteps.{sources_in};
 
 use oxc_sourcemap_parts::SourceMapParts;
 use oxc_sourcemap_tokens::Memory;
@@ -56,7 +56,7 @@ fn source_at<'m>(parts: &'m SourceMapParts<'m>, i: usize) -> (&'m str, Option<&'
 }
 
 /// Keeps an index for a source, if there is none. Returns the one that is kept. Each source is hashed once, but for repeats.
-fn place_source<'m>(
+fn keep_source<'m>(
     places: &mut HashMap<(&'m str, Option<&'m str>), usize>,
     source: (&'m str, Option<&'m str>),
     i: usize,
@@ -105,7 +105,7 @@ fn first_hashed_sources<'m>(alloc: Global, parts: &'m SourceMapParts<'m>) -> Mem
     places.reserve(parts.sources.len())?;
     let mut firsts = Vec::with_capacity(alloc, parts.sources.len())?;
     for i in 0..parts.sources.len() {
-        firsts.push(place_source(&mut places, source_at(parts, i), i)?)?;
+        firsts.push(keep_source(&mut places, source_at(parts, i), i)?)?;
     }
     Ok(firsts)
 }

@@ -3,7 +3,7 @@ ghost use Rattle.std.specs.Prelude.{◌≡◌, ◌≢◌, ◌+◌, ◌-◌, ◌<
 ghost use Rattle.std.specs.Prelude.{IfErr, IfSome, Some, None, true, set, is_some, slice_get};
 ghost use Rattle.std.specs.List.{AllByRecursion};
 ghost use Rattle.std.specs.Option.{option_and_then, unwrap_or};
-ghost use Rattle.oxc_sourcemap_steps.specs.Words.{OutOfMemory, TooLarge, own_place, IsNumbering};
+ghost use Rattle.oxc_sourcemap_steps.specs.Words.{OutOfMemory, TooLarge, own_index, IsNumbering};
 ghost use Rattle.oxc_sourcemap_steps.specs.Words.{IsSourceBelow, listed_once, with_places};
 ghost use Rattle.oxc_sourcemap_steps.specs.Words.{with_places_of, IsNewId, AreIds};
 
@@ -59,7 +59,7 @@ fn need_id(ids: &mut NewIds, k: usize, source: Source) -> Result<u32>
     requires numbering { IsNumbering ids.old.numbering }
     requires within { k < length ids.old.ids.items }
     requires below { IsSourceBelow (length ids.old.numbering.numbers.items) source }
-    requires own { is_some (own_place source) ≡ true }
+    requires own { is_some (own_index source) ≡ true }
     ensures order { OnOk result (ids.new.numbering.order.items
         ≡ with_places ids.old.numbering.order.items source) }
     ensures numbering { OnOk result (IsNumbering ids.new.numbering) }
@@ -72,7 +72,7 @@ fn need_id(ids: &mut NewIds, k: usize, source: Source) -> Result<u32>
 {
     need_any(&mut ids.numbering, source.plain)?;
     need_any(&mut ids.numbering, source.ignored)?;
-    let id = number_of(&ids.numbering, source.own_place()).unwrap_or(NONE);
+    let id = number_of(&ids.numbering, source.own_index()).unwrap_or(NONE);
     ids.ids[k] = Some(id);
     Ok(id)
 }
@@ -82,7 +82,7 @@ fn need_id(ids: &mut NewIds, k: usize, source: Source) -> Result<u32>
 pub(crate) fn source_id(ids: &mut NewIds, sources: &[Source], id: Option<u32>) -> Result<u32>
     requires ids { AreIds sources.now ids.old }
     requires below { AllByRecursion (IsSourceBelow (length sources.now)) sources.now }
-    requires own { AllByRecursion (λ s. is_some (own_place s) ≡ true) sources.now }
+    requires own { AllByRecursion (λ s. is_some (own_index s) ≡ true) sources.now }
     requires small { IfSome id (λ id. id < 4294967295) }
     ensures ids { OnOk result (AreIds sources.now ids.new) }
     ensures order { OnOk result (ids.new.numbering.order.items ≡ with_places_of

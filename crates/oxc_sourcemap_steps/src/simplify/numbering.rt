@@ -1,7 +1,7 @@
 //! Numbers given to indices of a list, one after the other.
 ghost use Rattle.std.specs.Prelude.{◌≡◌, ◌≢◌, ◌<◌, [], length, IfOk, OnOk, IfErr, IfSome};
 ghost use Rattle.oxc_sourcemap_steps.specs.Words.{OutOfMemory, TooLarge, with_number, with_any};
-ghost use Rattle.oxc_sourcemap_steps.specs.Words.{place_of, IsNumbering, IsBelow};
+ghost use Rattle.oxc_sourcemap_steps.specs.Words.{index_in, IsNumbering, IsBelow};
 ghost use Rattle.std.specs.Option.{option_and_then};
 
 use oxc_sourcemap_tokens::{Error, Memory, Result};
@@ -73,7 +73,7 @@ pub(crate) fn need_any(numbering: &mut Numbering, k: Option<usize>) -> Result<()
 pub(crate) fn number_of(numbering: &Numbering, k: Option<usize>) -> Option<u32>
     requires numbering { IsNumbering numbering.now }
     requires within { IsBelow (length numbering.now.numbers.items) k }
-    ensures place { result ≡ option_and_then (λ k. place_of k numbering.now.order.items) k }
+    ensures place { result ≡ option_and_then (λ k. index_in k numbering.now.order.items) k }
     ensures small { IfSome result (λ id. id < 4294967295) }
 {
     numbering.numbers[k?]

@@ -33,7 +33,7 @@ fn tables_of(alloc: Global, parts: &SourceMapParts<'_>, flags: &[bool]) -> Memor
 }
 
 /// The places in an order at which ignored sources stand; None if there are none.
-fn ignored_places(alloc: Global, order: &[usize], flags: &[bool]) -> Memory<Option<Vec<u32>>>
+fn ignored_indices(alloc: Global, order: &[usize], flags: &[bool]) -> Memory<Option<Vec<u32>>>
     requires within { AllByRecursion (λ k. k < length flags.now) order.now }
     requires few { length order.now ≤ 4294967295 }
     ensures { IfOk result (λ list. ids_of list
@@ -81,7 +81,7 @@ fn simple_of<'a>(
     let tables = tables_of(alloc, parts, flags.as_slice())?;
     let Kept { tokens, numbers } = kept_tokens(alloc, &tables, parts.tokens.as_slice())?;
     let sources = numbers.sources.numbering.order.as_slice();
-    let ignore_list = ignored_places(alloc, sources, flags.as_slice())?;
+    let ignore_list = ignored_indices(alloc, sources, flags.as_slice())?;
     Ok(Simple {
         tokens,
         ignore_list,

@@ -2,7 +2,7 @@
 ghost use Rattle.std.specs.Prelude.{◌≡◌, ◌<◌, map, length, get_or, Some, None, IfOk, if◌then◌else◌};
 ghost use Rattle.std.specs.Bool.{beq};
 ghost use Rattle.std.specs.List.{AllByRecursion, zip};
-ghost use Rattle.oxc_sourcemap_steps.specs.Words.{own_place, ArePlacesOf, source_by, listed_once};
+ghost use Rattle.oxc_sourcemap_steps.specs.Words.{own_index, ArePlacesOf, source_by, listed_once};
 
 use oxc_sourcemap_tokens::Memory;
 use std::alloc::Global;
@@ -28,8 +28,8 @@ impl Source {
     }
 
     /// Where it is listed first with its own mark.
-    pub(crate) fn own_place(&self) -> Option<usize>
-        ensures { result ≡ own_place self.now }
+    pub(crate) fn own_index(&self) -> Option<usize>
+        ensures { result ≡ own_index self.now }
     {
         if self.is_ignored {
             self.ignored

@@ -10,9 +10,10 @@ ghost use Rattle.oxc_sourcemap_steps.specs.Words.{token_column, found_items, are
 ghost use Rattle.oxc_sourcemap_steps.specs.Words.{is_same_id, target_by, is_same_target, is_before};
 ghost use Rattle.oxc_sourcemap_steps.specs.Words.{repeats_by, kept_from, with_name, with_source};
 ghost use Rattle.oxc_sourcemap_steps.specs.Words.{with_all, token_at_next_column, AreWithin};
-ghost use Rattle.oxc_sourcemap_steps.specs.Words.{AreNumbers, AreTooMany, placed, position_of};
+ghost use Rattle.oxc_sourcemap_steps.specs.Words.{AreNumbers, AreTooMany, shifted_token};
+ghost use Rattle.oxc_sourcemap_steps.specs.Words.{position_of};
 ghost use Rattle.oxc_sourcemap_steps.specs.Words.{lent_item};
-ghost use Rattle.oxc_sourcemap_steps.specs.SimplifyBodies.{token_to};
+ghost use Rattle.oxc_sourcemap_steps.specs.SimplifySteps.{token_to};
 
 use crate::simplify::ids::{NONE, NewIds, name_id, no_ids, source_id};
 use crate::simplify::sources::Source;
@@ -94,7 +95,7 @@ fn repeats(tables: &Tables, previous: &Token, token: &Token) -> bool
 }
 
 /// The generated position of a token as one number: that of a later one is greater.
-fn position_of(token: &Token) -> u64
+fn token_position(token: &Token) -> u64
     ensures position { result ≡ position_of (Some token.now) }
     ensures below { token.now.dst_col < 4294967296 }
 {
@@ -131,7 +132,7 @@ pub(crate) struct Numbers {
 
 /// A token with its ids in the simplified map.
 #[inline(always)]
-fn renumbered(numbers: &mut Numbers, tables: &Tables, token: &Token) -> Result<Token>
+fn renumber_token(numbers: &mut Numbers, tables: &Tables, token: &Token) -> Result<Token>
     requires within { AreWithin tables.now }
     requires numbers { AreNumbers tables.now numbers.old }
     ensures numbers { OnOk result (AreNumbers tables.now numbers.new) }
@@ -219,10 +220,11 @@ fn at_next_column(token: &Token) -> Result<Token>
 
 /// A token where it stands, or at the next column if it moves.
 #[inline(always)]
-fn placed(token: Token, moves: bool) -> Result<Token>
-    ensures placed { IfOk result (λ t. (t ≡ placed moves token) × (t.dst_col ≤ 4294967295)) }
+fn shifted_token(token: Token, moves: bool) -> Result<Token>
+    ensures shifted_token { IfOk result (λ t. (t ≡ shifted_token moves token) ×
+        (t.dst_col ≤ 4294967295)) }
     ensures error { IfErr result (λ e. (e ≡ TooLarge)
-        × (4294967295 < (placed moves token).dst_col)) }
+        × (4294967295 < (shifted_token moves token).dst_col)) }
 {
     if moves {
         at_next_column(&token)
@@ -277,19 +279,19 @@ fn keep(
         ≡ repeats_by tables.now (lent_item previous.entry) token.now) }
     ensures tokens { IfOk result (λ repeats. kept.new.tokens.items ≡ kept.old.tokens.items
         ++ (if repeats then [] else token_to kept.new.numbers.sources.numbering.order.items
-        kept.new.numbers.names.numbering.order.items (placed moves token.now)
+        kept.new.numbers.names.numbering.order.items (shifted_token moves token.now)
         (target_by tables.now token.now) ∷ [])) }
     ensures few { IfOk result (λ repeats. repeats ≡ false
-        → (placed moves token.now).dst_col ≤ 4294967295) }
+        → (shifted_token moves token.now).dst_col ≤ 4294967295) }
     ensures room { OnOk result ((vec_capacity kept.new.tokens ≡ vec_capacity kept.old.tokens)
         × (vec_len kept.new.tokens ≤ vec_len kept.old.tokens + 1)) }
     ensures error { IfErr result (λ e. (e ≢ OutOfMemory) → (e ≡ TooLarge) × (AreTooMany
         (with_source tables.now kept.old.numbers.sources.numbering.order.items token.now)
         (with_name tables.now kept.old.numbers.names.numbering.order.items token.now)
         ⊎ ((repeats_by tables.now (lent_item previous.entry) token.now ≡ false)
-        × (4294967295 < (placed moves token.now).dst_col)))) }
+        × (4294967295 < (shifted_token moves token.now).dst_col)))) }
 {
-    let renumbered = renumbered(&mut kept.numbers, tables, token)?;
+    let renumbered = renumber_token(&mut kept.numbers, tables, token)?;
     let repeats = is_repeat(
         tables,
         previous,
@@ -297,7 +299,7 @@ fn keep(
         renumbered.get_source_id().is_some(),
     );
     if !repeats {
-        kept.tokens.push_reserved(placed(renumbered, moves)?);
+        kept.tokens.push_reserved(shifted_token(renumbered, moves)?);
     }
     Ok(repeats)
 }
@@ -340,7 +342,7 @@ pub(crate) fn kept_tokens(
     let mut repeats = false;
     for i in 0..tokens.len() {
         let token = &tokens[i];
-        let position = position_of(token);
+        let position = token_position(token);
         if position < last {
             return Err(PlanError::Unsorted);
         }

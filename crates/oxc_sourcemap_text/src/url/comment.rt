@@ -5,7 +5,8 @@ ghost use Rattle.std.specs.Option.{option_map};
 ghost use Rattle.std.specs.Char.{is_whitespace};
 ghost use Rattle.std.specs.List.{starts_with, list_any};
 ghost use Rattle.std.specs.Str.{chars, IsUtf8, skip_leading_whitespace, drop_trailing_whitespace};
-ghost use Rattle.oxc_sourcemap_text.specs.Words.{lent_chars, behind_mark, behind_key, unbroken};
+ghost use Rattle.oxc_sourcemap_text.specs.Words.{lent_chars, behind_mark, behind_key};
+ghost use Rattle.oxc_sourcemap_text.specs.Words.{without_white_space};
 ghost use Rattle.oxc_sourcemap_text.specs.Words.{named_url, around_block_end, may_end_another};
 ghost use Rattle.oxc_sourcemap_text.specs.Words.{known_after, is_mark, is_quote, url_of};
 ghost use Rattle.oxc_sourcemap_text.specs.Words.{IsKnownAfter};
@@ -114,8 +115,8 @@ fn trim_end(text: &str) -> &str
 }
 
 /// The text, if it has no white space.
-fn unbroken(text: &str) -> Option<&str>
-    ensures { lent_chars result ≡ unbroken (chars text.now) }
+fn without_white_space(text: &str) -> Option<&str>
+    ensures { lent_chars result ≡ without_white_space (chars text.now) }
 {
     if has_white_space(text) {
         None
@@ -129,7 +130,7 @@ fn behind_key(text: &str) -> Option<&str>
     ensures { lent_chars result ≡ behind_key (chars text.now) }
 {
     match strip_key(text) {
-        Some(rest) => unbroken(trim_end(rest)),
+        Some(rest) => without_white_space(trim_end(rest)),
         None => None,
     }
 }

@@ -1,6 +1,6 @@
 //! `bundle`: codes and their maps, joined into one code and one map.
-use crate::making::codes::{hashbang_of, run_together, untied};
-use crate::making::own::{mapped_to_itself, stop, stopped};
+use crate::making::codes::{hashbang_of, run_together, without_map_comments};
+use crate::making::own::{mapped_to_itself, stop, with_stop};
 use oxc_sourcemap_map::SourceMap;
 use oxc_sourcemap_parts::SourceMapParts;
 use oxc_sourcemap_text::Language;
@@ -15,7 +15,7 @@ use sourcemap_words::{Outcome, failure_of};
 use std::alloc::{AllocError, Global};
 
 /// What a file name may not have in a comment that names a map.
-fn escaped() -> AsciiSet {
+fn bytes_to_escape() -> AsciiSet {
     let spaces = CONTROLS.add(b' ').add(b'#').add(b'%').add(b'?');
     spaces.add(b'"').add(b'\'').add(b'`')
 }
@@ -47,10 +47,10 @@ fn unmapped_part(
 }
 
 /// Reads a code and its map, whose sources are then relative to the folder of the bundle.
-fn read_part(asked: &Asked<'_, '_>, file: &str, folder: &str) -> Outcome<Part> {
+fn read_code_and_map(asked: &Asked<'_, '_>, file: &str, folder: &str) -> Outcome<Part> {
     let alloc = asked.alloc();
     let text = read_text(asked.rt, file)?;
-    let code = untied(alloc, text.as_str(), language_of(file))?;
+    let code = without_map_comments(alloc, text.as_str(), language_of(file))?;
     match map_of_code(asked.rt, file, text.as_str(), asked.places())? {
         Lookup::Map(found) => {
             let mut map = read_map(asked.rt, &found)?;
@@ -145,7 +145,7 @@ fn push_file(
     out: &mut String,
 ) -> Outcome<()> {
     let alloc = asked.alloc();
-    let part = read_part(asked, file, folder_of(output))?;
+    let part = read_code_and_map(asked, file, folder_of(output))?;
     let Part {
         code,
         map,
@@ -160,7 +160,11 @@ fn push_file(
         refuse_overwriting(asked, name, output_map(alloc, output)?.as_str())?;
     }
     push_file_object(alloc, file, name, bundle.line(), out)?;
-    let map = if is_first { map } else { stopped(alloc, map)? };
+    let map = if is_first {
+        map
+    } else {
+        with_stop(alloc, map)?
+    };
     bundle.push_code(alloc, code.as_str().get(left_out..).unwrap_or(""), map)?;
     if let Some((_, after)) = wrap {
         bundle.push_code(alloc, after, stop(alloc)?)?;
@@ -191,7 +195,7 @@ fn output_map(alloc: Global, output: &str) -> Result<String, AllocError> {
 
 /// The comment that names the map of a bundle.
 fn comment_of(alloc: Global, output: &str) -> Result<String, AllocError> {
-    let name = utf8_percent_encode(file_name(output), escaped()).into_cow(alloc)?;
+    let name = utf8_percent_encode(file_name(output), bytes_to_escape()).into_cow(alloc)?;
     match language_of(output) {
         Language::JavaScript => format!(in alloc; "//# sourceMappingURL={name}.map\n"),
         Language::Css => format!(in alloc; "/*# sourceMappingURL={name}.map */\n"),

@@ -74,7 +74,11 @@ fn without_debug_ids(alloc: Global, code: &str) -> Result<String, AllocError> {
 }
 
 /// A code without the comments that tie it to its own map.
-pub fn untied(alloc: Global, code: &str, language: Language) -> Result<String, AllocError> {
+pub fn without_map_comments(
+    alloc: Global,
+    code: &str,
+    language: Language,
+) -> Result<String, AllocError> {
     let code = without_comment(alloc, code, language)?;
     match language {
         Language::JavaScript => without_debug_ids(alloc, code.as_str()),

@@ -1,7 +1,7 @@
 //! Maps of what has none: a code mapped to itself, and a text that comes from nowhere.
 use oxc_sourcemap_parts::SourceMapParts;
 use oxc_sourcemap_tokens::{Result, Token};
-use sourcemap_run::{ended, line_ends};
+use sourcemap_run::{line_ends, with_line_end};
 use std::alloc::Global;
 use std::borrow::CowStr;
 
@@ -16,7 +16,7 @@ pub fn stop(alloc: Global) -> Result<SourceMapParts<'static>> {
 
 /// A map that says something from the beginning of its code on: where it does not, that it is mapped to nothing. Else those who look for a
 /// token on lines before that of a position would find one of the code before.
-pub fn stopped(alloc: Global, parts: SourceMapParts<'static>) -> Result<SourceMapParts<'static>> {
+pub fn with_stop(alloc: Global, parts: SourceMapParts<'static>) -> Result<SourceMapParts<'static>> {
     let mut parts = parts;
     let first = parts.tokens.as_slice().first();
     if first.is_some_and(|token| token.get_dst_line() == 0 && token.get_dst_col() == 0) {
@@ -43,7 +43,7 @@ pub fn mapped_to_itself(
     let content = String::from_str(alloc, content)?;
     parts.source_contents.push(Some(CowStr::Owned(content)))?;
     let mut tokens = Vec::new(alloc);
-    for line in 0..line_ends(alloc, ended(alloc, code)?.as_str())? {
+    for line in 0..line_ends(alloc, with_line_end(alloc, code)?.as_str())? {
         tokens.push(Token::new(line, 0, line, 0, Some(0), None))?;
     }
     parts.tokens = tokens.into_boxed_slice();

@@ -91,7 +91,7 @@ fn followed_source(
         name: name.as_str(),
         before: Some(way),
     };
-    let mut map = followed(asked, text, &way, depth, count)?;
+    let mut map = follow_sources(asked, text, &way, depth, count)?;
     rebase(asked.rt, &mut map, text.folder.as_str(), folder)?;
     Ok(map)
 }
@@ -118,7 +118,7 @@ fn inputs_of(
 }
 
 /// A map led through inputs; its strings are its own.
-fn remapped(
+fn remap_by(
     alloc: Global,
     map: &SourceMap<'_>,
     inputs: &[(String, SourceMap<'static>)],
@@ -133,7 +133,7 @@ fn remapped(
 
 /// A map that was read, led through the maps of its sources, at any depth.
 #[cycle(follow)]
-fn followed(
+fn follow_sources(
     asked: &Asked<'_, '_>,
     text: &MapText,
     way: &Way<'_>,
@@ -147,7 +147,7 @@ fn followed(
     if inputs.is_empty() {
         return Ok(map);
     }
-    remapped(alloc, &map, inputs.as_slice())
+    remap_by(alloc, &map, inputs.as_slice())
 }
 
 /// The maps of the arguments `PATH=MAP`, their sources relative to the folder of the outer map.
@@ -249,7 +249,7 @@ fn led_by_given(
     let given = given_inputs(asked, text.folder.as_str())?;
     warn_unused(asked, &map, given.as_slice());
     *count = given.len() as u64;
-    remapped(asked.alloc(), &map, given.as_slice())
+    remap_by(asked.alloc(), &map, given.as_slice())
 }
 
 /// A map, led on through the maps of its sources, at any depth.
@@ -265,10 +265,14 @@ fn led_on(
         before: None,
     };
     let inputs = inputs_of(asked, map, text.folder.as_str(), &way, DEEPEST, count)?;
-    remapped(asked.alloc(), map, inputs.as_slice())
+    remap_by(asked.alloc(), map, inputs.as_slice())
 }
 
-fn led(asked: &Asked<'_, '_>, text: &MapText, count: &mut u64) -> Outcome<SourceMap<'static>> {
+fn remap_text(
+    asked: &Asked<'_, '_>,
+    text: &MapText,
+    count: &mut u64,
+) -> Outcome<SourceMap<'static>> {
     let map = led_by_given(asked, text, count)?;
     if asked.has("follow") {
         led_on(asked, text, &map, count)
@@ -300,7 +304,7 @@ pub fn run(asked: &Asked<'_, '_>) -> Outcome<Status> {
     let limit = limit_of(asked)?;
     let text = map_of_file(asked.rt, asked.word("MAP"), asked.places())?;
     let mut count = 0;
-    let mut map = led(asked, &text, &mut count)?;
+    let mut map = remap_text(asked, &text, &mut count)?;
     finish(asked, &mut map, text.folder.as_str())?;
     write(asked, &map, count, limit)
 }

@@ -61,7 +61,7 @@ impl Report {
 }
 
 /// A number of things, as `1 line` and `2 lines`.
-fn counted(alloc: Global, count: u64, what: &str) -> Result<String, AllocError> {
+fn count_of(alloc: Global, count: u64, what: &str) -> Result<String, AllocError> {
     let end = if count == 1 { "" } else { "s" };
     format!(in alloc; "{count} {what}{end}")
 }
@@ -81,10 +81,10 @@ fn tell_summary(report: &mut Report, text: &str, map: &SourceMap<'_>) -> Outcome
     let lines = tokens
         .last()
         .map_or(0, |token| u64::from(token.get_dst_line()) + 1);
-    let sources = counted(alloc, map.get_sources().count() as u64, "source")?;
-    let names = counted(alloc, map.get_names().count() as u64, "name")?;
-    let count = counted(alloc, tokens.len() as u64, "token")?;
-    let lines = counted(alloc, lines, "line")?;
+    let sources = count_of(alloc, map.get_sources().count() as u64, "source")?;
+    let names = count_of(alloc, map.get_names().count() as u64, "name")?;
+    let count = count_of(alloc, tokens.len() as u64, "token")?;
+    let lines = count_of(alloc, lines, "line")?;
     let (bytes, contents) = (text.len(), content_bytes(map));
     let text = format!(in alloc;
         "{sources}, {names}, {count} on {lines}; {bytes} bytes, of which {contents} are contents"
@@ -112,7 +112,7 @@ fn tell_unsorted(report: &mut Report, tokens: &[Token]) -> Outcome<()> {
         return Ok(());
     };
     let have = if lines == 1 { "has" } else { "have" };
-    let lines = counted(report.alloc, lines, "line")?;
+    let lines = count_of(report.alloc, lines, "line")?;
     let text = format!(in report.alloc;
         "{lines} {have} tokens out of order, the first at line {line}, column {column}"
     )?;
@@ -165,7 +165,7 @@ impl Past {
             return Ok(());
         };
         let are = if self.count == 1 { "is" } else { "are" };
-        let tokens = counted(report.alloc, self.count, "token")?;
+        let tokens = count_of(report.alloc, self.count, "token")?;
         let text = format!(in report.alloc;
             "{tokens} {are} past the end of {what} or of one of its lines, the first at line {line}, column {column}"
         )?;
@@ -183,7 +183,7 @@ fn tell_past_code(report: &mut Report, code: &str, tokens: &[Token]) -> Outcome<
 }
 
 /// Whether a token points to a source.
-fn points_to(token: &Token, id: u32) -> bool {
+fn is_of_source(token: &Token, id: u32) -> bool {
     token.get_source_id() == Some(id)
 }
 
@@ -196,7 +196,7 @@ fn tell_past_content(
     let positions = TextPositions::new(report.alloc, content)?;
     let mut past = Past::default();
     for token in map.get_tokens().as_slice() {
-        if points_to(token, id) {
+        if is_of_source(token, id) {
             past.note(&positions, token.get_src_line(), token.get_src_col());
         }
     }
@@ -243,9 +243,9 @@ fn tell_unneeded(report: &mut Report, map: SourceMap<'static>) -> Outcome<()> {
     if tokens == 0 && names == 0 && sources == 0 {
         return Ok(());
     }
-    let tokens = counted(alloc, tokens as u64, "token")?;
-    let names = counted(alloc, names as u64, "name")?;
-    let sources = counted(alloc, sources as u64, "source")?;
+    let tokens = count_of(alloc, tokens as u64, "token")?;
+    let names = count_of(alloc, names as u64, "name")?;
+    let sources = count_of(alloc, sources as u64, "source")?;
     let text = format!(in alloc;
         "nothing needs {tokens}, {names} and {sources}: see `sourcemap remap --simplify`"
     )?;

@@ -318,7 +318,7 @@ fn add_file(asked: &Asked<'_, '_>, file: &str, coverage: &mut Coverage) -> Outco
 }
 
 /// The missed lines, from 1, as `3, 7-9`.
-fn missed(alloc: Global, lines: &Lines) -> Result<String, AllocError> {
+fn missed_ranges(alloc: Global, lines: &Lines) -> Result<String, AllocError> {
     let mut text = String::new(alloc);
     let mut open: Option<(u32, u32)> = None;
     for (line, count) in lines {
@@ -397,7 +397,7 @@ fn table(alloc: Global, sources: &Sources) -> Outcome<String> {
             source.as_str(),
             own,
             count,
-            missed(alloc, lines)?.as_str(),
+            missed_ranges(alloc, lines)?.as_str(),
             &mut out,
         )?;
     }

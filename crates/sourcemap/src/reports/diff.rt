@@ -30,8 +30,8 @@ fn places_of(alloc: Global, a: &Tracer, b: &Tracer) -> Result<Vec<(u32, u32)>, A
 fn say_the_same(a: &Tracer, b: &Tracer, (line, column): (u32, u32)) -> bool {
     let position = Position { line, column };
     match (
-        a.answer(position, Bias::Lower),
-        b.answer(position, Bias::Lower),
+        a.answer(position, Bias::Before),
+        b.answer(position, Bias::Before),
     ) {
         (Answer::Nothing, Answer::Nothing) => true,
         (Answer::Unmapped, Answer::Unmapped) => true,
@@ -53,7 +53,7 @@ fn tracer_of(asked: &Asked<'_, '_>, name: &str) -> Outcome<Tracer> {
 }
 
 /// The line that is printed of a first difference.
-fn told(
+fn difference_line(
     alloc: Global,
     first: Position,
     count: usize,
@@ -90,7 +90,7 @@ fn tell(asked: &Asked<'_, '_>, a: &Tracer, b: &Tracer) -> Outcome<Status> {
         return Ok(Status::Found);
     };
     let (count, of) = count_of(asked.alloc(), a, b)?;
-    let text = told(asked.alloc(), first, count, of, asked.has("json"))?;
+    let text = difference_line(asked.alloc(), first, count, of, asked.has("json"))?;
     print(asked.rt, text.as_str())?;
     Ok(Status::Nothing)
 }

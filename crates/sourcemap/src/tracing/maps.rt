@@ -317,7 +317,7 @@ impl Maps {
     }
 
     /// What the map of a file says of a place in it.
-    fn led(&self, alloc: Global, map: &KnownMap, named: &Named) -> Outcome<Led> {
+    fn look_up(&self, alloc: Global, map: &KnownMap, named: &Named) -> Outcome<Led> {
         let matched = map.matched.copy(alloc)?;
         let position = named.position();
         if let Some(position) = position
@@ -356,7 +356,7 @@ impl Maps {
         let file = named.file.as_str();
         self.prepare(asked, file)?;
         match self.files.get(file) {
-            Some(Known::Map(map)) => self.led(alloc, map, named),
+            Some(Known::Map(map)) => self.look_up(alloc, map, named),
             Some(Known::None(Stay { reason, why })) => {
                 let why = String::from_str(alloc, why.as_str())?;
                 Ok(Led::stays(*reason, why, Matched::Whole))

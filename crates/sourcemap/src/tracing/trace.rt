@@ -16,8 +16,8 @@ fn bias_of(asked: &Asked<'_, '_>) -> Outcome<Bias> {
     match (asked.has("clamped"), asked.has("upper")) {
         (true, true) => Err(usage(asked.rt, "--clamped and --upper exclude one another")),
         (true, false) => Ok(Bias::Clamped),
-        (false, true) => Ok(Bias::Upper),
-        (false, false) => Ok(Bias::Lower),
+        (false, true) => Ok(Bias::After),
+        (false, false) => Ok(Bias::Before),
     }
 }
 

@@ -1,6 +1,6 @@
 use Rattle.std.proofs.Common.{List, ap, sym, ◌∙◌, Ok}
 use Rattle.oxc_sourcemap_parts.specs.Views.{record_of_parts}
-use Rattle.oxc_sourcemap_found.specs.declared.mend.Mend.{Mend}
+use Rattle.oxc_sourcemap_found.specs.declared.mending.mend.Mend.{Mend}
 use Rattle.oxc_sourcemap_found.specs.FoundMaps.{found_record, in_order}
 use Rattle.oxc_sourcemap_found.proofs.Reader.{exact-sorted}
 use Rattle.oxc_sourcemap_found.proofs.found.read_exact.Goals as goal

@@ -4,7 +4,7 @@ use Rattle.serde_json.specs.Read.{read}
 use Rattle.serde_json.specs.View.{view}
 use Rattle.oxc_sourcemap_tokens.proofs.Carried.{failed-answer}
 use Rattle.oxc_sourcemap_found.specs.MendedMaps.{mends_in}
-use Rattle.oxc_sourcemap_found.specs.States.{opened_view}
+use Rattle.oxc_sourcemap_found.specs.Views.{opened_view}
 use Rattle.oxc_sourcemap_found.proofs.FoundSteps.{found-by}
 use Rattle.oxc_sourcemap_found.proofs.found.read_text.Goals as goal
 

@@ -1,7 +1,6 @@
 use Rattle.std.proofs.Common.{arith, ◌≡◌, ℕ, ◌+◌, ◌-◌, ◌++◌, List, [], ◌∷◌, ◌⊎◌, length, drop}
-use Rattle.std.proofs.Common.{false}
-use Rattle.std.proofs.Common.{◌<◌, true, Option, Some, Err, slice_get, ◌∙◌, sym, ap, subst, refl}
-use Rattle.std.proofs.Common.{vec_len}
+use Rattle.std.proofs.Common.{false, ◌<◌, true, Option, Some, Err, slice_get, ◌∙◌, sym, ap, subst}
+use Rattle.std.proofs.Common.{refl, vec_len}
 use Rattle.std.proofs.lemmas.List.{take_rest}
 use Rattle.std.proofs.lemmas.Bool.Decides.{nat_tests}
 use Rattle.oxc_sourcemap_tokens.specs.Token.{TokenRecord}
@@ -14,8 +13,7 @@ use Rattle.oxc_sourcemap_mappings.specs.SegmentPlaces.{fault_place}
 use Rattle.oxc_sourcemap_mappings.proofs.Left.{onto_all, onto_all-none, onto_all-token}
 use Rattle.oxc_sourcemap_mappings.proofs.Left.{onto_all-fault, left_outcomes, left-after}
 use Rattle.oxc_sourcemap_mappings.proofs.Left.{left-too_large, left-segment, front-byte}
-use Rattle.oxc_sourcemap_mappings.proofs.Left.{left-semicolon, left-comma}
-use Rattle.oxc_sourcemap_mappings.proofs.Left.{front-filled, reading-is}
+use Rattle.oxc_sourcemap_mappings.proofs.Left.{left-semicolon, left-comma, front-filled, reading-is}
 use Rattle.oxc_sourcemap_mappings.proofs.FaultPlaces.{IsHere, here-first, here-comma}
 use Rattle.oxc_sourcemap_mappings.proofs.FaultPlaces.{here-semicolon, here-token, here-fault}
 use Rattle.oxc_sourcemap_mappings.proofs.FaultPlaces.{here-last, here-none, here-told}

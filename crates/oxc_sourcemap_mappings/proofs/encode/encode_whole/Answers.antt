@@ -1,6 +1,6 @@
 use Rattle.std.proofs.Common.{arith, ◌≡◌, ◌≢◌, ◌++◌, ◌∙◌, subst, OnOk, IfErr, Some, None}
 use Rattle.std.proofs.Common.{string_bytes}
-use Rattle.oxc_sourcemap_tokens.specs.declared.error.Error.TheVariants.{OutOfMemory}
+use Rattle.oxc_sourcemap_tokens.specs.declared.errors.error.Error.TheVariants.{OutOfMemory}
 use Rattle.oxc_sourcemap_mappings.proofs.Pieces.{whole-piece, whole-fault}
 use Rattle.oxc_sourcemap_mappings.proofs.encode.encode_whole.Goals as goal
 

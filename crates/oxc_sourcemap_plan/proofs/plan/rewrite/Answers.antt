@@ -1,6 +1,6 @@
 use Rattle.std.proofs.Common.{subst, sym}
 use Rattle.oxc_sourcemap_parts.specs.Views.{record_of_parts}
-use Rattle.oxc_sourcemap_json.specs.Json.{json_record}
+use Rattle.oxc_sourcemap_json.specs.JsonRecord.{json_record}
 use Rattle.oxc_sourcemap_plan.specs.Outcome.{rewrite_outcome}
 use Rattle.oxc_sourcemap_plan.specs.Realizes.{FailsAs}
 use Rattle.oxc_sourcemap_plan.proofs.Realizing.{rewrite_gives, rewrite_error, reading_error}

@@ -5,7 +5,7 @@ use Rattle.oxc_sourcemap_parts.specs.Views.{record_of_parts}
 use Rattle.oxc_sourcemap_lookup.specs.Trace.{original_in}
 use Rattle.smap_run.specs.Traced.{trace_text}
 use Rattle.smap_run.proofs.Maps.{traced_token}
-use Rattle.oxc_sourcemap_tokens.specs.declared.plan_error.PlanError.TheVariants.{Map}
+use Rattle.oxc_sourcemap_tokens.specs.declared.errors.plan_error.PlanError.TheVariants.{Map}
 use Rattle.oxc_sourcemap_tokens.proofs.Carried.{carried_error}
 use Rattle.smap_run.proofs.tracing.trace_in.Goals as goal
 

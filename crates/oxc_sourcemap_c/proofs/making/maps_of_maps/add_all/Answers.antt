@@ -1,7 +1,7 @@
 use Rattle.std.proofs.Common.{arith, ap, get_or, length, subst, sym, ◌≡◌, ◌∙◌}
 use Rattle.std.specs.Prelude.{MatchOption}
 use Rattle.std.proofs.lemmas.List.{drop_all}
-use Rattle.oxc_sourcemap_handles.specs.declared.lent.Lent.{Lent}
+use Rattle.oxc_sourcemap_handles.specs.declared.holding.lent.Lent.{Lent}
 use Rattle.oxc_sourcemap_handles.specs.Holding.{held_map}
 use Rattle.oxc_sourcemap_join.specs.Joined.{added}
 use Rattle.oxc_sourcemap_c.specs.MapsOfMaps.{IsAddErrorOf}

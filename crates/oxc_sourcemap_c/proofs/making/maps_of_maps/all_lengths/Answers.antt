@@ -1,5 +1,5 @@
 use Rattle.std.proofs.Common.{arith, ap, get_or, sym, ◌≡◌, ◌∙◌}
-use Rattle.oxc_sourcemap_handles.specs.declared.lent.Lent.{Lent}
+use Rattle.oxc_sourcemap_handles.specs.declared.holding.lent.Lent.{Lent}
 use Rattle.oxc_sourcemap_handles.specs.Holding.{held_map}
 use Rattle.oxc_sourcemap_c.proofs.MapsOfMaps.{all_given_back, missing_more, there_more}
 use Rattle.oxc_sourcemap_c.proofs.making.maps_of_maps.all_lengths.Goals as goal

@@ -1,5 +1,5 @@
 use Rattle.std.proofs.Common.{◌≡◌, get_or, Some, arith, ap, ◌∙◌}
-use Rattle.oxc_sourcemap_handles.specs.declared.lent.Lent.{Lent}
+use Rattle.oxc_sourcemap_handles.specs.declared.holding.lent.Lent.{Lent}
 use Rattle.oxc_sourcemap_handles.specs.Holding.{held_map}
 use Rattle.oxc_sourcemap_c.specs.MapsOfMaps.{all_lent, all_maps}
 use Rattle.oxc_sourcemap_c.proofs.MapsOfMaps.{all_given_back, cloned_more}

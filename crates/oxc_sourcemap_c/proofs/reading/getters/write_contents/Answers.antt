@@ -5,7 +5,7 @@ use Rattle.std.proofs.lemmas.Grind.{get_or-set_at}
 use Rattle.std.proofs.lemmas.List.{length-map, get_or-map, get_or-set_other}
 use Rattle.std.specs.Cow.{cow_str_bytes}
 use Rattle.oxc_sourcemap_handles.specs.Listed.{cow_options}
-use Rattle.oxc_sourcemap_handles.specs.Places.{HasContent}
+use Rattle.oxc_sourcemap_handles.specs.Structs.{HasContent}
 use Rattle.oxc_sourcemap_handles.proofs.Filling.{are_filled, left-next}
 use Rattle.oxc_sourcemap_c.proofs.reading.getters.write_contents.Goals as goal
 

@@ -9,8 +9,8 @@ use Rattle.oxc_sourcemap_join.specs.Joined.{fitted, raised_ignore_list, appended
 use Rattle.oxc_sourcemap_join.specs.Joined.{IsWithinLimits, added}
 use Rattle.oxc_sourcemap_join.specs.Joining.{all_shifted, map_of}
 use Rattle.oxc_sourcemap_parts.specs.Views.{texts_of, contents_of, ids_of}
-use Rattle.oxc_sourcemap_join.proofs.Adding.{kept, too-large, as-result, added-is}
-use Rattle.oxc_sourcemap_join.proofs.Adding.{join-is, glued, by-lists}
+use Rattle.oxc_sourcemap_join.proofs.Adding.{kept, too-large, as-result, added-is, join-is, glued}
+use Rattle.oxc_sourcemap_join.proofs.Adding.{by-lists}
 use Rattle.oxc_sourcemap_join.proofs.Moving.{length-mapped}
 use Rattle.oxc_sourcemap_join.proofs.joined_parts.JoinedParts.add.Goals as goal
 

@@ -1,7 +1,7 @@
 use Rattle.std.proofs.Common.{ap, sym, ◌∙◌, true≢false}
 use Rattle.std.proofs.lemmas.Result.{IfOk-weaker}
 use Rattle.std.specs.Result.{is_err}
-use Rattle.oxc_sourcemap_json.proofs.Found.{nothing-read}
+use Rattle.oxc_sourcemap_json.proofs.NotJson.{nothing-read}
 use Rattle.oxc_sourcemap_json.proofs.fault.json_fault.json_fault_at.Goals as goal
 
 pub returns-in-Ok-clause-reading : goal.returns-in-Ok-clause-reading

@@ -3,12 +3,12 @@ use Rattle.serde_json.specs.Find.{get}
 use Rattle.serde_json.specs.View.{view}
 use Rattle.serde_json.proofs.Views.{view-Object}
 use Rattle.oxc_sourcemap_tokens.proofs.Carried.{carried_error}
-use Rattle.oxc_sourcemap_tokens.specs.declared.error.Error.TheVariants.{OutOfMemory}
-use Rattle.oxc_sourcemap_tokens.specs.declared.error.Field.TheVariants.{File, Mappings, SourceRoot}
-use Rattle.oxc_sourcemap_tokens.specs.declared.error.Field.TheVariants.{DebugId}
-use Rattle.oxc_sourcemap_tokens.specs.declared.fault.Fault.{Fault}
+use Rattle.oxc_sourcemap_tokens.specs.declared.errors.error.Error.TheVariants.{OutOfMemory}
+use Rattle.oxc_sourcemap_tokens.specs.declared.errors.error.Field.TheVariants.{File, Mappings}
+use Rattle.oxc_sourcemap_tokens.specs.declared.errors.error.Field.TheVariants.{SourceRoot, DebugId}
+use Rattle.oxc_sourcemap_tokens.specs.declared.errors.fault.Fault.{Fault}
 use Rattle.oxc_sourcemap_json.specs.Words.{lent_member}
-use Rattle.oxc_sourcemap_json.proofs.Spots.{IsWithin, at-member, at-ids}
+use Rattle.oxc_sourcemap_json.proofs.ShapeSpots.{IsWithin, at-member, at-ids}
 use Rattle.oxc_sourcemap_json.proofs.object.members.json_of.Goals as goal
 
 pub returns-in_err-file-clause-place : goal.returns-in_err-file-clause-place

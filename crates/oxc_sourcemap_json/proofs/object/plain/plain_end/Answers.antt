@@ -3,8 +3,8 @@ use Rattle.std.proofs.lemmas.List.Sums.{prefix_len-le-length}
 use Rattle.std.proofs.lemmas.Simd.{length-chunk}
 use Rattle.std.specs.List.{prefix_len}
 use lib.Lanes.{chunk}
-use Rattle.oxc_sourcemap_json.specs.Plain.{is_plain}
-use Rattle.oxc_sourcemap_json.proofs.Blocks.{stops_within, goes_on}
+use Rattle.oxc_sourcemap_json.specs.PlainReader.{is_plain}
+use Rattle.oxc_sourcemap_json.proofs.PlainBlocks.{stops_within, goes_on}
 use Rattle.oxc_sourcemap_json.proofs.object.plain.plain_end.Goals as goal
 
 pub returns-then-plain-lt16 : goal.returns-then-plain-lt16

@@ -1,6 +1,6 @@
 use Rattle.std.proofs.Common.{◌≡◌, ◌+◌, ◌-◌, ◌≤◌, length, drop}
 use Rattle.std.specs.List.{prefix_len}
-use Rattle.oxc_sourcemap_json.specs.Plain.{is_plain}
+use Rattle.oxc_sourcemap_json.specs.PlainReader.{is_plain}
 use Rattle.oxc_sourcemap_json.proofs.object.plain.plain_end.Given as goal
 
 abbrev pub invariant-steps : goal.invariant-steps

@@ -1,5 +1,5 @@
 use Rattle.std.proofs.Common.{arith}
-use Rattle.oxc_sourcemap_json.proofs.Blocks.{marked}
+use Rattle.oxc_sourcemap_json.proofs.PlainBlocks.{marked}
 use Rattle.oxc_sourcemap_json.proofs.object.plain.stops_in.Goals as goal
 
 pub returns : goal.returns

@@ -1,7 +1,7 @@
 use Rattle.std.proofs.Common.{refl}
 use Rattle.serde_json.specs.View.{view}
-use Rattle.oxc_sourcemap_tokens.specs.declared.error.Field.TheVariants.{File}
-use Rattle.oxc_sourcemap_json.proofs.Spots.{as-within}
+use Rattle.oxc_sourcemap_tokens.specs.declared.errors.error.Field.TheVariants.{File}
+use Rattle.oxc_sourcemap_json.proofs.ShapeSpots.{as-within}
 use Rattle.oxc_sourcemap_json.proofs.object.shape.read_file.Goals as goal
 
 pub returns-clause-place : goal.returns-clause-place

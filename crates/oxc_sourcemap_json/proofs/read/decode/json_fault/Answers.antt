@@ -1,6 +1,6 @@
 use Rattle.std.proofs.Common.{◌≡◌, arith, ap, ◌∙◌, length, map, string_bytes}
 use Rattle.std.proofs.lemmas.Grind.{common_steps}
-use Rattle.oxc_sourcemap_json.specs.Json.{json_ids}
+use Rattle.oxc_sourcemap_json.specs.JsonRecord.{json_ids}
 use Rattle.oxc_sourcemap_json.proofs.ReadPlaces.{entry_place}
 use Rattle.oxc_sourcemap_json.proofs.read.decode.json_fault.Goals as goal
 

@@ -1,6 +1,6 @@
 use Rattle.std.proofs.Common.{◌≡◌, rules, ap, sym, ◌∙◌, option_map, Some, None, nat_le, position}
 use Rattle.std.specs.Option.{option_map_or, option_and_then}
-use Rattle.oxc_sourcemap_tokens.specs.declared.fault.Fault.{Fault}
+use Rattle.oxc_sourcemap_tokens.specs.declared.errors.fault.Fault.{Fault}
 use Rattle.oxc_sourcemap_json.specs.Words.{json_ids, first_not_below, BadSourceReference, place_at}
 use Rattle.oxc_sourcemap_json.specs.Words.{Entry}
 use Rattle.oxc_sourcemap_json.proofs.ReadPlaces.{past-some, past-none}

@@ -1,7 +1,7 @@
 use Rattle.std.proofs.Common.{◌≡◌, ◌==◌, ◌∙◌, ℕ, Bool, true, false, Option, None, Some, cond, subst}
 use Rattle.std.proofs.Common.{sym, ap, refl, arith, option_map}
-use Rattle.oxc_sourcemap_tokens.specs.declared.fault.Fault.{Fault}
-use Rattle.oxc_sourcemap_json.specs.Json.{JsonRecord}
+use Rattle.oxc_sourcemap_tokens.specs.declared.errors.fault.Fault.{Fault}
+use Rattle.oxc_sourcemap_json.specs.JsonRecord.{JsonRecord}
 use Rattle.oxc_sourcemap_json.specs.Words.{Error, BadSourceReference, record_of_parts, json_record}
 use Rattle.oxc_sourcemap_json.specs.Words.{decoded, json_fault, Reads}
 use Rattle.oxc_sourcemap_json.specs.Decoded.{ignore_list_fault}

@@ -5,8 +5,8 @@ use Rattle.serde_json.specs.View.{view, items_view}
 use Rattle.oxc_sourcemap_parts.specs.Views.{record_of_parts}
 use Rattle.oxc_sourcemap_tokens.specs.Places.{placed_in}
 use Rattle.oxc_sourcemap_json.specs.ValuePlaces.{plain_map, map_spot}
-use Rattle.oxc_sourcemap_json.proofs.Steps.{place-error, map-error, add-error, all-joined}
-use Rattle.oxc_sourcemap_json.proofs.Steps.{none-left as no-items}
+use Rattle.oxc_sourcemap_json.proofs.SectionSteps.{place-error, map-error, add-error, all-joined}
+use Rattle.oxc_sourcemap_json.proofs.SectionSteps.{none-left as no-items}
 use Rattle.oxc_sourcemap_json.proofs.ReadPlaces.{in-place, some-place}
 use Rattle.oxc_sourcemap_json.proofs.SectionPlaces.{Passed, none-passed, at-offset, at-map}
 use Rattle.oxc_sourcemap_json.proofs.SectionPlaces.{at-limit, more-passed, none-left}

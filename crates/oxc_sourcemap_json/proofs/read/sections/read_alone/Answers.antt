@@ -1,6 +1,6 @@
 use Rattle.std.proofs.Common.{ap, sym, ◌∙◌, subst, option_map}
 use Rattle.serde_json.specs.View.{view}
-use Rattle.oxc_sourcemap_json.specs.Json.{json_record}
+use Rattle.oxc_sourcemap_json.specs.JsonRecord.{json_record}
 use Rattle.oxc_sourcemap_json.specs.Words.{Locates, place_at, fields_spot}
 use Rattle.oxc_sourcemap_json.proofs.ReadPlaces.{shape-version, spot-is}
 use Rattle.oxc_sourcemap_json.proofs.read.sections.read_alone.Goals as goal

@@ -1,5 +1,5 @@
 use Rattle.std.proofs.Common.{subst, IfSome}
-use Rattle.oxc_sourcemap_json.specs.Json.{usual_record}
+use Rattle.oxc_sourcemap_json.specs.JsonRecord.{usual_record}
 use Rattle.oxc_sourcemap_json.specs.Usual.{IsJsonOf}
 use Rattle.oxc_sourcemap_json.proofs.ReadPlaces.{usual-located}
 use Rattle.oxc_sourcemap_json.proofs.read.sections.read_parts_from_string.Goals as goal

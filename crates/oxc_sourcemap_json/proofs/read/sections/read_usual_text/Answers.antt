@@ -1,6 +1,6 @@
 use Rattle.std.proofs.Common.{ℕ, ◌∙◌, subst, IfSome, Err}
 use Rattle.oxc_sourcemap_tokens.proofs.Carried.{carried_error}
-use Rattle.oxc_sourcemap_json.specs.Json.{usual_record}
+use Rattle.oxc_sourcemap_json.specs.JsonRecord.{usual_record}
 use Rattle.oxc_sourcemap_json.specs.Usual.{IsJsonOf}
 use Rattle.oxc_sourcemap_json.specs.Words.{IsPlacedIn}
 use Rattle.oxc_sourcemap_json.proofs.ReadPlaces.{usual-place, usual-located}

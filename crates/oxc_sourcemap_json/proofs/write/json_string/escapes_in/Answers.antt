@@ -1,5 +1,5 @@
 use Rattle.std.proofs.Common.{arith}
-use Rattle.oxc_sourcemap_json.proofs.Plain.{marked}
+use Rattle.oxc_sourcemap_json.proofs.UnescapedBlocks.{marked}
 use Rattle.oxc_sourcemap_json.proofs.write.json_string.escapes_in.Goals as goal
 
 pub returns : goal.returns

@@ -1,5 +1,5 @@
 use Rattle.std.proofs.Common.{◌++◌, length, drop, replicate, ap, ◌∙◌, arith}
-use Rattle.oxc_sourcemap_json.proofs.Plain.{padded}
+use Rattle.oxc_sourcemap_json.proofs.UnescapedBlocks.{padded}
 use Rattle.oxc_sourcemap_json.proofs.write.json_string.last_block.Goals as goal
 
 pub returns : goal.returns

@@ -1,7 +1,7 @@
 use Rattle.std.proofs.Common.{sym, ap, ◌∙◌, cond, arith}
 use Rattle.std.proofs.lemmas.Bool.{eq-eqb, ne_eqb}
 use lib.Count.{count_trailing_zeros}
-use Rattle.oxc_sourcemap_json.proofs.Plain.{block_run}
+use Rattle.oxc_sourcemap_json.proofs.UnescapedBlocks.{block_run}
 use Rattle.oxc_sourcemap_json.proofs.write.json_string.plain_in.Goals as goal
 
 pub returns-then-found-eq0 : goal.returns-then-found-eq0

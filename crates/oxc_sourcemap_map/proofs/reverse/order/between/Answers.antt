@@ -5,9 +5,10 @@ use Rattle.std.proofs.lemmas.List.Sorted.{IsNonDecreasingBy-take, IsNonDecreasin
 use Rattle.std.specs.List.{filter, All}
 use Rattle.std.specs.List.Sorted.{IsNonDecreasingBy}
 use Rattle.oxc_sourcemap_tokens.specs.Token.{TokenRecord, IsInBounds}
-use Rattle.oxc_sourcemap_map.specs.Places.{token_place, no_token, listed, AreBetween}
+use Rattle.oxc_sourcemap_map.specs.Places.{token_original, no_token, listed, AreBetween}
 use Rattle.oxc_sourcemap_map.proofs.Runs.{map_part}
-use Rattle.oxc_sourcemap_map.proofs.Parts.{in_order, part_between, part_same, part_same_index}
+use Rattle.oxc_sourcemap_map.proofs.ReverseParts.{in_order, part_between, part_same}
+use Rattle.oxc_sourcemap_map.proofs.ReverseParts.{part_same_index}
 use Rattle.oxc_sourcemap_map.proofs.reverse.order.between.Goals as goal
 
 pub part_of-requires-clause-forward : goal.part_of-requires-clause-forward
@@ -29,7 +30,7 @@ returns-clause-in_bounds c =
 pub returns-clause-rises : goal.returns-clause-rises
 returns-clause-rises c =
     let e = ap (listed c.args.tokens.now) c.part_of.ensures ∙ map_part (λ i. get_or c.args.tokens.now i no_token) c.args.order.now _ _ in
-    subst (λ xs. IsNonDecreasingBy token_place xs) (sym e) (IsNonDecreasingBy-take token_place _ _ (IsNonDecreasingBy-drop token_place _ _ c.requires.order.rises))
+    subst (λ xs. IsNonDecreasingBy token_original xs) (sym e) (IsNonDecreasingBy-take token_original _ _ (IsNonDecreasingBy-drop token_original _ _ c.requires.order.rises))
 
 pub returns-clause-only : goal.returns-clause-only
 returns-clause-only c =
@@ -45,7 +46,7 @@ returns-clause-each c = λ place low high.
     let e = ap (listed c.args.tokens.now) c.part_of.ensures ∙ map_part (λ i. get_or c.args.tokens.now i no_token) c.args.order.now _ _ in
     let others = λ (i : ℕ) (d : TokenRecord) (g : c.count_before-end.result ≤ i) (w : i < length (listed c.args.tokens.now c.args.order.now)). c.count_before-end.ensures.others i d g (omega (arith, w, long)) in
     let starts = λ (i : ℕ) (d : TokenRecord) (g : c.count_before-start.result ≤ i) (w : i < length (listed c.args.tokens.now c.args.order.now)). c.count_before-start.ensures.others i d g (omega (arith, w, long)) in
-    ap (filter (λ t. token_place t == place)) e
+    ap (filter (λ t. token_original t == place)) e
     ∙ part_same (listed c.args.tokens.now c.args.order.now) c.args.from c.args.to place _ _ low high
     (in_order (listed c.args.tokens.now c.args.order.now) c.args.from c.args.to _ _ c.requires.forward (omega (arith, c.count_before-start.ensures.bound, long)) c.count_before-start.ensures.before others)
     (omega (arith, c.count_before-end.ensures.bound, long)) c.count_before-start.ensures.before others
@@ -54,7 +55,7 @@ pub returns-clause-each_index : goal.returns-clause-each_index
 returns-clause-each_index c = λ place low high.
     let long = length-map c.args.order.now (λ i. get_or c.args.tokens.now i no_token) in
     let others = λ (i : ℕ) (d : TokenRecord) (g : c.count_before-end.result ≤ i) (w : i < length (listed c.args.tokens.now c.args.order.now)). c.count_before-end.ensures.others i d g (omega (arith, w, long)) in
-    ap (filter (λ i. token_place (get_or c.args.tokens.now i no_token) == place)) c.part_of.ensures
+    ap (filter (λ i. token_original (get_or c.args.tokens.now i no_token) == place)) c.part_of.ensures
     ∙ part_same_index c.args.tokens.now c.args.order.now c.args.from c.args.to place _ _ low high
     (in_order (listed c.args.tokens.now c.args.order.now) c.args.from c.args.to _ _ c.requires.forward (omega (arith, c.count_before-start.ensures.bound, long)) c.count_before-start.ensures.before others)
     c.count_before-end.ensures.bound c.count_before-start.ensures.before c.count_before-end.ensures.others

@@ -4,7 +4,7 @@ use Rattle.std.proofs.lemmas.Bool.Decides.{nat_tests}
 use Rattle.std.proofs.lemmas.List.{get_or-map, length-map}
 use Rattle.oxc_sourcemap_tokens.specs.Token.{TokenRecord}
 use Rattle.oxc_sourcemap_lookup.proofs.Halving.{digits-half, digits-below}
-use Rattle.oxc_sourcemap_map.specs.Places.{token_place, no_token, listed}
+use Rattle.oxc_sourcemap_map.specs.Places.{token_original, no_token, listed}
 use Rattle.oxc_sourcemap_map.proofs.reverse.order.count_before.Goals as goal
 
 pub loop-size-init : goal.loop-size-init
@@ -18,11 +18,11 @@ loop-size-init c =
     }
 
 -- the place of the token that was compared
-compared : (tokens : List TokenRecord) (order : List ℕ) (m : ℕ) (d : TokenRecord) → m < length order → token_place (get_or (listed tokens order) m d) ≡ token_place (get_or tokens (get_or order m 0) no_token)
-compared tokens order m d h = ap token_place (get_or-map (λ i. get_or tokens i no_token) order m 0 d h)
+compared : (tokens : List TokenRecord) (order : List ℕ) (m : ℕ) (d : TokenRecord) → m < length order → token_original (get_or (listed tokens order) m d) ≡ token_original (get_or tokens (get_or order m 0) no_token)
+compared tokens order m d h = ap token_original (get_or-map (λ i. get_or tokens i no_token) order m 0 d h)
 
-pub loop-size-preserved-then-compare_place : goal.loop-size-preserved-then-compare_place
-loop-size-preserved-then-compare_place c =
+pub loop-size-preserved-then-compare_original : goal.loop-size-preserved-then-compare_original
+loop-size-preserved-then-compare_original c =
     let h = c.loop-size.invariant in
     let tokens = c.args.tokens.now in
     let order = c.args.order.now in
@@ -30,10 +30,10 @@ loop-size-preserved-then-compare_place c =
     let half = digits-half c.loop-size.size (omega (arith, c.loop-size-test.true)) in
     let lt : m < length order = omega (arith, h.within, c.loop-size-test.true) in
     let i = get_or order m 0 in
-    let less : token_place (get_or tokens i no_token) < c.args.place = grind (arith, nat_tests, c.compare_place.ensures.value no_token, c.if-compare_place.true) in
+    let less : token_original (get_or tokens i no_token) < c.args.place = grind (arith, nat_tests, c.compare_original.ensures.value no_token, c.if-compare_original.true) in
     let long : length (listed tokens order) ≡ length order = length-map order (λ i. get_or tokens i no_token) in record {
       within = omega (arith, h.within);
-      counted = omega (arith, h.counted, half, c.compare_place.ensures.counted);
+      counted = omega (arith, h.counted, half, c.compare_original.ensures.counted);
       small = h.small;
       before = λ k t w.
           let le : k ≤ m = omega (arith, w) in
@@ -51,10 +51,10 @@ loop-size-preserved c =
     let half = digits-half c.loop-size.size (omega (arith, c.loop-size-test.true)) in
     let lt : m < length order = omega (arith, h.within, c.loop-size-test.true) in
     let i = get_or order m 0 in
-    let more : c.args.place ≤ token_place (get_or tokens i no_token) = grind (arith, nat_tests, c.compare_place.ensures.value no_token, c.if-compare_place.false) in
+    let more : c.args.place ≤ token_original (get_or tokens i no_token) = grind (arith, nat_tests, c.compare_original.ensures.value no_token, c.if-compare_original.false) in
     let long : length (listed tokens order) ≡ length order = length-map order (λ i. get_or tokens i no_token) in record {
       within = omega (arith, h.within);
-      counted = omega (arith, h.counted, half, c.compare_place.ensures.counted);
+      counted = omega (arith, h.counted, half, c.compare_original.ensures.counted);
       small = h.small;
       before = h.before;
       others = λ k t w l.

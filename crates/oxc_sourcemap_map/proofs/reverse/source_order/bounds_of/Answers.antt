@@ -1,6 +1,6 @@
 use Rattle.std.proofs.Common.{◌≡◌, ◌+◌, ◌<◌, ◌≤◌, ℕ, get_or, length, inl, inr, arith, ap}
 use Rattle.std.proofs.lemmas.Bool.{cases_lt}
-use Rattle.oxc_sourcemap_map.proofs.Found.{same_read}
+use Rattle.oxc_sourcemap_map.proofs.ReverseFound.{same_read}
 use Rattle.oxc_sourcemap_map.proofs.reverse.source_order.bounds_of.Goals as goal
 
 pub loop-i-preserved : goal.loop-i-preserved

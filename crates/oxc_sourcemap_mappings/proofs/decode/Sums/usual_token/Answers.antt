@@ -12,9 +12,9 @@ use Rattle.oxc_sourcemap_mappings.proofs.decode.Sums.usual_token.Goals as goal
 at_least : (z : ℤ) → FitsSigned w8 z → lt_z (to_z w8 (of_z w8 z)) (pos 96) ≡ false → pos 96 ≤ℤ z
 at_least z f h = grind (arith, ints)
 
-pub returns-then-number_of-gt95-clause-token : goal.returns-then-number_of-gt95-clause-token
-returns-then-number_of-gt95-clause-token c =
-    let ended = front-end c.args.text.now _ (omega (arith, c.in_ok-dst_col.ensures.len.1, c.in_ok-source_id.ensures.len.1, c.in_ok-src_line.ensures.len.1, c.in_ok-src_col.ensures.len.1)) (c.number_of.ensures.mark (grind (arith, ints, c.if-number_of-gt95.true))) in
+pub returns-then-byte_number-gt95-clause-token : goal.returns-then-byte_number-gt95-clause-token
+returns-then-byte_number-gt95-clause-token c =
+    let ended = front-end c.args.text.now _ (omega (arith, c.in_ok-dst_col.ensures.len.1, c.in_ok-source_id.ensures.len.1, c.in_ok-src_line.ensures.len.1, c.in_ok-src_col.ensures.len.1)) (c.byte_number.ensures.mark (grind (arith, ints, c.if-byte_number-gt95.true))) in
     let counts = counts_of c.args.names c.args.sources in
     let before = place_of c.args.self.now in
     let first = c.in_ok-dst_col.ensures.number in
@@ -39,7 +39,7 @@ returns-then-number_of-gt95-clause-token c =
 
 pub returns-clause-token : goal.returns-clause-token
 returns-clause-token c =
-    let ended = front-end c.args.text.now _ (omega (arith, c.in_ok-dst_col.ensures.len.1, c.in_ok-source_id.ensures.len.1, c.in_ok-src_line.ensures.len.1, c.in_ok-src_col.ensures.len.1, c.in_ok-by.ensures.len.1)) (c.number_of-2.ensures.mark (at_least c.number_of-2.result (search rules) c.if-number_of-lt96.false)) in
+    let ended = front-end c.args.text.now _ (omega (arith, c.in_ok-dst_col.ensures.len.1, c.in_ok-source_id.ensures.len.1, c.in_ok-src_line.ensures.len.1, c.in_ok-src_col.ensures.len.1, c.in_ok-by.ensures.len.1)) (c.byte_number-2.ensures.mark (at_least c.byte_number-2.result (search rules) c.if-byte_number-lt96.false)) in
     let counts = counts_of c.args.names c.args.sources in
     let before = place_of c.args.self.now in
     let first = c.in_ok-dst_col.ensures.number in

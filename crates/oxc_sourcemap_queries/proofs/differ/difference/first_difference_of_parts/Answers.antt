@@ -41,7 +41,7 @@ returns-then-not-is_found_alike-clause-first c = λ sorted_a sorted_b.
     let found_b = found-as b c.as_slice-second.result.now s.passed_second s.place c.holder-in-loop-first.result c.token_at-found_second.result h.is_second c.holder-in-loop-first.ensures c.token_at-found_second.ensures in
     let walked = h.walked sorted_a sorted_b in
     let compared = compared-by a b sorted_a sorted_b bounds_a bounds_b s.place s.passed_first s.passed_second walked c.token_at-found_first.result c.token_at-found_second.result found_a found_b in
-    subst (IsFirstDifference a b) (sym c.position_of.ensures)
+    subst (IsFirstDifference a b) (sym c.position_from.ensures)
     (differ-first a b sorted_a sorted_b bounds_a bounds_b s.place s.passed_first s.passed_second walked
     (λ here. let f : false ≡ true = sym c.if-not-is_found_alike.true ∙ c.is_found_alike.ensures.same.1 (compared.1 here) in cc (f)))
 

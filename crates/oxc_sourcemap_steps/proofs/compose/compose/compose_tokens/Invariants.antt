@@ -1,6 +1,6 @@
 use Rattle.std.proofs.Common.{◌≡◌, map, take, drop}
 use Rattle.std.specs.Cow.{cow_str_bytes}
-use Rattle.oxc_sourcemap_steps.specs.Inherited.{names_with, IsInheriting}
+use Rattle.oxc_sourcemap_steps.specs.InheritSteps.{names_with, IsInheriting}
 use Rattle.oxc_sourcemap_steps.proofs.Targets.{Made}
 use Rattle.oxc_sourcemap_steps.proofs.compose.compose.compose_tokens.Given as goal
 

@@ -3,7 +3,7 @@ use Rattle.std.specs.Option.{option_and_then}
 use Rattle.std.specs.Cow.{cow_str_bytes}
 use Rattle.oxc_sourcemap_parts.specs.DecodedMap.{name_of}
 use Rattle.oxc_sourcemap_steps.specs.InheritedNames.{inherited_index}
-use Rattle.oxc_sourcemap_steps.specs.Inherited.{names_with}
+use Rattle.oxc_sourcemap_steps.specs.InheritSteps.{names_with}
 use Rattle.oxc_sourcemap_steps.proofs.InheritedNames.{small-kept, id-kept, token-to}
 use Rattle.oxc_sourcemap_steps.proofs.InheritedNames.{token-to_nameless}
 use Rattle.oxc_sourcemap_steps.proofs.compose.compose.composed_token.Goals as goal

@@ -5,11 +5,12 @@ use Rattle.std.proofs.lemmas.Option.{slice_get-get_or, slice_get_read}
 use Rattle.std.proofs.lemmas.Result.{err_from_is_err_and}
 use Rattle.std.specs.Cow.{cow_str_bytes}
 use Rattle.std.specs.Option.{option_and_then}
-use Rattle.oxc_sourcemap_tokens.specs.declared.error.Error.TheVariants.{OutOfMemory, TooLarge}
+use Rattle.oxc_sourcemap_tokens.specs.declared.errors.error.Error.TheVariants.{OutOfMemory}
+use Rattle.oxc_sourcemap_tokens.specs.declared.errors.error.Error.TheVariants.{TooLarge}
 use Rattle.oxc_sourcemap_parts.specs.Record.{Text}
 use Rattle.oxc_sourcemap_steps.specs.Composed.{may_be_id}
 use Rattle.oxc_sourcemap_steps.specs.InheritedNames.{with_inherited, inherited_index}
-use Rattle.oxc_sourcemap_steps.specs.Inherited.{names_with}
+use Rattle.oxc_sourcemap_steps.specs.InheritSteps.{names_with}
 use Rattle.oxc_sourcemap_steps.proofs.KeptNames.{name_at, ids_more}
 use Rattle.oxc_sourcemap_steps.proofs.compose.inherited_names.inherit_id.Goals as goal
 

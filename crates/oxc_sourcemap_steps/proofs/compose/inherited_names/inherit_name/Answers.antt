@@ -7,7 +7,7 @@ use Rattle.std.specs.Cow.{cow_str_bytes}
 use Rattle.std.specs.Str.{bytes_eq}
 use Rattle.oxc_sourcemap_parts.specs.Texts.{index_of}
 use Rattle.oxc_sourcemap_parts.proofs.Places.{index-with, index-last}
-use Rattle.oxc_sourcemap_steps.specs.Inherited.{names_with}
+use Rattle.oxc_sourcemap_steps.specs.InheritSteps.{names_with}
 use Rattle.oxc_sourcemap_steps.proofs.KeptNames.{names_push, length-names, past_id, put_place}
 use Rattle.oxc_sourcemap_steps.proofs.KeptNames.{not_empty}
 use Rattle.oxc_sourcemap_steps.proofs.compose.inherited_names.inherit_name.Goals as goal

@@ -7,7 +7,7 @@ use Rattle.oxc_sourcemap_parts.specs.DecodedMap.{decoded_map_of}
 use Rattle.oxc_sourcemap_parts.specs.Views.{record_of_parts}
 use Rattle.oxc_sourcemap_steps.proofs.KeptNames.{name_at}
 use Rattle.oxc_sourcemap_steps.specs.Blocks.{marked_sources}
-use Rattle.oxc_sourcemap_steps.specs.Bodies.{ready_records, IsFor, IsBlock, AreBlocksFrom}
+use Rattle.oxc_sourcemap_steps.specs.RemapSteps.{ready_records, IsFor, IsBlock, AreBlocksFrom}
 use Rattle.oxc_sourcemap_steps.proofs.Indices.{take-one}
 use Rattle.oxc_sourcemap_steps.proofs.SourceBlocks.{marked-at, is-block, one-more, total}
 use Rattle.oxc_sourcemap_steps.proofs.SourceBlocks.{total-last, past-all, count-all-marked}

@@ -2,7 +2,7 @@ use Rattle.std.proofs.Common.{◌≡◌, take}
 use Rattle.oxc_sourcemap_parts.specs.DecodedMap.{decoded_map_of}
 use Rattle.oxc_sourcemap_parts.specs.Views.{record_of_parts}
 use Rattle.oxc_sourcemap_steps.specs.Blocks.{marked_sources}
-use Rattle.oxc_sourcemap_steps.specs.Bodies.{ready_records, AreBlocksFrom}
+use Rattle.oxc_sourcemap_steps.specs.RemapSteps.{ready_records, AreBlocksFrom}
 use Rattle.oxc_sourcemap_steps.proofs.SourceBlocks.{total}
 use Rattle.oxc_sourcemap_steps.proofs.remap.blocks.blocks_of.Given as goal
 

@@ -5,7 +5,7 @@ use Rattle.oxc_sourcemap_parts.specs.Record.{Text}
 use Rattle.oxc_sourcemap_parts.specs.Views.{record_of_parts}
 use Rattle.oxc_sourcemap_parts.specs.declared.parts.SourceMapParts.{SourceMapParts}
 use Rattle.oxc_sourcemap_steps.proofs.Targets.{all-append}
-use Rattle.oxc_sourcemap_steps.specs.Bodies.{IsReady, AreReady, ready_records}
+use Rattle.oxc_sourcemap_steps.specs.RemapSteps.{IsReady, AreReady, ready_records}
 use Rattle.oxc_sourcemap_steps.specs.Inputs.{input_records}
 use Rattle.oxc_sourcemap_steps.proofs.remap.inputs.all_ready.Goals as goal
 

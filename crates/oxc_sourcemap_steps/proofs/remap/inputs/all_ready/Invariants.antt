@@ -1,5 +1,5 @@
 use Rattle.std.proofs.Common.{◌≡◌, take}
-use Rattle.oxc_sourcemap_steps.specs.Bodies.{ready_records, AreReady}
+use Rattle.oxc_sourcemap_steps.specs.RemapSteps.{ready_records, AreReady}
 use Rattle.oxc_sourcemap_steps.specs.Inputs.{input_records}
 use Rattle.oxc_sourcemap_steps.proofs.remap.inputs.all_ready.Given as goal
 

@@ -2,7 +2,7 @@ use Rattle.std.proofs.Common.{◌≡◌, ◌∙◌, refl, sym, ap, subst, length
 use Rattle.std.proofs.Common.{Option, Bor, arith}
 use Rattle.std.proofs.lemmas.Option.{slice_get_read}
 use Rattle.oxc_sourcemap_parts.specs.Texts.{index_of}
-use Rattle.oxc_sourcemap_steps.specs.Bodies.{ready_records, input_paths, IsFor}
+use Rattle.oxc_sourcemap_steps.specs.RemapSteps.{ready_records, input_paths, IsFor}
 use Rattle.oxc_sourcemap_steps.specs.declared.remap.inputs.Input.{Input}
 use Rattle.oxc_sourcemap_steps.proofs.InputPlaces.{input-within, for-path, none-for}
 use Rattle.oxc_sourcemap_steps.proofs.remap.inputs.input_at.Goals as goal

@@ -1,7 +1,7 @@
 use Rattle.std.proofs.Common.{take}
-use Rattle.oxc_sourcemap_steps.specs.Inherited.{HasPlaces}
-use Rattle.oxc_sourcemap_steps.specs.Bodies.{input_paths}
+use Rattle.oxc_sourcemap_steps.specs.InheritSteps.{HasIndices}
+use Rattle.oxc_sourcemap_steps.specs.RemapSteps.{input_paths}
 use Rattle.oxc_sourcemap_steps.proofs.remap.inputs.input_indices.Given as goal
 
 abbrev pub invariant-loop-i : goal.invariant-loop-i
-invariant-loop-i l = HasPlaces (input_paths (take l.i l.inputs)) l.places
+invariant-loop-i l = HasIndices (input_paths (take l.i l.inputs)) l.places

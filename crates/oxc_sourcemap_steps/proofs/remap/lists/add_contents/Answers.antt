@@ -6,7 +6,7 @@ use Rattle.std.specs.Cow.{cow_str_bytes}
 use Rattle.std.specs.Option.{option_and_then}
 use Rattle.oxc_sourcemap_parts.specs.Record.{Text}
 use Rattle.oxc_sourcemap_parts.specs.Views.{cow_texts, text_of}
-use Rattle.oxc_sourcemap_steps.specs.Bodies.{block_sources}
+use Rattle.oxc_sourcemap_steps.specs.RemapSteps.{block_sources}
 use Rattle.oxc_sourcemap_steps.proofs.SourceBlocks.{one-content, count-sources}
 use Rattle.oxc_sourcemap_steps.proofs.remap.lists.add_contents.Goals as goal
 

@@ -1,6 +1,6 @@
 use Rattle.std.proofs.Common.{◌≡◌, ◌++◌, map, take, option_map}
 use Rattle.std.specs.Cow.{cow_str_bytes}
-use Rattle.oxc_sourcemap_steps.specs.Bodies.{block_sources}
+use Rattle.oxc_sourcemap_steps.specs.RemapSteps.{block_sources}
 use Rattle.oxc_sourcemap_steps.proofs.remap.lists.add_contents.Given as goal
 
 abbrev pub invariant-loop-i : goal.invariant-loop-i

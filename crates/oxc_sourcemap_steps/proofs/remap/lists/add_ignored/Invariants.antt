@@ -1,5 +1,5 @@
 use Rattle.std.proofs.Common.{◌≡◌, ◌++◌, ◌+◌, drop}
-use Rattle.oxc_sourcemap_steps.specs.Bodies.{set_from}
+use Rattle.oxc_sourcemap_steps.specs.RemapSteps.{set_from}
 use Rattle.oxc_sourcemap_steps.proofs.remap.lists.add_ignored.Given as goal
 
 -- the ids so far and those of the flags that are left

@@ -1,7 +1,7 @@
 use Rattle.std.proofs.Common.{◌≡◌, map, take, option_map}
 use Rattle.std.specs.Cow.{cow_str_bytes}
 use Rattle.std.specs.List.{flat_map}
-use Rattle.oxc_sourcemap_steps.specs.Bodies.{block_sources}
+use Rattle.oxc_sourcemap_steps.specs.RemapSteps.{block_sources}
 use Rattle.oxc_sourcemap_steps.proofs.remap.lists.content_list.Given as goal
 
 abbrev pub invariant-loop-block : goal.invariant-loop-block

@@ -1,6 +1,6 @@
 use Rattle.std.proofs.Common.{◌∙◌, ◌<◌, ap, length, refl, set, subst, sym, ℕ, IfSome, Option}
 use Rattle.std.proofs.Common.{Global, Vec}
-use Rattle.oxc_sourcemap_steps.specs.Bodies.{KeepsOthers, source_records}
+use Rattle.oxc_sourcemap_steps.specs.RemapSteps.{KeepsOthers, source_records}
 use Rattle.oxc_sourcemap_steps.specs.declared.remap.moving.Source.{Source}
 use Rattle.oxc_sourcemap_steps.proofs.MovedSources.{list-at}
 use Rattle.oxc_sourcemap_steps.proofs.remap.moving.add_standing.Goals as goal

@@ -1,5 +1,5 @@
 use Rattle.std.proofs.Common.{◌≡◌, ◌++◌, take}
-use Rattle.oxc_sourcemap_steps.specs.Bodies.{source_records}
+use Rattle.oxc_sourcemap_steps.specs.RemapSteps.{source_records}
 use Rattle.oxc_sourcemap_steps.proofs.remap.moving.copy_sources.Given as goal
 
 abbrev pub invariant-loop-source : goal.invariant-loop-source

@@ -1,5 +1,5 @@
 use Rattle.std.proofs.Common.{◌≡◌, length}
-use Rattle.oxc_sourcemap_steps.specs.Bodies.{AreLastUses, source_paths}
+use Rattle.oxc_sourcemap_steps.specs.RemapSteps.{AreLastUses, source_paths}
 use Rattle.oxc_sourcemap_steps.proofs.remap.moving.last_uses.Given as goal
 
 abbrev pub invariant-loop-i : goal.invariant-loop-i

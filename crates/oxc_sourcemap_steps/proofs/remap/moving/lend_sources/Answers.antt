@@ -7,7 +7,7 @@ use Rattle.std.specs.Option.{option_and_then}
 use Rattle.oxc_sourcemap_parts.specs.DecodedMap.{sources_of}
 use Rattle.oxc_sourcemap_parts.specs.Record.{Text}
 use Rattle.oxc_sourcemap_parts.specs.Views.{cow_texts, text_of}
-use Rattle.oxc_sourcemap_steps.specs.Bodies.{source_record}
+use Rattle.oxc_sourcemap_steps.specs.RemapSteps.{source_record}
 use Rattle.oxc_sourcemap_steps.proofs.MovedSources.{one-listed}
 use Rattle.oxc_sourcemap_steps.proofs.SourceBlocks.{length-sources_of}
 use Rattle.oxc_sourcemap_steps.proofs.remap.moving.lend_sources.Goals as goal

@@ -1,7 +1,7 @@
 use Rattle.std.proofs.Common.{◌≡◌, map, take}
 use Rattle.oxc_sourcemap_parts.specs.DecodedMap.{sources_of}
 use Rattle.oxc_sourcemap_parts.specs.Views.{cow_texts, text_of}
-use Rattle.oxc_sourcemap_steps.specs.Bodies.{source_records}
+use Rattle.oxc_sourcemap_steps.specs.RemapSteps.{source_records}
 use Rattle.oxc_sourcemap_steps.proofs.remap.moving.lend_sources.Given as goal
 
 abbrev pub invariant-loop-i : goal.invariant-loop-i

@@ -1,7 +1,7 @@
 use Rattle.std.proofs.Common.{map, subst, sym, None}
 use Rattle.std.specs.Vec.Iter.{into_iter_items}
 use Rattle.oxc_sourcemap_parts.specs.Views.{text_of}
-use Rattle.oxc_sourcemap_steps.specs.Bodies.{HasNext}
+use Rattle.oxc_sourcemap_steps.specs.RemapSteps.{HasNext}
 use Rattle.oxc_sourcemap_steps.proofs.MovedSources.{has-next}
 use Rattle.oxc_sourcemap_steps.proofs.remap.moving.next_content.Goals as goal
 

@@ -1,6 +1,6 @@
 use Rattle.std.proofs.Common.{◌≡◌, map, option_map}
 use Rattle.std.specs.Cow.{cow_str_bytes}
-use Rattle.oxc_sourcemap_steps.specs.Bodies.{source_records}
+use Rattle.oxc_sourcemap_steps.specs.RemapSteps.{source_records}
 use Rattle.oxc_sourcemap_steps.proofs.remap.moving.split_sources.Given as goal
 
 abbrev pub invariant-loop-source : goal.invariant-loop-source

@@ -1,7 +1,7 @@
 use Rattle.std.proofs.Common.{◌∙◌, ap, map}
 use Rattle.std.proofs.lemmas.List.{map-append}
 use Rattle.std.specs.Cow.{cow_str_bytes}
-use Rattle.oxc_sourcemap_steps.specs.Bodies.{source_record, source_records}
+use Rattle.oxc_sourcemap_steps.specs.RemapSteps.{source_record, source_records}
 use Rattle.oxc_sourcemap_steps.proofs.MovedSources.{taken-more, taken-all}
 use Rattle.oxc_sourcemap_steps.proofs.remap.moving.take_sources.Goals as goal
 

@@ -2,7 +2,7 @@ use Rattle.std.proofs.Common.{◌≡◌, ◌++◌, map, option_map}
 use Rattle.std.specs.Cow.{cow_str_bytes}
 use Rattle.std.specs.Vec.Iter.{into_iter_items}
 use Rattle.oxc_sourcemap_parts.specs.DecodedMap.{sources_of}
-use Rattle.oxc_sourcemap_steps.specs.Bodies.{source_records}
+use Rattle.oxc_sourcemap_steps.specs.RemapSteps.{source_records}
 use Rattle.oxc_sourcemap_steps.proofs.remap.moving.take_sources.Given as goal
 
 -- the sources so far and those that are left

@@ -2,7 +2,7 @@ use Rattle.std.proofs.Common.{◌≡◌, ◌∙◌, ap, map, subst, sym, Ok}
 use Rattle.oxc_sourcemap_parts.specs.Record.{MapRecord}
 use Rattle.oxc_sourcemap_parts.specs.Views.{record_of_parts}
 use Rattle.oxc_sourcemap_steps.specs.Blocks.{remapped_sources}
-use Rattle.oxc_sourcemap_steps.specs.Bodies.{source_records, without_sources}
+use Rattle.oxc_sourcemap_steps.specs.RemapSteps.{source_records, without_sources}
 use Rattle.oxc_sourcemap_steps.specs.Inputs.{decoded_inputs, owned_input_records}
 use Rattle.oxc_sourcemap_steps.specs.Remapped.{SomeRemapping}
 use Rattle.oxc_sourcemap_steps.proofs.MovedSources.{put-sources}

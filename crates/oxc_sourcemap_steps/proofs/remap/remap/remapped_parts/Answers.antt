@@ -3,8 +3,8 @@ use Rattle.std.proofs.lemmas.Result.{err_from_is_err_and}
 use Rattle.oxc_sourcemap_parts.specs.Record.{Text, MapRecord}
 use Rattle.oxc_sourcemap_parts.specs.Views.{record_of_parts}
 use Rattle.oxc_sourcemap_steps.specs.Blocks.{remapped_sources}
-use Rattle.oxc_sourcemap_steps.specs.Bodies.{ready_records, AreBlocks, AreUsable, put_together}
-use Rattle.oxc_sourcemap_steps.specs.Bodies.{names_in}
+use Rattle.oxc_sourcemap_steps.specs.RemapSteps.{ready_records, AreBlocks, AreUsable, put_together}
+use Rattle.oxc_sourcemap_steps.specs.RemapSteps.{names_in}
 use Rattle.oxc_sourcemap_steps.specs.Inputs.{input_records, decoded_inputs}
 use Rattle.oxc_sourcemap_steps.specs.Remapped.{listed_sources}
 use Rattle.oxc_sourcemap_steps.specs.declared.remap.blocks.Block.{Block}

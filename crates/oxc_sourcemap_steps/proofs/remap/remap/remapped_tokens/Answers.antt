@@ -6,8 +6,8 @@ use Rattle.oxc_sourcemap_parts.specs.Views.{cow_texts}
 use Rattle.oxc_sourcemap_steps.specs.Composed.{target_of}
 use Rattle.oxc_sourcemap_steps.specs.InheritedNames.{with_inherited}
 use Rattle.oxc_sourcemap_steps.specs.Remapped.{Original, needed_name, token_to}
-use Rattle.oxc_sourcemap_steps.specs.Bodies.{block_of, block_original, IsBlockTarget, names_in}
-use Rattle.oxc_sourcemap_steps.specs.Bodies.{lent_original}
+use Rattle.oxc_sourcemap_steps.specs.RemapSteps.{block_of, block_original, IsBlockTarget, names_in}
+use Rattle.oxc_sourcemap_steps.specs.RemapSteps.{lent_original}
 use Rattle.oxc_sourcemap_steps.specs.declared.remap.blocks.Block.{Block}
 use Rattle.oxc_sourcemap_steps.proofs.Gathered.{made-more, past-all}
 use Rattle.oxc_sourcemap_steps.proofs.remap.remap.remapped_tokens.Goals as goal

@@ -6,7 +6,7 @@ use Rattle.std.specs.Option.{unwrap_or}
 use Rattle.oxc_sourcemap_parts.specs.Views.{texts_of, contents_of}
 use Rattle.oxc_sourcemap_steps.proofs.SourceBlocks.{length-sources_of}
 use Rattle.oxc_sourcemap_steps.specs.Same.{is_same_source}
-use Rattle.oxc_sourcemap_steps.specs.SimplifyBodies.{sources_in, lent_source, found_for}
+use Rattle.oxc_sourcemap_steps.specs.SimplifySteps.{sources_in, lent_source, found_for}
 use Rattle.oxc_sourcemap_steps.proofs.FirstOnes.{places-next, firsts-next}
 use Rattle.oxc_sourcemap_steps.proofs.NextNumbers.{get-of}
 use Rattle.oxc_sourcemap_steps.proofs.Same.{decides_source}
@@ -24,9 +24,9 @@ loop-i-preserved c =
     let here : i < length items = omega (arith, c.loop-i-test.true, c.len-i-end.ensures, count, parts.sources.ok.0) in
     let at = c.source_at.ensures in
     let s = lent_source key in
-    let value = c.in_ok-place_source.ensures.value in record {
-      places = λ q. places-next items i key q (found_for m key) (found_for m q) _ here at (c.in_ok-place_source.ensures.others q) (inv.places key) (inv.places q);
-      firsts = firsts-next is_same_source items i s c.loop-i.firsts.items _ c.in_ok-place_source.field-0 here (sym (get-of items i s s at)) ((decides_source s s).1 refl)
+    let value = c.in_ok-keep_source.ensures.value in record {
+      places = λ q. places-next items i key q (found_for m key) (found_for m q) _ here at (c.in_ok-keep_source.ensures.others q) (inv.places key) (inv.places q);
+      firsts = firsts-next is_same_source items i s c.loop-i.firsts.items _ c.in_ok-keep_source.field-0 here (sym (get-of items i s s at)) ((decides_source s s).1 refl)
           c.in_ok-push.ensures.items (value ∙ ap (λ o. unwrap_or o i) (inv.places key)) inv.firsts;
     }
 

@@ -1,7 +1,7 @@
 use Rattle.std.proofs.Common.{◌≡◌, map, take, Some}
 use Rattle.std.specs.List.{position_from}
 use Rattle.oxc_sourcemap_steps.specs.Same.{is_same_source}
-use Rattle.oxc_sourcemap_steps.specs.SimplifyBodies.{sources_in, lent_source, SourceKey, found_for}
+use Rattle.oxc_sourcemap_steps.specs.SimplifySteps.{sources_in, lent_source, SourceKey, found_for}
 use Rattle.oxc_sourcemap_steps.proofs.simplify.firsts.first_hashed_sources.Given as goal
 
 abbrev pub invariant-loop-i : goal.invariant-loop-i

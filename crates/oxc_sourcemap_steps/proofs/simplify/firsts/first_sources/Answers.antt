@@ -1,7 +1,7 @@
 use Rattle.std.proofs.Common.{◌≡◌, ◌<◌, ℕ, subst, length, get_or}
 use Rattle.std.specs.Str.{bytes_eq}
 use Rattle.oxc_sourcemap_parts.specs.Views.{cow_texts, texts_of, contents_of}
-use Rattle.oxc_sourcemap_steps.specs.SimplifyBodies.{AreFirsts}
+use Rattle.oxc_sourcemap_steps.specs.SimplifySteps.{AreFirsts}
 use Rattle.oxc_sourcemap_steps.proofs.OwnFirsts.{own-firsts}
 use Rattle.oxc_sourcemap_steps.proofs.simplify.firsts.first_sources.Goals as goal
 

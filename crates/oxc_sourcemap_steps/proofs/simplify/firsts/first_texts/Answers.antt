@@ -6,7 +6,7 @@ use Rattle.std.specs.Option.{unwrap_or}
 use Rattle.std.specs.Str.{bytes_eq}
 use Rattle.oxc_sourcemap_parts.specs.Texts.{index_of}
 use Rattle.oxc_sourcemap_parts.specs.Views.{cow_texts}
-use Rattle.oxc_sourcemap_steps.proofs.KeptNames.{place_step}
+use Rattle.oxc_sourcemap_steps.proofs.KeptNames.{index_step}
 use Rattle.oxc_sourcemap_steps.proofs.FirstOnes.{firsts-more}
 use Rattle.oxc_sourcemap_steps.proofs.simplify.firsts.first_texts.Goals as goal
 
@@ -21,7 +21,7 @@ loop-i-preserved c =
     let value : c.or_insert.result.now ≡ unwrap_or (index_of x (cow_texts (take i texts))) i =
     grind (arith, text_keys, c.or_insert.ensures.value, c.in_ok-places.ensures.value, inv.places key.now, c.as_str.ensures.value) in record {
       places = λ text.
-          let step = place_step cow_str_bytes text texts i item c.loop-i-test.true c.index-texts-i.is in
+          let step = index_step cow_str_bytes text texts i item c.loop-i-test.true c.index-texts-i.is in
           grind (arith, text_keys, step, inv.places text, inv.places key.now, c.as_str.ensures.value);
       firsts = firsts-more bytes_eq cow_str_bytes texts i item c.loop-i.firsts.items _ c.or_insert.result.now c.loop-i-test.true c.index-texts-i.is
           ((bytes_eq-Decides x x).1 refl) c.in_ok-push.ensures.items value inv.firsts;

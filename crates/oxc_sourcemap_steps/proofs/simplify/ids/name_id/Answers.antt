@@ -2,11 +2,11 @@ use Rattle.std.proofs.Common.{◌≡◌, ◌∙◌, sym, ap, min, length, slice_
 use Rattle.std.proofs.Common.{map, option_map, List}
 use Rattle.std.proofs.lemmas.List.{length-map}
 use Rattle.std.specs.Option.{option_and_then, unwrap_or}
-use Rattle.oxc_sourcemap_steps.specs.SimplifyBodies.{listed_once}
+use Rattle.oxc_sourcemap_steps.specs.SimplifySteps.{listed_once}
 use Rattle.oxc_sourcemap_steps.specs.declared.simplify.sources.Source.{Source}
 use Rattle.oxc_sourcemap_steps.proofs.NewIds.{hit, miss, within, read-at, at-get, needed-ids}
 use Rattle.oxc_sourcemap_steps.proofs.NewIds.{needed-order, needed-id, needed-error}
-use Rattle.oxc_sourcemap_steps.proofs.Tables.{get-map}
+use Rattle.oxc_sourcemap_steps.proofs.SimplifyTables.{get-map}
 use Rattle.oxc_sourcemap_steps.proofs.simplify.ids.name_id.Goals as goal
 
 pub returns-in-Some-clause-order : goal.returns-in-Some-clause-order

@@ -2,7 +2,7 @@ use Rattle.std.proofs.Common.{◌≡◌, ◌∙◌, ◌+◌, ◌∷◌, ap, subs
 use Rattle.std.proofs.Common.{◌++◌, map}
 use Rattle.std.proofs.lemmas.List.{drop_more}
 use Rattle.oxc_sourcemap_parts.specs.Views.{text_of, contents_of}
-use Rattle.oxc_sourcemap_steps.specs.SimplifyBodies.{AreApart}
+use Rattle.oxc_sourcemap_steps.specs.SimplifySteps.{AreApart}
 use Rattle.oxc_sourcemap_steps.proofs.Moved.{moved-more}
 use Rattle.oxc_sourcemap_steps.proofs.simplify.moves.move_contents.Goals as goal
 

@@ -1,7 +1,7 @@
 use Rattle.std.proofs.Common.{◌≡◌, ◌+◌, ◌++◌, ◌≤◌, None, map, length, drop, get_or, vec_len}
 use Rattle.std.specs.Vec.{vec_capacity}
 use Rattle.oxc_sourcemap_parts.specs.Views.{contents_of}
-use Rattle.oxc_sourcemap_steps.specs.SimplifyBodies.{AreApart}
+use Rattle.oxc_sourcemap_steps.specs.SimplifySteps.{AreApart}
 use Rattle.oxc_sourcemap_steps.proofs.simplify.moves.move_contents.Given as goal
 
 abbrev pub invariant-loop-k : goal.invariant-loop-k

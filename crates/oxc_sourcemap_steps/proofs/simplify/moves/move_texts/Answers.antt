@@ -3,7 +3,7 @@ use Rattle.std.proofs.Common.{get_or, drop}
 use Rattle.std.proofs.lemmas.List.{drop_more}
 use Rattle.std.specs.Cow.{cow_str_bytes}
 use Rattle.std.specs.List.{AllByRecursion}
-use Rattle.oxc_sourcemap_steps.specs.SimplifyBodies.{AreApart}
+use Rattle.oxc_sourcemap_steps.specs.SimplifySteps.{AreApart}
 use Rattle.oxc_sourcemap_steps.proofs.Moved.{get-seen, moved-more}
 use Rattle.oxc_sourcemap_steps.proofs.NextNumbers.{count-set}
 use Rattle.oxc_sourcemap_steps.proofs.simplify.moves.move_texts.Goals as goal

@@ -2,7 +2,7 @@ use Rattle.std.proofs.Common.{◌≡◌, ◌+◌, ◌++◌, ◌<◌, ◌≤◌, 
 use Rattle.std.specs.List.{AllByRecursion}
 use Rattle.std.specs.Vec.{vec_capacity}
 use Rattle.oxc_sourcemap_parts.specs.Views.{texts_of}
-use Rattle.oxc_sourcemap_steps.specs.SimplifyBodies.{AreApart}
+use Rattle.oxc_sourcemap_steps.specs.SimplifySteps.{AreApart}
 use Rattle.oxc_sourcemap_steps.proofs.simplify.moves.move_texts.Given as goal
 
 abbrev pub invariant-loop-k : goal.invariant-loop-k

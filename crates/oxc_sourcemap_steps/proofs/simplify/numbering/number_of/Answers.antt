@@ -1,5 +1,5 @@
 use Rattle.std.proofs.Common.{◌<◌, subst, length}
-use Rattle.oxc_sourcemap_steps.specs.SimplifyBodies.{IsBelow}
+use Rattle.oxc_sourcemap_steps.specs.SimplifySteps.{IsBelow}
 use Rattle.oxc_sourcemap_steps.proofs.NextNumbers.{place-small}
 use Rattle.oxc_sourcemap_steps.proofs.simplify.numbering.number_of.Goals as goal
 

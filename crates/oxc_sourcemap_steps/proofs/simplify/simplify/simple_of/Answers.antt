@@ -7,12 +7,12 @@ use Rattle.std.specs.Str.{bytes_eq}
 use Rattle.oxc_sourcemap_parts.specs.Sorted.{token_line, token_column}
 use Rattle.oxc_sourcemap_parts.specs.Views.{record_of_parts}
 use Rattle.oxc_sourcemap_steps.specs.Blocks.{flags_of, unless_empty}
-use Rattle.oxc_sourcemap_steps.specs.Bodies.{set_from}
+use Rattle.oxc_sourcemap_steps.specs.RemapSteps.{set_from}
 use Rattle.oxc_sourcemap_steps.proofs.SourceBlocks.{count-flags}
 use Rattle.oxc_sourcemap_steps.specs.Simple.{found_items}
 use Rattle.oxc_sourcemap_steps.specs.Simplified.{found_tokens}
-use Rattle.oxc_sourcemap_steps.specs.SimplifyBodies.{kept_from, with_all, with_name, with_source}
-use Rattle.oxc_sourcemap_steps.specs.SimplifyBodies.{target_by, token_to, AreTooMany, listed_once}
+use Rattle.oxc_sourcemap_steps.specs.SimplifySteps.{kept_from, with_all, with_name, with_source}
+use Rattle.oxc_sourcemap_steps.specs.SimplifySteps.{target_by, token_to, AreTooMany, listed_once}
 use Rattle.oxc_sourcemap_steps.proofs.Assembled.{too-much, it-fits, count-table, count-firsts}
 use Rattle.oxc_sourcemap_steps.proofs.Assembled.{name-order, source-order, tokens-are, names-back}
 use Rattle.oxc_sourcemap_steps.proofs.Assembled.{sources-back, contents-back, ignored-back}
@@ -31,8 +31,8 @@ returns-in_err-tokens-clause-error c =
           ⊎ (list_all (λ t. nat_le t.dst_col 4294967295) (kept_from tables None false ts) ≡ false)) found q.1),
     ))
 
-pub ignored_places-requires-clause-within : goal.ignored_places-requires-clause-within
-ignored_places-requires-clause-within c =
+pub ignored_indices-requires-clause-within : goal.ignored_indices-requires-clause-within
+ignored_indices-requires-clause-within c =
     let r = record_of_parts c.args.parts.now in
     let made = c.in_ok-tokens.ensures.numbers.sources in
     let count = ap length c.as_slice-3.ensures.value ∙ ap length c.in_ok-flags.ensures ∙ sym (count-table r c.in_ok-tables.tables c.in_ok-tables.ensures.tables) ∙ sym made.count in

@@ -4,7 +4,7 @@ use Rattle.std.specs.Str.{bytes_eq}
 use Rattle.oxc_sourcemap_parts.specs.Views.{cow_texts, record_of_parts, texts_of, contents_of}
 use Rattle.oxc_sourcemap_steps.proofs.SourceBlocks.{count-flags, length-sources_of}
 use Rattle.oxc_sourcemap_steps.specs.Same.{is_same_source}
-use Rattle.oxc_sourcemap_steps.specs.SimplifyBodies.{AreFirsts, source_by, sources_in}
+use Rattle.oxc_sourcemap_steps.specs.SimplifySteps.{AreFirsts, source_by, sources_in}
 use Rattle.oxc_sourcemap_steps.proofs.Assembled.{count-firsts, firsts-within, sources-table}
 use Rattle.oxc_sourcemap_steps.proofs.Assembled.{tables-within}
 use Rattle.oxc_sourcemap_steps.proofs.simplify.simplify.tables_of.Goals as goal

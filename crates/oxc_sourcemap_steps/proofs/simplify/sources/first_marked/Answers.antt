@@ -5,7 +5,7 @@ use Rattle.std.specs.Bool.{beq}
 use Rattle.std.specs.List.{zip}
 use Rattle.std.specs.Option.{option_or}
 use Rattle.oxc_sourcemap_steps.proofs.Indices.{take-one}
-use Rattle.oxc_sourcemap_steps.specs.SimplifyBodies.{first_marked}
+use Rattle.oxc_sourcemap_steps.specs.SimplifySteps.{first_marked}
 use Rattle.oxc_sourcemap_steps.proofs.FirstOnes.{zip-at, count-zip, all-at}
 use Rattle.oxc_sourcemap_steps.proofs.NextNumbers.{marked-more, count-set, get-same}
 use Rattle.oxc_sourcemap_steps.proofs.simplify.sources.first_marked.Goals as goal

@@ -1,6 +1,6 @@
 use Rattle.std.proofs.Common.{◌≡◌, ◌<◌, length, take, slice_get, Some, ℕ}
 use Rattle.std.specs.List.{zip}
-use Rattle.oxc_sourcemap_steps.specs.SimplifyBodies.{first_marked}
+use Rattle.oxc_sourcemap_steps.specs.SimplifySteps.{first_marked}
 use Rattle.oxc_sourcemap_steps.proofs.simplify.sources.first_marked.Given as goal
 
 abbrev pub invariant-loop-i : goal.invariant-loop-i

@@ -3,7 +3,7 @@ use Rattle.std.proofs.Common.{take, slice_get, Some, Bool, true, false, ℕ, Opt
 use Rattle.std.proofs.lemmas.List.{map-append, take_all}
 use Rattle.std.specs.List.{zip}
 use Rattle.oxc_sourcemap_steps.proofs.Indices.{take-one}
-use Rattle.oxc_sourcemap_steps.specs.SimplifyBodies.{first_marked, source_by}
+use Rattle.oxc_sourcemap_steps.specs.SimplifySteps.{first_marked, source_by}
 use Rattle.oxc_sourcemap_steps.specs.declared.simplify.sources.Source.{Source}
 use Rattle.oxc_sourcemap_steps.proofs.FirstOnes.{zip-at, count-zip, all-at}
 use Rattle.oxc_sourcemap_steps.proofs.NextNumbers.{get-of, get-same}

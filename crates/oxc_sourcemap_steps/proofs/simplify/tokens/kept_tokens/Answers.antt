@@ -1,21 +1,25 @@
 use Rattle.std.proofs.Common.{◌≡◌, ◌∙◌, ◌+◌, ◌∷◌, [], sym, ap, subst, drop, true, false, ◌&&◌}
 use Rattle.std.proofs.Common.{arith, refl, ◌==◌, ◌≤◌, ◌≢◌, Some, length, Result, Ok, Err, IfErr}
 use Rattle.std.specs.Result.{IsErrAnd}
-use Rattle.oxc_sourcemap_tokens.specs.declared.error.Error.{Error}
-use Rattle.oxc_sourcemap_tokens.specs.declared.error.Error.TheVariants.{OutOfMemory, TooLarge}
-use Rattle.oxc_sourcemap_tokens.specs.declared.plan_error.PlanError.{PlanError}
-use Rattle.oxc_sourcemap_tokens.specs.declared.plan_error.PlanError.TheVariants.{Map, Unsorted}
+use Rattle.oxc_sourcemap_tokens.specs.declared.errors.error.Error.{Error}
+use Rattle.oxc_sourcemap_tokens.specs.declared.errors.error.Error.TheVariants.{OutOfMemory}
+use Rattle.oxc_sourcemap_tokens.specs.declared.errors.error.Error.TheVariants.{TooLarge}
+use Rattle.oxc_sourcemap_tokens.specs.declared.errors.plan_error.PlanError.{PlanError}
+use Rattle.oxc_sourcemap_tokens.specs.declared.errors.plan_error.PlanError.TheVariants.{Map}
+use Rattle.oxc_sourcemap_tokens.specs.declared.errors.plan_error.PlanError.TheVariants.{Unsorted}
 use Rattle.std.proofs.lemmas.Grind.{common_steps}
 use Rattle.std.proofs.lemmas.List.{drop_more, drop_all}
 use Rattle.oxc_sourcemap_parts.specs.Sorted.{token_line, token_column}
 use Rattle.oxc_sourcemap_tokens.specs.Results.{lent_item}
 use Rattle.oxc_sourcemap_tokens.specs.Token.{TokenRecord}
 use Rattle.oxc_sourcemap_steps.specs.Simple.{found_items}
-use Rattle.oxc_sourcemap_steps.specs.SimplifyBodies.{with_all, with_source, with_name, is_behind}
-use Rattle.oxc_sourcemap_steps.specs.SimplifyBodies.{is_before, position_of, repeats_by}
-use Rattle.oxc_sourcemap_steps.proofs.Found.{next-of, next-at}
-use Rattle.oxc_sourcemap_steps.proofs.Walk.{Walk, walk-start, walk-end, walk-hidden, walk-next}
-use Rattle.oxc_sourcemap_steps.proofs.Walk.{walk-error, goes-back, behind-is, lent-some, lent-at}
+use Rattle.oxc_sourcemap_steps.specs.SimplifySteps.{with_all, with_source, with_name, is_behind}
+use Rattle.oxc_sourcemap_steps.specs.SimplifySteps.{is_before, position_of, repeats_by}
+use Rattle.oxc_sourcemap_steps.proofs.SimplifyFound.{next-of, next-at}
+use Rattle.oxc_sourcemap_steps.proofs.SimplifyWalk.{Walk, walk-start, walk-end, walk-hidden}
+use Rattle.oxc_sourcemap_steps.proofs.SimplifyWalk.{walk-next}
+use Rattle.oxc_sourcemap_steps.proofs.SimplifyWalk.{walk-error, goes-back, behind-is, lent-some}
+use Rattle.oxc_sourcemap_steps.proofs.SimplifyWalk.{lent-at}
 use Rattle.oxc_sourcemap_steps.proofs.simplify.tokens.kept_tokens.Goals as goal
 use Rattle.oxc_sourcemap_steps.proofs.simplify.tokens.kept_tokens.Goals.{then-not-is_hidden+in_ok-repeats}
 use Rattle.oxc_sourcemap_steps.proofs.simplify.tokens.kept_tokens.Goals.{else-not-is_hidden}
@@ -43,8 +47,8 @@ returns-then-position-last-clause-unsorted c = λ _.
     let split : drop i tokens ≡ t ∷ rest = drop_more tokens i t c.loop-i-test.true ∙ ap (λ (u : TokenRecord). u ∷ rest) (sym c.index-tokens-i.is) in
     let w = c.loop-i.invariant.walk in
     sym w.sorted
-    ∙ goes-back (lent_item c.loop-i.previous) t rest (drop i tokens) split c.position_of-position.ensures.below w.low
-    (omega (arith, c.if-position-last.true, c.position_of-position.ensures.position, c.loop-i.invariant.last))
+    ∙ goes-back (lent_item c.loop-i.previous) t rest (drop i tokens) split c.token_position-position.ensures.below w.low
+    (omega (arith, c.if-position-last.true, c.token_position-position.ensures.position, c.loop-i.invariant.last))
 
 pub returns-in_err-repeats-clause-error : goal.returns-in_err-repeats-clause-error
 returns-in_err-repeats-clause-error c =
@@ -59,8 +63,8 @@ returns-in_err-repeats-clause-error c =
     let ns = with_all (with_name tables) [] (found_items token_line token_column tokens) in
     let split : drop i tokens ≡ t ∷ rest = drop_more tokens i t c.loop-i-test.true ∙ ap (λ (u : TokenRecord). u ∷ rest) (sym c.index-tokens-i.is) in
     let w = c.loop-i.invariant.walk in
-    let at = c.position_of-position.ensures in
-    let behind : (c.position_of-position.result == c.loop-i.last && c.is_some.result) ≡ is_behind p t =
+    let at = c.token_position-position.ensures in
+    let behind : (c.token_position-position.result == c.loop-i.last && c.is_some.result) ≡ is_behind p t =
     ap (λ n. n == c.loop-i.last && c.is_some.result) at.position ∙ ap (λ n. position_of (Some t) == n && c.is_some.result) c.loop-i.invariant.last
     ∙ ap (λ b. position_of (Some t) == position_of p && b) (c.is_some.ensures ∙ lent-some c.loop-i.previous) ∙ behind-is p t at.below w.low in
     let next : lent_item c.get.result ≡ next-of rest =
@@ -85,8 +89,8 @@ loop-i-preserved c =
     let ns = with_all (with_name tables) [] (found_items token_line token_column tokens) in
     let split : drop i tokens ≡ t ∷ rest = drop_more tokens i t c.loop-i-test.true ∙ ap (λ (u : TokenRecord). u ∷ rest) (sym c.index-tokens-i.is) in
     let w = c.loop-i.invariant.walk in
-    let at = c.position_of-position.ensures in
-    let behind : (c.position_of-position.result == c.loop-i.last && c.is_some.result) ≡ is_behind p t =
+    let at = c.token_position-position.ensures in
+    let behind : (c.token_position-position.result == c.loop-i.last && c.is_some.result) ≡ is_behind p t =
     ap (λ n. n == c.loop-i.last && c.is_some.result) at.position ∙ ap (λ n. position_of (Some t) == n && c.is_some.result) c.loop-i.invariant.last
     ∙ ap (λ b. position_of (Some t) == position_of p && b) (c.is_some.ensures ∙ lent-some c.loop-i.previous) ∙ behind-is p t at.below w.low in
     let next : lent_item c.get.result ≡ next-of rest =

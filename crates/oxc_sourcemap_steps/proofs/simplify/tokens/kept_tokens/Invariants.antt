@@ -3,9 +3,9 @@ use Rattle.std.specs.Vec.{vec_capacity}
 use Rattle.oxc_sourcemap_parts.specs.Sorted.{token_line, token_column}
 use Rattle.oxc_sourcemap_tokens.specs.Results.{lent_item}
 use Rattle.oxc_sourcemap_steps.specs.Simple.{found_items}
-use Rattle.oxc_sourcemap_steps.specs.SimplifyBodies.{AreNumbers, with_all, with_source, with_name}
-use Rattle.oxc_sourcemap_steps.specs.SimplifyBodies.{position_of}
-use Rattle.oxc_sourcemap_steps.proofs.Walk.{Walk}
+use Rattle.oxc_sourcemap_steps.specs.SimplifySteps.{AreNumbers, with_all, with_source, with_name}
+use Rattle.oxc_sourcemap_steps.specs.SimplifySteps.{position_of}
+use Rattle.oxc_sourcemap_steps.proofs.SimplifyWalk.{Walk}
 use Rattle.oxc_sourcemap_steps.proofs.simplify.tokens.kept_tokens.Given as goal
 
 abbrev pub invariant-loop-i : goal.invariant-loop-i

@@ -1,6 +1,6 @@
 use Rattle.std.proofs.Common.{◌≡◌, ◌∙◌, sym, arith, map, length}
 use Rattle.std.proofs.lemmas.List.{length-map}
-use Rattle.oxc_sourcemap_steps.specs.SimplifyBodies.{listed_once}
+use Rattle.oxc_sourcemap_steps.specs.SimplifySteps.{listed_once}
 use Rattle.oxc_sourcemap_steps.proofs.NewIds.{no-new-ids}
 use Rattle.oxc_sourcemap_steps.proofs.simplify.tokens.none_kept.Goals as goal
 

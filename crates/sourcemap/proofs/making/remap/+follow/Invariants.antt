@@ -2,8 +2,8 @@
 use Rattle.std.proofs.Common.{ℕ, ◌+◌, ◌*◌}
 use Rattle.sourcemap.proofs.making.remap.+follow.Given as goal
 
-abbrev pub decreases-followed : goal.decreases-followed
-decreases-followed l = 3 * l.depth + 2
+abbrev pub decreases-follow_sources : goal.decreases-follow_sources
+decreases-follow_sources l = 3 * l.depth + 2
 
 abbrev pub decreases-inputs_of : goal.decreases-inputs_of
 decreases-inputs_of l = 3 * l.depth + 1

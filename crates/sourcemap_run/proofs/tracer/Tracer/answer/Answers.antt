@@ -1,6 +1,6 @@
 use Rattle.std.proofs.Common.{◌∙◌}
-use Rattle.sourcemap_run.proofs.Places.{pointed_said}
+use Rattle.sourcemap_run.proofs.Places.{pointed_answer}
 use Rattle.sourcemap_run.proofs.tracer.Tracer.answer.Goals as goal
 
 pub returns : goal.returns
-returns c = c.answer_by.ensures ∙ pointed_said c.args.bias c.args.self.now c.args.position.line c.args.position.column
+returns c = c.answer_by.ensures ∙ pointed_answer c.args.bias c.args.self.now c.args.position.line c.args.position.column

@@ -1,7 +1,7 @@
 use Rattle.std.proofs.Common.{◌≡◌, ◌∙◌, ◌∷◌, drop, get_or, sym, arith}
 use Rattle.json.specs.Token.{string}
 use Rattle.json.specs.Lex.{between, lex, token}
-use Rattle.oxc_sourcemap_json.specs.Plain.{MayBegin, MayClose}
+use Rattle.oxc_sourcemap_json.specs.PlainReader.{MayBegin, MayClose}
 use Rattle.oxc_sourcemap_json.proofs.PlainTokens.{key_read, object_closed}
 use Rattle.oxc_sourcemap_json.proofs.object.plain.PlainReader.next_key.Goals as goal
 

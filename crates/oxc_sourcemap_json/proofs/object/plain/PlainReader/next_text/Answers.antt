@@ -1,7 +1,7 @@
 use Rattle.std.proofs.Common.{◌≡◌, ◌∙◌, ◌∷◌, drop, get_or, string_bytes, IfSome, sym, subst, arith}
 use Rattle.json.specs.Token.{string}
 use Rattle.json.specs.Lex.{between, lex, token}
-use Rattle.oxc_sourcemap_json.specs.Plain.{MayBegin, EndsValue}
+use Rattle.oxc_sourcemap_json.specs.PlainReader.{MayBegin, EndsValue}
 use Rattle.oxc_sourcemap_json.proofs.PlainTokens.{value_read}
 use Rattle.oxc_sourcemap_json.proofs.object.plain.PlainReader.next_text.Goals as goal
 

@@ -1,5 +1,5 @@
 use Rattle.std.proofs.Common.{◌≡◌, ◌∙◌, get_or, sym, arith}
-use Rattle.oxc_sourcemap_json.specs.Plain.{MayBegin}
+use Rattle.oxc_sourcemap_json.specs.PlainReader.{MayBegin}
 use Rattle.oxc_sourcemap_json.proofs.PlainTokens.{opened}
 use Rattle.oxc_sourcemap_json.proofs.object.plain.PlainReader.open.Goals as goal
 

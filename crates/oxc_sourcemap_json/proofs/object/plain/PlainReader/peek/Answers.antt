@@ -1,7 +1,7 @@
 use Rattle.std.proofs.Common.{◌≡◌, ◌+◌, ◌∙◌, get_or, drop, sym, ap, arith}
 use Rattle.json.specs.Lex.{between, lex}
 use Rattle.oxc_sourcemap_json.specs.declared.object.plain.Place.TheVariants.{AfterValue}
-use Rattle.oxc_sourcemap_json.specs.Plain.{tokens_at}
+use Rattle.oxc_sourcemap_json.specs.PlainReader.{tokens_at}
 use Rattle.oxc_sourcemap_json.proofs.PlainTokens.{comma_passed}
 use Rattle.oxc_sourcemap_json.proofs.object.plain.PlainReader.peek.Goals as goal
 

@@ -1,5 +1,5 @@
 use Rattle.std.proofs.Common.{◌≡◌, ◌∙◌, get_or, sym, arith}
-use Rattle.oxc_sourcemap_json.specs.Plain.{MayClose}
+use Rattle.oxc_sourcemap_json.specs.PlainReader.{MayClose}
 use Rattle.oxc_sourcemap_json.proofs.PlainTokens.{list_closed}
 use Rattle.oxc_sourcemap_json.proofs.object.plain.PlainReader.take_end_array.Goals as goal
 

@@ -1,5 +1,5 @@
 use Rattle.std.proofs.Common.{◌≡◌, ◌+◌, ◌∙◌, get_or, sym, subst, arith}
-use Rattle.oxc_sourcemap_json.specs.Plain.{MayBegin, EndsValue}
+use Rattle.oxc_sourcemap_json.specs.PlainReader.{MayBegin, EndsValue}
 use Rattle.oxc_sourcemap_json.proofs.PlainTokens.{three_read}
 use Rattle.oxc_sourcemap_json.proofs.object.plain.PlainReader.take_three.Goals as goal
 

@@ -2,9 +2,10 @@ use Rattle.std.proofs.Common.{◌≡◌, true, string_bytes, option_map, Some, N
 use Rattle.std.proofs.Common.{◌∙◌, arith}
 use Rattle.std.specs.Prelude.{if◌then◌else◌}
 use Rattle.serde_json.specs.Find.{get_member}
-use Rattle.oxc_sourcemap_tokens.specs.declared.error.Field.TheVariants.{File, Mappings, SourceRoot}
-use Rattle.oxc_sourcemap_tokens.specs.declared.error.Field.TheVariants.{Sources, SourcesContent}
-use Rattle.oxc_sourcemap_tokens.specs.declared.error.Field.TheVariants.{DebugId}
+use Rattle.oxc_sourcemap_tokens.specs.declared.errors.error.Field.TheVariants.{File, Mappings}
+use Rattle.oxc_sourcemap_tokens.specs.declared.errors.error.Field.TheVariants.{SourceRoot, Sources}
+use Rattle.oxc_sourcemap_tokens.specs.declared.errors.error.Field.TheVariants.{SourcesContent}
+use Rattle.oxc_sourcemap_tokens.specs.declared.errors.error.Field.TheVariants.{DebugId}
 use Rattle.oxc_sourcemap_json.specs.Shape.{version_of, ignore_list_of, required, optional, present}
 use Rattle.oxc_sourcemap_json.specs.Shape.{text_in, texts_in, contents_in, names_of}
 use Rattle.oxc_sourcemap_json.specs.Words.{texts_of, contents_of, number, unsigned, string}

@@ -6,5 +6,5 @@ use Rattle.oxc_sourcemap_map.proofs.reverse.source_index.SourceIndex.search_at.G
 pub returns-clause-found : goal.returns-clause-found
 returns-clause-found c =
     let same : c.self.inside.tokens.now ≡ c.args.self.now = cc (c.self.view_is) in
-    exactly_there c.args.source_id c.args.line c.args.col c.place_number-place.result _ c.between.result (omega (arith, c.ranges.line)) (omega (arith, c.ranges.col)) c.place_number-place.ensures.value
-    (subst (λ ts. AreInBounds ts) same c.self.invariant.in_bounds) c.between.ensures.only (c.between.ensures.each c.place_number-place.result (omega arith) (omega arith))
+    exactly_there c.args.source_id c.args.line c.args.col c.original_number-place.result _ c.between.result (omega (arith, c.ranges.line)) (omega (arith, c.ranges.col)) c.original_number-place.ensures.value
+    (subst (λ ts. AreInBounds ts) same c.self.invariant.in_bounds) c.between.ensures.only (c.between.ensures.each c.original_number-place.result (omega arith) (omega arith))

@@ -1,0 +1,237 @@
+//! What C reads: borrowed bytes, and structs of numbers and borrowed bytes.
+ghost use Rattle.std.specs.Prelude.{◌≡◌, [], length, Option, Some, None, slice_get};
+ghost use Rattle.std.specs.Option.{unwrap_or};
+ghost use Rattle.std.specs.Ptr.{as_ptr, null_ptr};
+ghost use Rattle.oxc_sourcemap_handles.specs.Words.{view_of, view_name, view_original, HasOriginal};
+ghost use Rattle.oxc_sourcemap_handles.specs.Words.{number_or_none, numbers_of, no_numbers};
+ghost use Rattle.oxc_sourcemap_handles.specs.Words.{lent_item, index_number, IsSeen, HasContent};
+ghost use Rattle.oxc_sourcemap_handles.specs.Words.{piece_numbers};
+
+use oxc_sourcemap_map::{SourceMap, SourceViewToken};
+use oxc_sourcemap_queries::Piece;
+use oxc_sourcemap_tokens::{Position, Token};
+use std::ptr::null;
+
+/// Bytes borrowed from what a handle holds, for C alone: nothing here reads them.
+#[repr(C)]
+#[derive(Drop)]
+pub struct Text {
+    pub at: *const u8,
+    pub len: usize,
+}
+
+impl Text {
+    /// The address and the length of these bytes.
+    pub fn of(bytes: &[u8]) -> Text
+        ensures { (result.at ≡ as_ptr bytes.entry) × (result.len ≡ length bytes.now) }
+    {
+        let at = bytes.as_ptr();
+        let len = bytes.len();
+        Text { at, len }
+    }
+
+    /// No text: no address, and the length 0.
+    fn none() -> Text
+        ensures { (result.at ≡ null_ptr) × (result.len ≡ 0) }
+    {
+        Text { at: null(), len: 0 }
+    }
+
+    /// A content, or no text if it is not known.
+    pub fn of_content(content: Option<&str>) -> Text
+        ensures { HasContent result (lent_item content.entry) }
+    {
+        match content {
+            Some(text) => Text::of(text.as_bytes()),
+            None => Text::none(),
+        }
+    }
+
+    /// A text, or an empty one if there is none.
+    #[inline(always)]
+    fn of_option(text: Option<&str>) -> Text
+        ensures { result.len ≡ length (unwrap_or (lent_item text.entry) []) }
+    {
+        match text {
+            Some(text) => Text::of(text.as_bytes()),
+            None => Text::of(&[]),
+        }
+    }
+}
+
+/// An id as a number, 4294967295 for none.
+fn number_or_none(id: Option<u32>) -> u32
+    ensures { result ≡ number_or_none id }
+{
+    match id {
+        Some(id) => id,
+        None => 4294967295,
+    }
+}
+
+/// The index of a token as a number, 4294967295 for none, and for one that is not below it.
+pub fn index_or_none(index: Option<usize>) -> u32
+    ensures { result ≡ index_number index }
+{
+    match index {
+        Some(index) => index.min(4294967295) as u32,
+        None => 4294967295,
+    }
+}
+
+/// The six numbers of a token; 4294967295 stands for no id.
+#[repr(C)]
+#[derive(Clone, Copy)]
+pub struct TokenNumbers {
+    pub dst_line: u32,
+    pub dst_col: u32,
+    pub src_line: u32,
+    pub src_col: u32,
+    pub source_id: u32,
+    pub name_id: u32,
+}
+
+impl TokenNumbers {
+    /// The numbers of no token.
+    fn none() -> TokenNumbers
+        ensures { result ≡ no_numbers }
+    {
+        TokenNumbers {
+            dst_line: 0,
+            dst_col: 0,
+            src_line: 0,
+            src_col: 0,
+            source_id: 4294967295,
+            name_id: 4294967295,
+        }
+    }
+
+    /// The numbers of a token.
+    pub fn of(token: &Token) -> TokenNumbers
+        ensures { result ≡ numbers_of token.now }
+    {
+        TokenNumbers {
+            dst_line: token.get_dst_line(),
+            dst_col: token.get_dst_col(),
+            src_line: token.get_src_line(),
+            src_col: token.get_src_col(),
+            source_id: number_or_none(token.get_source_id()),
+            name_id: number_or_none(token.get_name_id()),
+        }
+    }
+}
+
+/// How many entries the lists of a map have, how many lines up to that of the last token, and how many bytes of memory the map and
+/// its indices hold.
+#[repr(C)]
+#[derive(Clone, Copy)]
+pub struct Counts {
+    pub tokens: usize,
+    pub names: usize,
+    pub sources: usize,
+    pub source_contents: usize,
+    pub ignore_list: usize,
+    pub lines: usize,
+    pub bytes: usize,
+}
+
+/// What a map says of a generated position. The kind is 0 for no token, 1 for an unmapped one, 2 for an original position and 3
+/// for one with a name. A missing text is empty, a missing id or index 4294967295.
+#[repr(C)]
+#[derive(Drop)]
+pub struct Original {
+    pub kind: u32,
+    pub index: u32,
+    pub token: TokenNumbers,
+    pub source: Text,
+    pub name: Text,
+}
+
+impl Original {
+    /// The answer if there is no token.
+    #[inline(always)]
+    pub fn nothing() -> Original
+        ensures kind { HasOriginal result None }
+        ensures index { result.index ≡ 4294967295 }
+        ensures token { result.token ≡ no_numbers }
+    {
+        Original {
+            kind: 0,
+            index: 4294967295,
+            token: TokenNumbers::none(),
+            source: Text::of_option(None),
+            name: Text::of_option(None),
+        }
+    }
+
+    /// Writes the source and the name of a token, as a view of its map has them, and the kind that follows from these.
+    // Each is written where it is found, and not gathered first: so the usual lookup saves few registers.
+    #[inline(always)]
+    fn write_texts(&mut self, view: &SourceViewToken<'_, '_>)
+        ensures kept { (self.new.index ≡ self.old.index) × (self.new.token ≡ self.old.token) }
+        ensures name { self.new.name.len ≡ length (unwrap_or (view_name (view_of view.now)) []) }
+        ensures original { self.old.token.src_line ≡ (view_of view.now).token.src_line
+            → self.old.token.src_col ≡ (view_of view.now).token.src_col
+            → HasOriginal self.new (Some (view_original (view_of view.now))) }
+    {
+        match view.get_source() {
+            Some(source) => {
+                self.source = Text::of(source.as_bytes());
+                match view.get_name() {
+                    Some(name) => {
+                        self.name = Text::of(name.as_bytes());
+                        self.kind = 3;
+                    }
+                    None => {
+                        self.name = Text::of(&[]);
+                        self.kind = 2;
+                    }
+                }
+            }
+            None => {
+                self.source = Text::of(&[]);
+                self.name = Text::of_option(view.get_name());
+                self.kind = 1;
+            }
+        }
+    }
+
+    /// Writes what the token at this index of a map says.
+    #[inline(always)]
+    pub fn write(&mut self, index: usize, token: Token, map: &SourceMap<'static>)
+        requires { slice_get map.now.tokens index ≡ Some token }
+        ensures { IsSeen map.now (Some index) self.new }
+    {
+        self.index = index_or_none(Some(index));
+        self.token = TokenNumbers::of(&token);
+        self.write_texts(&SourceViewToken::new(token, map));
+    }
+}
+
+/// A piece of a range of generated code, and the index of its token; 4294967295 stands for none.
+#[repr(C)]
+#[derive(Clone, Copy)]
+pub struct PieceNumbers {
+    pub begin: Position,
+    pub end: Position,
+    pub index: u32,
+}
+
+impl PieceNumbers {
+    /// The numbers of a piece.
+    pub fn of(piece: &Piece) -> PieceNumbers
+        ensures { result ≡ piece_numbers piece.now }
+    {
+        PieceNumbers {
+            begin: Position {
+                line: piece.line,
+                column: piece.col,
+            },
+            end: Position {
+                line: piece.end_line,
+                column: piece.end_col,
+            },
+            index: index_or_none(piece.index),
+        }
+    }
+}

@@ -1,0 +1,72 @@
+//! What is shown below the help of each command: notes, and examples of its use.
+
+const TRACE: &str = "Examples:
+  sourcemap trace app.js.map 0:120
+  sourcemap trace --one-based --context 2 app.js.map 1:121
+  sourcemap trace app.js.map < positions.txt
+  sourcemap trace --reverse src/a.ts:11:4 app.js.map";
+
+const RESOLVE: &str =
+    "A frame without a map stays as it is, and so does all other text. Lines and columns count from 1, as in stack traces. Each line
+is answered as it comes. A frame names the file itself, or by its whole path one in the root; the path of a URL is what is behind its host.
+Of frames of another machine the folder is found if its path ends in the name of the root, or if two files below it are in the root.
+
+Examples:
+  sourcemap resolve --root dist trace.txt
+  node app.js 2>&1 | sourcemap resolve --root dist --explain
+  tail -f log | sourcemap resolve --prefix /usr/src/app=dist --prefix https://cdn.example/v2=public";
+
+const CHECK: &str = "Examples:
+  sourcemap check dist/*.js
+  sourcemap check --json app.js.map";
+
+const REMAP: &str = "Examples:
+  sourcemap remap app.min.js.map app.js=app.js.map -o app.map
+  sourcemap remap --follow --simplify dist/app.js.map > app.map";
+
+const BUNDLE: &str =
+    "The map is written to OUT.map, and OUT names it. Of a link OUT is the file that it leads to.
+
+Examples:
+  sourcemap bundle a.js b.js -o out.js
+  sourcemap bundle --wrap '(function () {' '})();' lib/*.js -o out.js";
+
+const DIFF: &str = "Examples:
+  sourcemap diff before.js.map after.js.map";
+
+const COVERAGE: &str = "Lines count from 1. Node writes such files into the folder NODE_V8_COVERAGE.
+
+Examples:
+  NODE_V8_COVERAGE=out node app.js && sourcemap coverage out/*.json
+  sourcemap coverage --lcov out/*.json > lcov.info";
+
+const PAGE: &str =
+    "The page has all in it: the code, the map, the report of `check`, and the library. It asks nothing of the network. It is made of
+a template: the file of --template, or of the environment variable SOURCEMAP_PAGE, or ../share/sourcemap/page.html beside the program.
+
+Examples:
+  sourcemap page dist/app.js -o app.html
+  sourcemap page app.min.js app.min.js.map --template page.html -o app.html";
+
+const COMPLETIONS: &str = "Examples:
+  sourcemap completions bash > ~/.local/share/bash-completion/completions/sourcemap";
+
+const MAN: &str = "Examples:
+  sourcemap man | man -l -";
+
+/// What is shown below the help of a command.
+pub fn examples_of(command: &str) -> &'static str {
+    match command {
+        "trace" => TRACE,
+        "resolve" => RESOLVE,
+        "check" => CHECK,
+        "remap" => REMAP,
+        "bundle" => BUNDLE,
+        "diff" => DIFF,
+        "coverage" => COVERAGE,
+        "page" => PAGE,
+        "completions" => COMPLETIONS,
+        "man" => MAN,
+        _ => "",
+    }
+}

@@ -5,7 +5,7 @@ ghost use Rattle.std.specs.Prelude.{MatchResult, Ok};
 ghost use Rattle.oxc_sourcemap_c.specs.Words.{TokenRecord, is_into, indices_on, answering};
 ghost use Rattle.oxc_sourcemap_c.specs.Words.{IsSourceOrderOf, filled, held_loaded, held_map};
 ghost use Rattle.oxc_sourcemap_c.specs.Words.{IsFirstGenerated, AreAllGenerated, HoldsOrder};
-ghost use Rattle.oxc_sourcemap_c.specs.Words.{IsIndexError, out_of_memory, OnLine, code_of, IsBack};
+ghost use Rattle.oxc_sourcemap_c.specs.Words.{IsIndexError, out_of_memory, OnLine, code_of};
 ghost use Rattle.oxc_sourcemap_c.specs.Words.{no_fault, IsErrorAs, NullHandle, HasFirst, HasAll};
 ghost use Rattle.oxc_sourcemap_c.specs.Words.{source_place};
 
@@ -174,9 +174,8 @@ fn first_answer(
 }
 
 /// The first token of the map in a handle that answers for an original position, in the direction of this number.
-pub fn generated(map: &mut Lent, at: SourcePlace, direction: u32) -> Result<FoundToken, CallError>
-    ensures found { IsFirstGenerated (held_loaded map.old.held) direction at result }
-    ensures back { IsBack map.old map.new }
+pub fn generated(map: &Lent, at: SourcePlace, direction: u32) -> Result<FoundToken, CallError>
+    ensures found { IsFirstGenerated (held_loaded map.now.held) direction at result }
 {
     let loaded = map.map()?;
     let direction = Direction::of(direction)?;
@@ -195,7 +194,7 @@ pub fn generated(map: &mut Lent, at: SourcePlace, direction: u32) -> Result<Foun
 /// or 3: at the position, at the last column up to it, at the first one from it on, or on its line.
 #[unsafe(no_mangle)]
 pub extern "C" fn proved_generated(
-    map: &mut Lent,
+    map: &Lent,
     source_id: u32,
     line: u32,
     column: u32,
@@ -203,11 +202,10 @@ pub extern "C" fn proved_generated(
     index: &mut u32,
     token: &mut TokenNumbers,
 ) -> u32
-    ensures found { HasFirst (held_loaded map.old.held) direction
+    ensures found { HasFirst (held_loaded map.now.held) direction
         (source_place source_id line column)
         result index.new token.new }
     ensures unchanged { result ≢ 0 → (index.new ≡ index.old) × (token.new ≡ token.old) }
-    ensures back { IsBack map.old map.new }
 {
     let at = SourcePlace {
         source_id,
@@ -220,13 +218,12 @@ pub extern "C" fn proved_generated(
 /// The number of tokens of the map in a handle that answer for an original position, in the direction of this number. Writes the
 /// indices of as many as there is room for.
 fn all_generated(
-    map: &mut Lent,
+    map: &Lent,
     at: SourcePlace,
     direction: u32,
     out: &mut [u32],
 ) -> Result<usize, CallError>
-    ensures found { AreAllGenerated (held_loaded map.old.held) direction at result out.old out.new }
-    ensures back { IsBack map.old map.new }
+    ensures found { AreAllGenerated (held_loaded map.now.held) direction at result out.old out.new }
 {
     let loaded = map.map()?;
     let direction = Direction::of(direction)?;
@@ -238,7 +235,7 @@ fn all_generated(
 /// and how many there are.
 #[unsafe(no_mangle)]
 pub extern "C" fn proved_all_generated(
-    map: &mut Lent,
+    map: &Lent,
     source_id: u32,
     line: u32,
     column: u32,
@@ -246,10 +243,9 @@ pub extern "C" fn proved_all_generated(
     out: &mut [u32],
     count: &mut usize,
 ) -> u32
-    ensures found { HasAll (held_loaded map.old.held) direction (source_place source_id line column)
+    ensures found { HasAll (held_loaded map.now.held) direction (source_place source_id line column)
         result out.old out.new count.new }
     ensures unchanged { result ≢ 0 → (out.new ≡ out.old) × (count.new ≡ count.old) }
-    ensures back { IsBack map.old map.new }
 {
     let at = SourcePlace {
         source_id,

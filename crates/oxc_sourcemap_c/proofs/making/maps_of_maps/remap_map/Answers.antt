@@ -12,7 +12,7 @@ use Rattle.oxc_sourcemap_c.proofs.making.maps_of_maps.remap_map.Goals as goal
 pub returns-in_err-parts-clause-error : goal.returns-in_err-parts-clause-error
 returns-in_err-parts-clause-error c =
     let e = c.in_err-parts.field-0.0 in
-    let maps = c.args.inputs.items in
+    let maps = lent_items c.args.inputs.now in
     let paths = lent_items c.args.paths.now in
     let many : length paths ≡ length maps = omega (arith, length-map c.args.paths.now (λ p. p.now)) in
     let inputs = c.in_ok-inputs.ensures ∙ ap (λ ps. by_path (lent_items ps) maps) c.as_slice.ensures.value ∙ ap (λ ts. by_path ts maps) c.in_ok-paths.ensures.texts.0 in

@@ -24,7 +24,7 @@ use Rattle.oxc_sourcemap_handles.specs.declared.numbers.call_error.CallError.The
 use Rattle.oxc_sourcemap_handles.specs.declared.numbers.call_error.CallError.TheVariants.{Lengths}
 use Rattle.oxc_sourcemap_handles.specs.CallErrors.{of_map}
 use Rattle.oxc_sourcemap_c.specs.MapsOfMaps.{all_lent, all_maps, at_places, by_path}
-use Rattle.oxc_sourcemap_c.specs.MapsOfMaps.{IsAddErrorOf}
+use Rattle.oxc_sourcemap_c.specs.MapsOfMaps.{IsAddErrorOf, IsSureJoinError}
 use Rattle.oxc_sourcemap_c.specs.MapsOfMaps.{IsJoinErrorOf, IsJoinErrorOfMaps, IsJoinOfLent}
 use Rattle.oxc_sourcemap_c.specs.MapsOfMaps.{IsJoinOfMaps}
 
@@ -209,3 +209,27 @@ pub any_default : {A : Type 0} (xs : List A) (i : ℕ) (d e : A) → i < length 
 any_default [] i d e a = absurd (omega (arith, a))
 any_default (x ∷ xs) zero d e a = refl
 any_default (x ∷ xs) (suc i) d e a = any_default xs i d e (omega (arith, a))
+
+-- ---- what a join reports whatever the memory
+sure_null_by : (o : Option (List MapRecord)) (ps : List Position) (r : CallError) → o ≡ None → MatchOption o (r ≡ NullHandle) (λ ms. (r ≡ Lengths) × (length ms ≢ length ps)) → r ≡ NullHandle
+sure_null_by None ps r e sure = sure
+sure_null_by (Some ms) ps r e sure = cc (e)
+
+pub sure_null : (hs : List Lent) (ps : List Position) (r : CallError) → all_maps (all_lent hs) ≡ None → IsSureJoinError (all_lent hs) ps r → r ≡ NullHandle
+sure_null hs ps r = sure_null_by (all_maps (all_lent hs)) ps r
+
+sure_lengths_by : (o : Option (List MapRecord)) (ps : List Position) (r : CallError) → o ≢ None → MatchOption o (r ≡ NullHandle) (λ ms. (r ≡ Lengths) × (length ms ≢ length ps)) → r ≡ Lengths
+sure_lengths_by None ps r there sure = absurd (there refl)
+sure_lengths_by (Some ms) ps r there sure = sure.0
+
+pub sure_lengths : (hs : List Lent) (ps : List Position) (r : CallError) → all_maps (all_lent hs) ≢ None → IsSureJoinError (all_lent hs) ps r → r ≡ Lengths
+sure_lengths hs ps r = sure_lengths_by (all_maps (all_lent hs)) ps r
+
+none_sure_by : (o : Option (List MapRecord)) (ps : List Position) (r : CallError) → o ≢ None → ((ms : List MapRecord) → o ≡ Some ms → length ms ≡ length ps)
+    → MatchOption o (r ≡ NullHandle) (λ ms. (r ≡ Lengths) × (length ms ≢ length ps)) → ⊥
+none_sure_by None ps r there number sure = there refl
+none_sure_by (Some ms) ps r there number sure = sure.1 (number ms refl)
+
+pub none_sure : (hs : List Lent) (ps : List Position) (r : CallError) → all_maps (all_lent hs) ≢ None → length hs ≡ length ps → IsSureJoinError (all_lent hs) ps r → ⊥
+none_sure hs ps r there number =
+    none_sure_by (all_maps (all_lent hs)) ps r there (λ ms e. same_number (all_lent hs) ms e ∙ number_of_lent hs ∙ number)

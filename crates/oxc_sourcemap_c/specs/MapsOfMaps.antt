@@ -116,3 +116,7 @@ abbrev pub IsSureComposeError : Option MapRecord → Option MapRecord → CallEr
 IsSureComposeError first second r =
     MatchOption first (r ≡ NullHandle) (λ a. MatchOption second (r ≡ NullHandle)
     (λ b. (e : Error) × (composition_fault a b ≡ Some e) × (r ≡ of_map e)))
+
+-- the same of joining what handles hold: that one holds no map, or that there are not as many positions as maps
+abbrev pub IsSureJoinError : List (Option Held) → List Position → CallError → Type 0
+IsSureJoinError hs ps r = MatchOption (all_maps hs) (r ≡ NullHandle) (λ ms. (r ≡ Lengths) × (length ms ≢ length ps))

@@ -87,7 +87,7 @@ pub use Rattle.oxc_sourcemap_c.specs.MapsOfMaps.{HoldMaps, IsComposition, IsComp
 pub use Rattle.oxc_sourcemap_c.specs.MapsOfMaps.{IsCompositionError, IsJoinErrorOf, IsAddErrorOf}
 pub use Rattle.oxc_sourcemap_c.specs.MapsOfMaps.{IsJoinOfLent, IsRemapError, IsRemapped}
 pub use Rattle.oxc_sourcemap_c.specs.MapsOfMaps.{IsRemapping, IsRemappingError, all_lent, all_maps}
-pub use Rattle.oxc_sourcemap_c.specs.MapsOfMaps.{IsSureComposeError, by_path}
+pub use Rattle.oxc_sourcemap_c.specs.MapsOfMaps.{IsSureComposeError, IsSureJoinError, by_path}
 pub use Rattle.oxc_sourcemap_steps.specs.Composed.{composition_fault}
 pub use Rattle.oxc_sourcemap_c.specs.Plans.{IsEvaluationErrorAt, IsOutcomeErrorAt, IsPlaceOfPlan}
 pub use Rattle.oxc_sourcemap_c.specs.Plans.{IsPlanErrorAt, IsPlanMap, call_error_of_run, of_plan}

@@ -90,7 +90,7 @@ module _ {M : Type 1} {𝓤 : Ura M} (𝓛 : Logic 𝓤) where
         move ! (2 ∷ 0 ∷ []) $ fjoin ! $ move ! (2 ∷ 0 ∷ []) $ fjoin ! $ fpack ! (List Val) (λ us. fsep (cell_at s Row.mir us b o) (Row.own_val d us)) vs $
         keep ! (0 ∷ []) $ by ! (upd_i 𝓤 (sem 𝓛 (part_at Row s d b o)))
 
-  shared_for : (κ life : Lft) (r : Share) (x : HeldRow.Denot) (pb po : ℕ) → ent 𝓤 (sep 𝓤 (A.bor κ (flft life r)) (sem 𝓛 (hidden_shr HeldRow life x pb po))) (H.⇛ (sem 𝓛 (hidden_shr HeldRow κ x pb po)))
+  pub shared_for : (κ life : Lft) (r : Share) (x : HeldRow.Denot) (pb po : ℕ) → ent 𝓤 (sep 𝓤 (A.bor κ (flft life r)) (sem 𝓛 (hidden_shr HeldRow life x pb po))) (H.⇛ (sem 𝓛 (hidden_shr HeldRow κ x pb po)))
   shared_for κ life r x pb po = qed 𝓛 (‵ (fbor κ (flft life r)) ∷ ‵ (hidden_shr HeldRow life x pb po) ∷ []) ∵ updating ! $
       bor_fracture ! tt (λ q. flft life q) r $ use0 𝓛 (‵ (before (life ++ κ) life)) (before-Incl 𝓛 (life ++ κ) life (meet_⊑_left life κ)) $ move ! (1 ∷ 0 ∷ []) $
       use2 𝓛 (‵ (before κ life)) (before_lent 𝓛 κ life life) $ move ! (1 ∷ []) $ unhide ! $ move ! (1 ∷ 0 ∷ []) $

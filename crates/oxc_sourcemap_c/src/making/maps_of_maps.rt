@@ -10,13 +10,13 @@ ghost use Rattle.oxc_sourcemap_c.specs.Words.{added, lent_inputs, nothing_joined
 ghost use Rattle.oxc_sourcemap_c.specs.Words.{IsMapMissing, IsAddErrorOf, IsComposingError};
 ghost use Rattle.oxc_sourcemap_c.specs.Words.{no_fault, HoldsMap, IsErrorAs};
 ghost use Rattle.oxc_sourcemap_c.specs.Words.{CallError, Error, IsSureComposeError, code_of};
+ghost use Rattle.oxc_sourcemap_c.specs.Words.{IsSureJoinError};
 ghost use Rattle.oxc_sourcemap_c.specs.Words.{composition_fault, of_map};
 
 use oxc_sourcemap_handles::{CallError, Fault, Handle, Lent, put_map, texts_of};
 use oxc_sourcemap_join::{JoinedParts, Lengths, with_lengths, with_room};
 use oxc_sourcemap_map::{OwnedSourceMap, parts_of};
-use oxc_sourcemap_parts::owned_parts;
-use oxc_sourcemap_steps::{compose_lent_parts, remap_parts};
+use oxc_sourcemap_steps::compose_lent_parts;
 use oxc_sourcemap_tokens::{Memory, Position};
 use std::alloc::Global;
 
@@ -133,7 +133,9 @@ fn with_paths<'m>(
 {
     let mut inputs = Vec::with_capacity(alloc, paths.len())?;
     for i in 0..paths.len() {
-        inputs.push((paths[i], maps[i]))?;
+        let path = paths[i];
+        let map = maps[i];
+        inputs.push((path, map))?;
     }
     Ok(inputs)
 }
@@ -155,8 +157,8 @@ fn remap_map(
     }
     let paths = texts_of(alloc, paths)?;
     let inputs = with_paths(alloc, paths.as_slice(), inputs)?;
-    let parts = remap_parts(alloc, parts_of(map), inputs.as_slice())?;
-    Ok(OwnedSourceMap::from_parts(owned_parts(alloc, parts)?))
+    let made = map.remap(alloc, inputs.as_slice())?;
+    Ok(made)
 }
 
 /// The map that is lent, led through the maps of the sources with these paths.
@@ -170,6 +172,7 @@ fn remap(
         (all_lent inputs.now)) }
     ensures error { IfErr result (λ r. (r ≢ out_of_memory) → IsRemapError map.now.held
         (lent_items paths.now) (all_lent inputs.now) r) }
+    ensures sure { (r : CallError) → IsMapMissing map.now.held r → result ≡ Err r }
 {
     let map = lent_map(map)?;
     let inputs = maps_of(alloc, inputs)?;
@@ -201,6 +204,7 @@ pub extern "C" fn proved_remap(
 fn with_lent(lengths: Lengths, map: &Lent) -> Result<Lengths, CallError>
     ensures there { OnOk result (held_map map.now.held ≢ None) }
     ensures error { IfErr result (IsMapMissing map.now.held) }
+    ensures sure { (r : CallError) → IsMapMissing map.now.held r → result ≡ Err r }
 {
     let map = lent_map(map)?;
     Ok(with_lengths(lengths, parts_of(map.as_source_map())))
@@ -262,6 +266,8 @@ fn join_all(
     ensures map { IfOk result (IsJoinOfLent (all_lent maps.now) positions.now) }
     ensures error { IfErr result (λ r. (r ≢ out_of_memory)
         → IsJoinErrorOf (all_lent maps.now) positions.now r) }
+    ensures sure { (r : CallError) → IsSureJoinError (all_lent maps.now) positions.now r
+        → result ≡ Err r }
 {
     let lengths = all_lengths(maps)?;
     if maps.len() != positions.len() {
@@ -286,6 +292,8 @@ pub extern "C" fn proved_join_all(
     ensures no_error { result ≡ 0 → fault.new ≡ no_fault }
     ensures error { result ≢ 0 → (out.new.held ≡ out.old.held)
         × IsErrorAs result fault.new (IsJoinErrorOf (all_lent maps.now) positions.now) }
+    ensures sure { (r : CallError) → IsSureJoinError (all_lent maps.now) positions.now r
+        → result ≡ code_of r }
 {
     put_map(alloc, join_all(alloc, maps, positions), out, fault)
 }

@@ -167,10 +167,10 @@ pub extern "C" fn proved_is_sound(map: &Lent, out: &mut u32) -> u32
 }
 
 /// A text of the map in a handle.
-fn text_of_map(map: &Lent, asked: Asked) -> Result<Text<'_>, CallError>
-    ensures found { IsFound result map.now.held (λ m. text_at m asked) IsText }
+fn text_of_map<'c>(map: Lent, asked: Asked) -> Result<Text<'c>, CallError>
+    ensures found { IsFound result map.held (λ m. text_at m asked) IsText }
 {
-    let loaded = map.map()?;
+    let loaded = map.into_map()?;
     match asked.text_in(loaded.map()) {
         Some(text) => Ok(Text::of(text)),
         None => Err(CallError::NoEntry),
@@ -179,8 +179,8 @@ fn text_of_map(map: &Lent, asked: Asked) -> Result<Text<'_>, CallError>
 
 /// The name with this id in a map, lent.
 #[unsafe(no_mangle)]
-pub extern "C" fn proved_get_name<'c>(map: &'c Lent, id: u32, out: &mut Text<'c>) -> u32
-    ensures found { Found result map.now.held (λ m. slice_get m.names id) (IsText out.new) }
+pub extern "C" fn proved_get_name<'c>(map: Lent, id: u32, out: &mut Text<'c>) -> u32
+    ensures found { Found result map.held (λ m. slice_get m.names id) (IsText out.new) }
     ensures unchanged { result ≢ 0 → out.new ≡ out.old }
 {
     write_found(text_of_map(map, Asked::Name(id)), out)
@@ -188,8 +188,8 @@ pub extern "C" fn proved_get_name<'c>(map: &'c Lent, id: u32, out: &mut Text<'c>
 
 /// The source with this id in a map, lent.
 #[unsafe(no_mangle)]
-pub extern "C" fn proved_get_source<'c>(map: &'c Lent, id: u32, out: &mut Text<'c>) -> u32
-    ensures found { Found result map.now.held (λ m. slice_get m.sources id) (IsText out.new) }
+pub extern "C" fn proved_get_source<'c>(map: Lent, id: u32, out: &mut Text<'c>) -> u32
+    ensures found { Found result map.held (λ m. slice_get m.sources id) (IsText out.new) }
     ensures unchanged { result ≢ 0 → out.new ≡ out.old }
 {
     write_found(text_of_map(map, Asked::Source(id)), out)
@@ -197,8 +197,8 @@ pub extern "C" fn proved_get_source<'c>(map: &'c Lent, id: u32, out: &mut Text<'
 
 /// The content listed for the source with this id in a map, lent.
 #[unsafe(no_mangle)]
-pub extern "C" fn proved_get_source_content<'c>(map: &'c Lent, id: u32, out: &mut Text<'c>) -> u32
-    ensures found { Found result map.now.held (λ m. content_at m.source_contents id)
+pub extern "C" fn proved_get_source_content<'c>(map: Lent, id: u32, out: &mut Text<'c>) -> u32
+    ensures found { Found result map.held (λ m. content_at m.source_contents id)
         (IsText out.new) }
     ensures unchanged { result ≢ 0 → out.new ≡ out.old }
 {
@@ -207,8 +207,8 @@ pub extern "C" fn proved_get_source_content<'c>(map: &'c Lent, id: u32, out: &mu
 
 /// The name of the generated file of a map, lent.
 #[unsafe(no_mangle)]
-pub extern "C" fn proved_get_file<'c>(map: &'c Lent, out: &mut Text<'c>) -> u32
-    ensures found { Found result map.now.held (λ m. m.file) (IsText out.new) }
+pub extern "C" fn proved_get_file<'c>(map: Lent, out: &mut Text<'c>) -> u32
+    ensures found { Found result map.held (λ m. m.file) (IsText out.new) }
     ensures unchanged { result ≢ 0 → out.new ≡ out.old }
 {
     write_found(text_of_map(map, Asked::File), out)
@@ -216,8 +216,8 @@ pub extern "C" fn proved_get_file<'c>(map: &'c Lent, out: &mut Text<'c>) -> u32
 
 /// The source root of a map, lent.
 #[unsafe(no_mangle)]
-pub extern "C" fn proved_get_source_root<'c>(map: &'c Lent, out: &mut Text<'c>) -> u32
-    ensures found { Found result map.now.held (λ m. m.source_root) (IsText out.new) }
+pub extern "C" fn proved_get_source_root<'c>(map: Lent, out: &mut Text<'c>) -> u32
+    ensures found { Found result map.held (λ m. m.source_root) (IsText out.new) }
     ensures unchanged { result ≢ 0 → out.new ≡ out.old }
 {
     write_found(text_of_map(map, Asked::SourceRoot), out)
@@ -225,26 +225,26 @@ pub extern "C" fn proved_get_source_root<'c>(map: &'c Lent, out: &mut Text<'c>) 
 
 /// The debug id of a map, lent.
 #[unsafe(no_mangle)]
-pub extern "C" fn proved_get_debug_id<'c>(map: &'c Lent, out: &mut Text<'c>) -> u32
-    ensures found { Found result map.now.held (λ m. m.debug_id) (IsText out.new) }
+pub extern "C" fn proved_get_debug_id<'c>(map: Lent, out: &mut Text<'c>) -> u32
+    ensures found { Found result map.held (λ m. m.debug_id) (IsText out.new) }
     ensures unchanged { result ≢ 0 → out.new ≡ out.old }
 {
     write_found(text_of_map(map, Asked::DebugId), out)
 }
 
 /// The text in a handle.
-fn written_text(string: &Lent) -> Result<Text<'_>, CallError>
-    ensures found { MatchOption (held_text string.now.held) (result ≡ Err NullHandle)
+fn written_text<'c>(string: Lent) -> Result<Text<'c>, CallError>
+    ensures found { MatchOption (held_text string.held) (result ≡ Err NullHandle)
         (λ text. MatchResult result (λ t. IsText t text) (λ _. ⊥)) }
 {
-    let text = string.text()?;
+    let text = string.into_text()?;
     Ok(Text::of(text))
 }
 
 /// The text of a string, lent.
 #[unsafe(no_mangle)]
-pub extern "C" fn proved_get_text<'c>(string: &'c Lent, out: &mut Text<'c>) -> u32
-    ensures found { HoldsText result string.now.held out.new }
+pub extern "C" fn proved_get_text<'c>(string: Lent, out: &mut Text<'c>) -> u32
+    ensures found { HoldsText result string.held out.new }
     ensures unchanged { result ≢ 0 → out.new ≡ out.old }
 {
     write_found(written_text(string), out)
@@ -290,12 +290,22 @@ fn write_texts<'c>(texts: &'c [CowStr<'c>], out: &mut [Text<'c>])
     }
 }
 
+/// A content as it is stored, lent; it is empty if it is not known.
+fn content_text<'c>(content: &'c Option<CowStr<'c>>) -> Text<'c>
+    ensures { IsContentText result (option_map cow_str_bytes content.now) }
+{
+    match content {
+        Some(text) => Text::of(text.as_str()),
+        None => Text::of_option(None),
+    }
+}
+
 /// Writes as many contents as there is room for; those that are not known are empty.
 fn write_contents<'c>(contents: &'c [Option<CowStr<'c>>], out: &mut [Text<'c>])
     ensures { AreFilled IsContentText (cow_options contents.now) out.old out.new }
 {
     for i in 0..contents.len().min(out.len()) {
-        out[i] = Text::of_option(contents[i].as_deref());
+        out[i] = content_text(&contents[i]);
     }
 }
 
@@ -318,11 +328,7 @@ fn tokens(map: &Lent, out: &mut [TokenNumbers]) -> Result<usize, CallError>
 
 /// The numbers of all tokens of a map, as many as there is room for, and how many there are.
 #[unsafe(no_mangle)]
-pub extern "C" fn proved_get_tokens(
-    map: &Lent,
-    out: &mut [TokenNumbers],
-    count: &mut usize,
-) -> u32
+pub extern "C" fn proved_get_tokens(map: &Lent, out: &mut [TokenNumbers], count: &mut usize) -> u32
     ensures listed { Lists result map.now.held token_numbers out.old out.new
         count.new }
     ensures unchanged { result ≢ 0 → (out.new ≡ out.old) × (count.new ≡ count.old) }
@@ -331,10 +337,10 @@ pub extern "C" fn proved_get_tokens(
 }
 
 /// The number of names of the map in a handle. Writes as many as there is room for.
-fn names<'c>(map: &'c Lent, out: &mut [Text<'c>]) -> Result<usize, CallError>
-    ensures found { IsListedBy IsText result map.now.held (λ m. m.names) out.old out.new }
+fn names<'c>(map: Lent, out: &mut [Text<'c>]) -> Result<usize, CallError>
+    ensures found { IsListedBy IsText result map.held (λ m. m.names) out.old out.new }
 {
-    let loaded = map.map()?;
+    let loaded = map.into_map()?;
     let names = parts_of(loaded.map().as_source_map()).names.as_slice();
     write_texts(names, out);
     Ok(names.len())
@@ -342,12 +348,8 @@ fn names<'c>(map: &'c Lent, out: &mut [Text<'c>]) -> Result<usize, CallError>
 
 /// All names of a map, lent, as many as there is room for, and how many there are.
 #[unsafe(no_mangle)]
-pub extern "C" fn proved_get_names<'c>(
-    map: &'c Lent,
-    out: &mut [Text<'c>],
-    count: &mut usize,
-) -> u32
-    ensures listed { ListsBy IsText result map.now.held (λ m. m.names)
+pub extern "C" fn proved_get_names<'c>(map: Lent, out: &mut [Text<'c>], count: &mut usize) -> u32
+    ensures listed { ListsBy IsText result map.held (λ m. m.names)
         out.old out.new count.new }
     ensures unchanged { result ≢ 0 → (out.new ≡ out.old) × (count.new ≡ count.old) }
 {
@@ -355,10 +357,10 @@ pub extern "C" fn proved_get_names<'c>(
 }
 
 /// The number of sources of the map in a handle. Writes as many as there is room for.
-fn sources<'c>(map: &'c Lent, out: &mut [Text<'c>]) -> Result<usize, CallError>
-    ensures found { IsListedBy IsText result map.now.held (λ m. m.sources) out.old out.new }
+fn sources<'c>(map: Lent, out: &mut [Text<'c>]) -> Result<usize, CallError>
+    ensures found { IsListedBy IsText result map.held (λ m. m.sources) out.old out.new }
 {
-    let loaded = map.map()?;
+    let loaded = map.into_map()?;
     let sources = parts_of(loaded.map().as_source_map()).sources.as_slice();
     write_texts(sources, out);
     Ok(sources.len())
@@ -366,12 +368,8 @@ fn sources<'c>(map: &'c Lent, out: &mut [Text<'c>]) -> Result<usize, CallError>
 
 /// All sources of a map, lent, as many as there is room for, and how many there are.
 #[unsafe(no_mangle)]
-pub extern "C" fn proved_get_sources<'c>(
-    map: &'c Lent,
-    out: &mut [Text<'c>],
-    count: &mut usize,
-) -> u32
-    ensures listed { ListsBy IsText result map.now.held (λ m. m.sources)
+pub extern "C" fn proved_get_sources<'c>(map: Lent, out: &mut [Text<'c>], count: &mut usize) -> u32
+    ensures listed { ListsBy IsText result map.held (λ m. m.sources)
         out.old out.new count.new }
     ensures unchanged { result ≢ 0 → (out.new ≡ out.old) × (count.new ≡ count.old) }
 {
@@ -379,11 +377,11 @@ pub extern "C" fn proved_get_sources<'c>(
 }
 
 /// The number of contents of the map in a handle. Writes as many as there is room for.
-fn source_contents<'c>(map: &'c Lent, out: &mut [Text<'c>]) -> Result<usize, CallError>
-    ensures found { IsListedBy IsContentText result map.now.held (λ m. m.source_contents)
+fn source_contents<'c>(map: Lent, out: &mut [Text<'c>]) -> Result<usize, CallError>
+    ensures found { IsListedBy IsContentText result map.held (λ m. m.source_contents)
         out.old out.new }
 {
-    let loaded = map.map()?;
+    let loaded = map.into_map()?;
     let contents = parts_of(loaded.map().as_source_map())
         .source_contents
         .as_slice();
@@ -394,11 +392,11 @@ fn source_contents<'c>(map: &'c Lent, out: &mut [Text<'c>]) -> Result<usize, Cal
 /// All contents of a map, lent, as many as there is room for, and how many there are. Those that are not known are empty.
 #[unsafe(no_mangle)]
 pub extern "C" fn proved_get_source_contents<'c>(
-    map: &'c Lent,
+    map: Lent,
     out: &mut [Text<'c>],
     count: &mut usize,
 ) -> u32
-    ensures listed { ListsBy IsContentText result map.now.held (λ m. m.source_contents) out.old out.new
+    ensures listed { ListsBy IsContentText result map.held (λ m. m.source_contents) out.old out.new
         count.new }
     ensures unchanged { result ≢ 0 → (out.new ≡ out.old) × (count.new ≡ count.old) }
 {

@@ -6,23 +6,25 @@ ghost use Rattle.oxc_sourcemap_c.specs.Words.{HasBias, IsTraced, AreTracesOf, Ar
 ghost use Rattle.oxc_sourcemap_c.specs.Words.{IsTraceError, IsTraceAllError, Lengths};
 ghost use Rattle.oxc_sourcemap_c.specs.Words.{piece_numbers, ArePieces};
 ghost use Rattle.oxc_sourcemap_c.specs.Words.{IsDifference, Piece, filled, IsError, DifferFrom};
-ghost use Rattle.oxc_sourcemap_c.specs.Words.{position_at, IsCodeOf};
+ghost use Rattle.oxc_sourcemap_c.specs.Words.{position_at, IsCodeOf, lent_item};
 
 use crate::answers::{write_fault, write_found};
 use crate::reading::reverse::generated;
-use oxc_sourcemap_handles::{CallError, Fault, Lent, Original, PieceNumbers, bias_from};
+use oxc_sourcemap_handles::{
+    CallError, Fault, Held, Lent, LoadedMap, Original, PieceNumbers, bias_from,
+};
 use oxc_sourcemap_queries::Pieces;
 use oxc_sourcemap_tokens::Position;
 
 /// Writes what the map in a handle says of a generated position, where this is quick: there is a map, its index of lines has the
 /// usual form, and the number is that of the bias `Before`. Else it writes nothing, and returns false.
 #[inline(always)]
-fn trace_usual<'c>(map: &'c Lent, at: Position, bias: u32, out: &mut Original<'c>) -> bool
-    ensures traced { result ≡ true → IsTraced map.now.held bias at out.new }
+fn trace_usual<'c>(held: Option<&'c Held>, at: Position, bias: u32, out: &mut Original<'c>) -> bool
+    ensures traced { result ≡ true → IsTraced (lent_item held.entry) bias at out.new }
     ensures unchanged { result ≡ false → out.new ≡ out.old }
 {
-    match map.map() {
-        Ok(loaded) if bias == 0 => loaded.trace_usual(at, out),
+    match held {
+        Some(Held::Map(loaded)) if bias == 0 => loaded.trace_usual(at, out),
         _ => false,
     }
 }
@@ -31,70 +33,88 @@ fn trace_usual<'c>(map: &'c Lent, at: Position, bias: u32, out: &mut Original<'c
 /// first of the line, and the first token after it.
 #[unsafe(no_mangle)]
 pub extern "C" fn proved_trace<'c>(
-    map: &'c Lent,
+    map: Lent,
     line: u32,
     column: u32,
     bias: u32,
     out: &mut Original<'c>,
     fault: &mut Fault,
 ) -> u32
-    ensures traced { result ≡ 0 → IsTraced map.now.held bias (position_at line column) out.new }
+    ensures traced { result ≡ 0 → IsTraced map.held bias (position_at line column) out.new }
     ensures no_error { result ≡ 0 → fault.new ≡ no_fault }
     ensures error { result ≢ 0 → (out.new ≡ out.old)
-        × IsError result fault.new (IsTraceError (held_map map.now.held) bias) }
+        × IsError result fault.new (IsTraceError (held_map map.held) bias) }
 {
     let at = Position { line, column };
-    if trace_usual(map, at, bias, out) {
+    let held = map.into_held();
+    if trace_usual(held, at, bias, out) {
         *fault = Fault::none();
         return 0;
     }
-    trace_anyhow(map, at, bias, out, fault)
+    trace_anyhow(held, at, bias, out, fault)
 }
 
 /// As `proved_trace`, for a caller that wants of an error the code alone.
 #[unsafe(no_mangle)]
 pub extern "C" fn proved_trace_code<'c>(
-    map: &'c Lent,
+    map: Lent,
     line: u32,
     column: u32,
     bias: u32,
     out: &mut Original<'c>,
 ) -> u32
-    ensures traced { result ≡ 0 → IsTraced map.now.held bias (position_at line column) out.new }
+    ensures traced { result ≡ 0 → IsTraced map.held bias (position_at line column) out.new }
     ensures error { result ≢ 0 → (out.new ≡ out.old)
-        × IsCodeOf result (IsTraceError (held_map map.now.held) bias) }
+        × IsCodeOf result (IsTraceError (held_map map.held) bias) }
 {
     let asked = Position { line, column };
-    if trace_usual(map, asked, bias, out) {
+    let held = map.into_held();
+    if trace_usual(held, asked, bias, out) {
         0
     } else {
-        trace_code_anyhow(map, asked, bias, out)
+        trace_code_anyhow(held, asked, bias, out)
     }
 }
 
 /// As `proved_trace_code`, for any map and bias.
 #[inline(never)]
-fn trace_code_anyhow<'c>(map: &'c Lent, at: Position, bias: u32, out: &mut Original<'c>) -> u32
-    ensures traced { result ≡ 0 → IsTraced map.now.held bias at out.new }
+fn trace_code_anyhow<'c>(
+    held: Option<&'c Held>,
+    at: Position,
+    bias: u32,
+    out: &mut Original<'c>,
+) -> u32
+    ensures traced { result ≡ 0 → IsTraced (lent_item held.entry) bias at out.new }
     ensures error { result ≢ 0 → (out.new ≡ out.old)
-        × IsCodeOf result (IsTraceError (held_map map.now.held) bias) }
+        × IsCodeOf result (IsTraceError (held_map (lent_item held.entry)) bias) }
 {
     let mut fault = Fault::none();
-    trace_anyhow(map, at, bias, out, &mut fault)
+    trace_anyhow(held, at, bias, out, &mut fault)
+}
+
+/// The map in what is lent. Fails with `NullHandle` if there is none.
+fn loaded_of(held: Option<&Held>) -> Result<&LoadedMap, CallError>
+    ensures { MatchOption (held_map (lent_item held.entry)) (result ≡ Err NullHandle)
+        (λ m. MatchResult result (λ loaded. loaded.now.map ≡ m) (λ _. ⊥)) }
+{
+    match held {
+        Some(Held::Map(loaded)) => Ok(loaded),
+        _ => Err(CallError::NullHandle),
+    }
 }
 
 /// Writes what the map in a handle says of a generated position, by the bias of this number, and nothing on an error.
 fn trace<'c>(
-    map: &'c Lent,
+    held: Option<&'c Held>,
     at: Position,
     bias: u32,
     out: &mut Original<'c>,
 ) -> Result<(), CallError>
-    ensures traced { OnOk result (IsTraced map.now.held bias at out.new) }
-    ensures error { IfErr result (IsTraceError (held_map map.now.held) bias) }
+    ensures traced { OnOk result (IsTraced (lent_item held.entry) bias at out.new) }
+    ensures error { IfErr result (IsTraceError (held_map (lent_item held.entry)) bias) }
     ensures unchanged { OnErr result (out.new ≡ out.old) }
 {
-    let loaded = map.map()?;
+    let loaded = loaded_of(held)?;
     let bias = bias_from(bias)?;
     Ok(loaded.trace(at, bias, out)?)
 }
@@ -103,18 +123,18 @@ fn trace<'c>(
 // A call of its own, so that the usual lookup saves few registers.
 #[inline(never)]
 fn trace_anyhow<'c>(
-    map: &'c Lent,
+    held: Option<&'c Held>,
     at: Position,
     bias: u32,
     out: &mut Original<'c>,
     fault: &mut Fault,
 ) -> u32
-    ensures traced { result ≡ 0 → IsTraced map.now.held bias at out.new }
+    ensures traced { result ≡ 0 → IsTraced (lent_item held.entry) bias at out.new }
     ensures no_error { result ≡ 0 → fault.new ≡ no_fault }
     ensures error { result ≢ 0 → (out.new ≡ out.old)
-        × IsError result fault.new (IsTraceError (held_map map.now.held) bias) }
+        × IsError result fault.new (IsTraceError (held_map (lent_item held.entry)) bias) }
 {
-    write_fault(trace(map, at, bias, out), fault)
+    write_fault(trace(held, at, bias, out), fault)
 }
 
 /// Whether there are as many answers as positions. Fails with `Lengths` if not.
@@ -131,18 +151,18 @@ fn have_one_length(positions: usize, answers: usize) -> Result<(), CallError>
 
 /// Writes what the map in a handle says of many generated positions, by the bias of this number, and nothing on an error.
 fn trace_all<'c>(
-    map: &'c Lent,
+    map: Lent,
     positions: &[Position],
     bias: u32,
     out: &mut [Original<'c>],
 ) -> Result<(), CallError>
-    ensures traced { OnOk result (HoldsMap map.now.held (λ m. HasBias bias
+    ensures traced { OnOk result (HoldsMap map.held (λ m. HasBias bias
         (λ b. AreTracesOf b positions.now out.new m))) }
     ensures error { IfErr result
-        (IsTraceAllError positions.now out.old (held_map map.now.held) bias) }
+        (IsTraceAllError positions.now out.old (held_map map.held) bias) }
     ensures unchanged { OnErr result (out.new ≡ out.old) }
 {
-    let loaded = map.map()?;
+    let loaded = map.into_map()?;
     have_one_length(positions.len(), out.len())?;
     let bias = bias_from(bias)?;
     Ok(loaded.trace_all(positions, bias, out)?)
@@ -152,29 +172,24 @@ fn trace_all<'c>(
 /// written.
 #[unsafe(no_mangle)]
 pub extern "C" fn proved_trace_all<'c>(
-    map: &'c Lent,
+    map: Lent,
     positions: &[Position],
     bias: u32,
     out: &mut [Original<'c>],
     fault: &mut Fault,
 ) -> u32
-    ensures traced { result ≡ 0 → HoldsMap map.now.held (λ m. HasBias bias
+    ensures traced { result ≡ 0 → HoldsMap map.held (λ m. HasBias bias
         (λ b. AreTracesOf b positions.now out.new m)) }
     ensures no_error { result ≡ 0 → fault.new ≡ no_fault }
     ensures error { result ≢ 0 → (out.new ≡ out.old) × IsError result fault.new
-        (IsTraceAllError positions.now out.old (held_map map.now.held) bias) }
+        (IsTraceAllError positions.now out.old (held_map map.held) bias) }
 {
     write_fault(trace_all(map, positions, bias, out), fault)
 }
 
 /// Writes the indices of the tokens that answer for many generated positions in the map in a handle, by the bias of this number,
 /// and nothing on an error.
-fn find_all(
-    map: &Lent,
-    positions: &[Position],
-    bias: u32,
-    out: &mut [u32],
-) -> Result<(), CallError>
+fn find_all(map: &Lent, positions: &[Position], bias: u32, out: &mut [u32]) -> Result<(), CallError>
     ensures found { OnOk result (HoldsMap map.now.held (λ m. HasBias bias
         (λ b. AreFoundIn b positions.now out.new m))) }
     ensures error { IfErr result
@@ -278,11 +293,7 @@ fn first_difference(map: &Lent, other: &Lent) -> Result<Position, CallError>
 
 /// The first generated position at which two maps say different things.
 #[unsafe(no_mangle)]
-pub extern "C" fn proved_first_difference(
-    map: &Lent,
-    other: &Lent,
-    out: &mut Position,
-) -> u32
+pub extern "C" fn proved_first_difference(map: &Lent, other: &Lent, out: &mut Position) -> u32
     ensures found { DifferFrom (held_map map.now.held) (held_map other.now.held) result out.new }
     ensures unchanged { result ≢ 0 → out.new ≡ out.old }
 {

@@ -140,11 +140,7 @@ fn list_mends(mends: &Lent, out: &mut [MendNumbers], count: &mut usize) -> Resul
 
 /// Lists what was mended: as many as there is room for, and the number of all.
 #[unsafe(no_mangle)]
-pub extern "C" fn proved_get_mends(
-    mends: &Lent,
-    out: &mut [MendNumbers],
-    count: &mut usize,
-) -> u32
+pub extern "C" fn proved_get_mends(mends: &Lent, out: &mut [MendNumbers], count: &mut usize) -> u32
     ensures found { MatchOption (held_mends mends.now.held) (result ≡ code_of NullHandle)
         (λ ms. (result ≡ 0) × (count.new ≡ length ms)
         × (out.new ≡ filled (map numbers_of_mend ms) out.old)) }

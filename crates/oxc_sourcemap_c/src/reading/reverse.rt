@@ -1,13 +1,14 @@
 //! From original positions to generated ones, in the maps of handles.
 ghost use Rattle.std.specs.Prelude.{◌≡◌, ◌≢◌, ◌<◌, ◌≤◌, ℕ, true, List, [], ◌∷◌, ◌++◌, Some, length};
 ghost use Rattle.std.specs.Prelude.{get_or, slice_get, OnOk, OnErr, IfErr, IfSome, IsNone};
-ghost use Rattle.std.specs.Prelude.{MatchResult, Ok};
+ghost use Rattle.std.specs.Prelude.{MatchResult, Ok, Err};
 ghost use Rattle.oxc_sourcemap_c.specs.Words.{TokenRecord, is_into, indices_on, answering};
 ghost use Rattle.oxc_sourcemap_c.specs.Words.{IsSourceOrderOf, filled, held_loaded, held_map};
 ghost use Rattle.oxc_sourcemap_c.specs.Words.{IsFirstGenerated, AreAllGenerated, HoldsOrder};
 ghost use Rattle.oxc_sourcemap_c.specs.Words.{IsIndexError, out_of_memory, OnLine, code_of};
 ghost use Rattle.oxc_sourcemap_c.specs.Words.{no_fault, IsErrorAs, NullHandle, HasFirst, HasAll};
 ghost use Rattle.oxc_sourcemap_c.specs.Words.{source_place};
+ghost use Rattle.oxc_sourcemap_c.specs.Words.{CallError, IsMapMissing};
 
 use crate::answers::{write_fault, write_found};
 use crate::reading::getters::write_numbers;
@@ -262,6 +263,7 @@ fn index_held(alloc: Global, held: &mut Held) -> Result<(), CallError>
     ensures error { IfErr result (λ r. (r ≢ out_of_memory)
         → IsIndexError (held_loaded (Some held.old)) r) }
     ensures unchanged { OnErr result (held.new ≡ held.old) }
+    ensures sure { (r : CallError) → IsMapMissing (Some held.old) r → result ≡ Err r }
 {
     match held {
         Held::Map(loaded) => Ok(loaded.index_sources(alloc)?),
@@ -276,6 +278,7 @@ fn index_sources(alloc: Global, handle: &mut Handle) -> Result<(), CallError>
     ensures error { IfErr result (λ r. (r ≢ out_of_memory)
         → IsIndexError (held_loaded handle.old.held) r) }
     ensures unchanged { OnErr result (handle.new.held ≡ handle.old.held) }
+    ensures sure { (r : CallError) → IsMapMissing handle.old.held r → result ≡ Err r }
 {
     match handle.take(alloc) {
         Some(held) => {
@@ -296,6 +299,7 @@ pub extern "C" fn proved_index_sources(alloc: Global, map: &mut Handle, fault: &
     ensures no_error { result ≡ 0 → fault.new ≡ no_fault }
     ensures error { result ≢ 0 → (map.new.held ≡ map.old.held)
         × IsErrorAs result fault.new (IsIndexError (held_loaded map.old.held)) }
+    ensures sure { (r : CallError) → IsMapMissing map.old.held r → result ≡ code_of r }
 {
     write_fault(index_sources(alloc, map), fault)
 }

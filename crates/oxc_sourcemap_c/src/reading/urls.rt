@@ -28,7 +28,9 @@ fn url_in(code: &str, language: u32) -> Result<Text<'_>, CallError>
         return Err(CallError::BadOption);
     };
     match oxc_sourcemap_text::source_mapping_url(code, language) {
-        Some(url) => Ok(Text::of(url)),
+        Some(url) => Ok(Text {
+            bytes: url.as_bytes(),
+        }),
         None => Err(CallError::NoEntry),
     }
 }

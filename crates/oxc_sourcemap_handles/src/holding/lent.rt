@@ -41,6 +41,43 @@ impl Lent {
         }
     }
 
+    /// What is lent, for as long as is asked for: the share of the token of its lifetime is kept for so long. None for null.
+    pub fn into_held<'c>(self) -> Option<&'c Held>
+        ensures { option_map (λ r. r.now) result ≡ self.held }
+    {
+        let Lent { at } = self;
+        if at.is_null() {
+            None
+        } else {
+            Some(unsafe { &*(at as *const Held) })
+        }
+    }
+
+    /// The map that is lent, as by `into_held`. Fails with `NullHandle` if there is none.
+    #[inline(always)]
+    pub fn into_map<'c>(self) -> Result<&'c LoadedMap, CallError>
+        ensures map { MatchOption (held_map self.held) (result ≡ Err NullHandle)
+            (λ m. MatchResult result (λ loaded. loaded.now.map ≡ m) (λ _. ⊥)) }
+        ensures loaded { MatchOption (held_loaded self.held) (result ≡ Err NullHandle)
+            (λ l. MatchResult result (λ loaded. loaded.now ≡ l) (λ _. ⊥)) }
+    {
+        match self.into_held() {
+            Some(Held::Map(loaded)) => Ok(loaded),
+            _ => Err(CallError::NullHandle),
+        }
+    }
+
+    /// The text that is lent, as by `into_held`. Fails with `NullHandle` if there is none.
+    pub fn into_text<'c>(self) -> Result<&'c str, CallError>
+        ensures { MatchOption (held_text self.held) (result ≡ Err NullHandle)
+            (λ t. MatchResult result (λ text. text.now ≡ t) (λ _. ⊥)) }
+    {
+        match self.into_held() {
+            Some(Held::Written(text)) => Ok(text.as_str()),
+            _ => Err(CallError::NullHandle),
+        }
+    }
+
     /// The map that is lent. Fails with `NullHandle` if there is none.
     pub fn map(&self) -> Result<&LoadedMap, CallError>
         ensures map { MatchOption (held_map self.now.held) (result ≡ Err NullHandle)
@@ -62,17 +99,6 @@ impl Lent {
         Ok(self.map()?.map())
     }
 
-    /// The text that is lent. Fails with `NullHandle` if there is none.
-    pub fn text(&self) -> Result<&str, CallError>
-        ensures { MatchOption (held_text self.now.held) (result ≡ Err NullHandle)
-            (λ t. MatchResult result (λ text. text.now ≡ t) (λ _. ⊥)) }
-    {
-        match self.get() {
-            Some(Held::Written(text)) => Ok(text.as_str()),
-            _ => Err(CallError::NullHandle),
-        }
-    }
-
     /// The mends that are lent. Fails with `NullHandle` if there are none.
     pub fn mends(&self) -> Result<&[Mend], CallError>
         ensures { MatchOption (held_mends self.now.held) (result ≡ Err NullHandle)
@@ -87,3 +113,5 @@ impl Lent {
 
 // Several threads may read a `Held`.
 unsafe impl Send for Lent {}
+
+unsafe impl Sync for Lent {}

@@ -8,6 +8,6 @@ pub loop-i-preserved : goal.loop-i-preserved
 loop-i-preserved c =
     let h = c.index-maps-i.result in
     record {
-      there = λ more. c.loop-i.invariant.there (there_more c.args.maps.now c.loop-i.i h (omega arith) c.index-maps-i.is c.in_ok-lengths.ensures more);
+      there = λ more. c.loop-i.invariant.there (there_more c.args.maps.now c.loop-i.i h (omega arith) c.index-maps-i.is c.in_ok-lengths.ensures.there more);
       missing = λ e. c.loop-i.invariant.missing (missing_more c.args.maps.now c.loop-i.i h (omega arith) c.index-maps-i.is e);
     }

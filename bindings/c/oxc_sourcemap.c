@@ -3,7 +3,8 @@
  *  - null gets something to point to: an empty text, an array of no entries, an output that the caller does not want (a single lookup
  *    without a fault has an export of its own, which is quicker);
  *  - a handle goes in as a struct of one pointer, and one that is made goes to *out on success alone;
- *  - an array of texts with null entries, and one of maps, is copied. */
+ *  - an array of texts with null entries, and one of maps, is copied;
+ *  - of the contents of sources that come back empty, those that are not known get a null address. */
 #include "oxc_sourcemap.h"
 #include "proved.h"
 
@@ -11,10 +12,11 @@
 
 /* A pointer, or what stands for null. */
 #define OR(at, own) ((at) ? (at) : (own))
-/* What a proved call changes or frees, and what it reads: the address of a copy of the pointer, which is that call's alone.
- * (Single lookups take such a copy by value.) */
+/* What a proved call changes or frees, and what it reads: the address of a copy of the pointer, which is that call's alone. */
 #define HANDLE(at) (&(proved_handle){ at })
 #define LENT(at) (&(proved_lent){ at })
+/* What a call reads that lends texts, by value. */
+#define LOAN(at) ((proved_lent){ at })
 
 /* Stand for arrays of no entries. */
 static const smap_token no_token;
@@ -62,7 +64,7 @@ static void end_texts(text_list *it) {
     free(it->block);
 }
 
-/* Maps as a proved call takes them, which may overwrite them. */
+/* Maps as a proved call takes them. */
 typedef struct map_list {
     proved_lent *at;
     proved_lent few[FEW];
@@ -167,27 +169,27 @@ uint32_t smap_is_sound(const smap_map *map, uint32_t *out) {
 }
 
 uint32_t smap_get_name(const smap_map *map, uint32_t id, smap_text *out) {
-    return proved_get_name(LENT(map), id, out);
+    return proved_get_name(LOAN(map), id, out);
 }
 
 uint32_t smap_get_source(const smap_map *map, uint32_t id, smap_text *out) {
-    return proved_get_source(LENT(map), id, out);
+    return proved_get_source(LOAN(map), id, out);
 }
 
 uint32_t smap_get_source_content(const smap_map *map, uint32_t id, smap_text *out) {
-    return proved_get_source_content(LENT(map), id, out);
+    return proved_get_source_content(LOAN(map), id, out);
 }
 
 uint32_t smap_get_file(const smap_map *map, smap_text *out) {
-    return proved_get_file(LENT(map), out);
+    return proved_get_file(LOAN(map), out);
 }
 
 uint32_t smap_get_source_root(const smap_map *map, smap_text *out) {
-    return proved_get_source_root(LENT(map), out);
+    return proved_get_source_root(LOAN(map), out);
 }
 
 uint32_t smap_get_debug_id(const smap_map *map, smap_text *out) {
-    return proved_get_debug_id(LENT(map), out);
+    return proved_get_debug_id(LOAN(map), out);
 }
 
 uint32_t smap_get_token(const smap_map *map, uint32_t index, smap_token *out) {
@@ -201,17 +203,20 @@ uint32_t smap_get_tokens(const smap_map *map, smap_token *out, size_t out_len, s
 
 uint32_t smap_get_names(const smap_map *map, smap_text *out, size_t out_len, size_t *count) {
     smap_text none;
-    return proved_get_names(LENT(map), OR(out, &none), out_len, count);
+    return proved_get_names(LOAN(map), OR(out, &none), out_len, count);
 }
 
 uint32_t smap_get_sources(const smap_map *map, smap_text *out, size_t out_len, size_t *count) {
     smap_text none;
-    return proved_get_sources(LENT(map), OR(out, &none), out_len, count);
+    return proved_get_sources(LOAN(map), OR(out, &none), out_len, count);
 }
 
 uint32_t smap_get_source_contents(const smap_map *map, smap_text *out, size_t out_len, size_t *count) {
     smap_text none;
-    return proved_get_source_contents(LENT(map), OR(out, &none), out_len, count);
+    uint32_t code = proved_get_source_contents(LOAN(map), OR(out, &none), out_len, count);
+    for (size_t i = 0; code == SMAP_OK && i < out_len && i < *count; i++)
+        if (!out[i].len && proved_get_source_content(LOAN(map), (uint32_t)i, &none) != SMAP_OK) out[i].at = NULL;
+    return code;
 }
 
 uint32_t smap_get_ignore_list(const smap_map *map, uint32_t *out, size_t out_len, size_t *count) {
@@ -222,15 +227,15 @@ uint32_t smap_get_ignore_list(const smap_map *map, uint32_t *out, size_t out_len
 /* ---- lookups ---- */
 
 uint32_t smap_trace(const smap_map *map, uint32_t line, uint32_t column, uint32_t bias, smap_original *out, smap_fault *fault) {
-    if (!fault) return proved_trace_code((proved_lent){ map }, line, column, bias, out);
-    return proved_trace((proved_lent){ map }, line, column, bias, out, fault);
+    if (!fault) return proved_trace_code(LOAN(map), line, column, bias, out);
+    return proved_trace(LOAN(map), line, column, bias, out, fault);
 }
 
 uint32_t smap_trace_all(const smap_map *map, const smap_position *positions, size_t positions_len, uint32_t bias,
                         smap_original *out, size_t out_len, smap_fault *fault) {
     smap_fault own;
     smap_original none;
-    return proved_trace_all(LENT(map), OR(positions, &no_position), positions_len, bias, OR(out, &none), out_len, OR(fault, &own));
+    return proved_trace_all(LOAN(map), OR(positions, &no_position), positions_len, bias, OR(out, &none), out_len, OR(fault, &own));
 }
 
 uint32_t smap_find_all(const smap_map *map, const smap_position *positions, size_t positions_len, uint32_t bias, uint32_t *out,
@@ -543,7 +548,7 @@ uint32_t smap_visualizer_url(const smap_map *map, const char *code, size_t code_
 }
 
 uint32_t smap_get_text(const smap_string *string, smap_text *out) {
-    return proved_get_text(LENT(string), out);
+    return proved_get_text(LOAN(string), out);
 }
 
 void smap_free_string(smap_string *string) {

@@ -16,7 +16,7 @@ text_of_chars bytes u = ap (λ bs. encode_utf8_all (chars bs)) (sym u.1.1) ∙ a
 
 -- the URL that is found has the characters that are defined
 pub url_found : (code : Text) (number : ℕ) (language : Language) (url : Text) (lent : LentText) → language_of number ≡ Some language → mapping_url language (chars code) ≡ Some (chars url) → IsUtf8 url
-    → lent.len ≡ length url → IsUrlIn code number (Ok lent)
+    → lent.bytes.now ≡ url → IsUrlIn code number (Ok lent)
 url_found code number language url lent l m u n =
     subst (λ o. MatchOption o (Ok lent ≡ Err BadOption) (λ language. MatchOption (mapping_url language (chars code)) (Ok lent ≡ Err NoEntry) (λ url. HasCharacters lent url))) (sym l)
-    (subst (λ o. MatchOption o (Ok lent ≡ Err NoEntry) (λ url. HasCharacters lent url)) (sym m) (n ∙ ap length (sym (text_of_chars url u))))
+    (subst (λ o. MatchOption o (Ok lent ≡ Err NoEntry) (λ url. HasCharacters lent url)) (sym m) (n ∙ sym (text_of_chars url u)))

@@ -4,12 +4,14 @@ use Rattle.std.proofs.Common.{slice_set, Option, Some, None, Err, option_map, re
 use Rattle.std.proofs.Common.{◌∙◌, ◌≢◌, zero, suc, inl, inr, arith}
 use Rattle.std.specs.Prelude.{IsNone, MatchOption}
 use Rattle.std.specs.Option.{option_and_then}
-use Rattle.std.proofs.lemmas.List.{append_assoc, append-nil, drop_more, set-get_or}
+use Rattle.std.proofs.lemmas.List.{append_assoc, append-nil, drop_more, map-append}
+use Rattle.std.specs.Borrow.{Bor}
+use Rattle.oxc_sourcemap_tokens.specs.Results.{lent_items}
+use Rattle.oxc_sourcemap_steps.specs.Inputs.{lent_inputs}
 use Rattle.oxc_sourcemap_tokens.specs.declared.errors.error.Error.{Error}
 use Rattle.oxc_sourcemap_parts.specs.Record.{Text, MapRecord}
 use Rattle.oxc_sourcemap_steps.specs.Remapped.{SomeRemapping}
 use Rattle.oxc_sourcemap_handles.specs.declared.holding.lent.Lent.{Lent}
-use Rattle.oxc_sourcemap_handles.specs.Back.{IsBack}
 use Rattle.oxc_sourcemap_handles.specs.Holding.{held_map}
 use Rattle.oxc_sourcemap_tokens.specs.declared.errors.error.Error.TheVariants.{TooLarge}
 use Rattle.oxc_sourcemap_tokens.specs.declared.position.Position.{Position}
@@ -21,20 +23,10 @@ use Rattle.oxc_sourcemap_handles.specs.declared.numbers.call_error.CallError.{Ca
 use Rattle.oxc_sourcemap_handles.specs.declared.numbers.call_error.CallError.TheVariants.{NullHandle}
 use Rattle.oxc_sourcemap_handles.specs.declared.numbers.call_error.CallError.TheVariants.{Lengths}
 use Rattle.oxc_sourcemap_handles.specs.CallErrors.{of_map}
-use Rattle.oxc_sourcemap_c.specs.MapsOfMaps.{all_lent, all_maps, at_places, IsAddErrorOf}
+use Rattle.oxc_sourcemap_c.specs.MapsOfMaps.{all_lent, all_maps, at_places, by_path}
+use Rattle.oxc_sourcemap_c.specs.MapsOfMaps.{IsAddErrorOf, IsSureJoinError}
 use Rattle.oxc_sourcemap_c.specs.MapsOfMaps.{IsJoinErrorOf, IsJoinErrorOfMaps, IsJoinOfLent}
 use Rattle.oxc_sourcemap_c.specs.MapsOfMaps.{IsJoinOfMaps}
-
--- what is given back is what was lent
-pub lent_back : (old new : Lent) → IsBack old new → new ≡ old
-lent_back old new e =
-    ap (λ x. record new { at = x }) e.0
-    ∙ ap (λ x. record new { at = old.at; life = x }) e.1
-    ∙ ap (λ x. record old { held = x }) e.2
-
--- all are given back, after one more was
-pub all_given_back : (old now : List Lent) (i : ℕ) (d new : Lent) → now ≡ old → IsBack (get_or now i d) new → slice_set now i new ≡ old
-all_given_back old now i d new same back = ap (λ x. slice_set now i x) (lent_back (get_or now i d) new back) ∙ set-get_or now i d ∙ same
 
 -- the maps that are done, and those after them
 abbrev pub after : List MapRecord → Option (List MapRecord) → Option (List MapRecord)
@@ -44,17 +36,18 @@ after_one : (done : List MapRecord) (m : MapRecord) (rest : Option (List MapReco
 after_one done m None = refl
 after_one done m (Some ms) = ap (λ xs. Some xs) (sym (append_assoc done (m ∷ []) ms))
 
-front : (hs : List Lent) (i : ℕ) (h : Lent) → i < length hs → h ≡ get_or hs i h → drop i hs ≡ h ∷ drop (i + 1) hs
-front hs i h a is = drop_more hs i h a ∙ ap (λ x. x ∷ drop (i + 1) hs) (sym is)
+-- what is left of a list is its next item, and what is left after that
+front : {A : Type 0} (xs : List A) (i : ℕ) (x : A) → i < length xs → x ≡ get_or xs i x → drop i xs ≡ x ∷ drop (i + 1) xs
+front xs i x a is = drop_more xs i x a ∙ ap (λ y. y ∷ drop (i + 1) xs) (sym is)
 
 -- the maps after one more
-pub cloned_more : (hs : List Lent) (i : ℕ) (h : Lent) (m : MapRecord) (done new : List MapRecord) (whole : Option (List MapRecord)) → i < length hs → h ≡ get_or hs i h → held_map h.held ≡ Some m
-    → new ≡ done ++ m ∷ [] → after done (all_maps (all_lent (drop i hs))) ≡ whole → after new (all_maps (all_lent (drop (i + 1) hs))) ≡ whole
-cloned_more hs i h m done new whole a is held grown so_far =
+pub found_more : (hs : List Lent) (i : ℕ) (h : Lent) (m : Bor MapRecord) (done new : List (Bor MapRecord)) (whole : Option (List MapRecord)) → i < length hs → h ≡ get_or hs i h → held_map h.held ≡ Some m.now
+    → new ≡ done ++ m ∷ [] → after (lent_items done) (all_maps (all_lent (drop i hs))) ≡ whole → after (lent_items new) (all_maps (all_lent (drop (i + 1) hs))) ≡ whole
+found_more hs i h m done new whole a is held grown so_far =
     let rest = all_maps (all_lent (drop (i + 1) hs)) in
-    ap (λ xs. after xs rest) grown ∙ sym (after_one done m rest)
-    ∙ ap (λ o. after done (option_and_then (λ m. option_map (λ ms. m ∷ ms) rest) o)) (sym held)
-    ∙ ap (λ xs. after done (all_maps (all_lent xs))) (sym (front hs i h a is)) ∙ so_far
+    ap (λ xs. after (lent_items xs) rest) grown ∙ ap (λ xs. after xs rest) (map-append (λ (m : Bor MapRecord). m.now) done (m ∷ [])) ∙ sym (after_one (lent_items done) m.now rest)
+    ∙ ap (λ o. after (lent_items done) (option_and_then (λ m. option_map (λ ms. m ∷ ms) rest) o)) (sym held)
+    ∙ ap (λ xs. after (lent_items done) (all_maps (all_lent xs))) (sym (front hs i h a is)) ∙ so_far
 
 none_is : (o : Option MapRecord) → IsNone o → o ≡ None
 none_is None e = refl
@@ -68,9 +61,28 @@ one_missing hs i h done whole a is none so_far =
     sym so_far ∙ ap (λ xs. after done (all_maps (all_lent xs))) (front hs i h a is)
     ∙ ap (λ o. after done (option_and_then (λ m. option_map (λ ms. m ∷ ms) rest) o)) (none_is (held_map h.held) none)
 
+-- the inputs after one more
+pub paired_more : (paths : List (Bor Text)) (maps : List (Bor MapRecord)) (i : ℕ) (path : Bor Text) (m : Bor MapRecord) (done new : List (Bor Text × Bor MapRecord)) (whole : List (Text × MapRecord))
+    → i < length paths → i < length maps → path ≡ get_or paths i path → m ≡ get_or maps i m → new ≡ done ++ (path, m) ∷ []
+    → lent_inputs done ++ by_path (lent_items (drop i paths)) (lent_items (drop i maps)) ≡ whole
+    → lent_inputs new ++ by_path (lent_items (drop (i + 1) paths)) (lent_items (drop (i + 1) maps)) ≡ whole
+paired_more paths maps i path m done new whole a b is at grown so_far =
+    let rest = by_path (lent_items (drop (i + 1) paths)) (lent_items (drop (i + 1) maps)) in
+    ap (λ xs. lent_inputs xs ++ rest) grown
+    ∙ ap (λ xs. xs ++ rest) (map-append (λ (input : Bor Text × Bor MapRecord). (input.0.now, input.1.now)) done ((path, m) ∷ []))
+    ∙ append_assoc (lent_inputs done) ((path.now, m.now) ∷ []) rest
+    ∙ sym (ap (λ ps. lent_inputs done ++ by_path (lent_items ps) (lent_items (drop i maps))) (front paths i path a is)
+    ∙ ap (λ ms. lent_inputs done ++ by_path (lent_items (path ∷ drop (i + 1) paths)) (lent_items ms)) (front maps i m b at))
+    ∙ so_far
+
 -- all are done
-pub all_cloned : (hs : List Lent) (i : ℕ) (done : List MapRecord) (whole : Option (List MapRecord)) → drop i hs ≡ [] → after done (all_maps (all_lent (drop i hs))) ≡ whole → whole ≡ Some done
-all_cloned hs i done whole e so_far = sym so_far ∙ ap (λ xs. after done (all_maps (all_lent xs))) e ∙ ap (λ xs. Some xs) (append-nil done)
+pub all_paired : (paths : List (Bor Text)) (maps : List (Bor MapRecord)) (i : ℕ) (done : List (Bor Text × Bor MapRecord)) (whole : List (Text × MapRecord)) → drop i paths ≡ []
+    → lent_inputs done ++ by_path (lent_items (drop i paths)) (lent_items (drop i maps)) ≡ whole → lent_inputs done ≡ whole
+all_paired paths maps i done whole e so_far =
+    sym (append-nil (lent_inputs done)) ∙ sym (ap (λ ps. lent_inputs done ++ by_path (lent_items ps) (lent_items (drop i maps))) e) ∙ so_far
+
+pub all_found : (hs : List Lent) (i : ℕ) (done : List MapRecord) (whole : Option (List MapRecord)) → drop i hs ≡ [] → after done (all_maps (all_lent (drop i hs))) ≡ whole → whole ≡ Some done
+all_found hs i done whole e so_far = sym so_far ∙ ap (λ xs. after done (all_maps (all_lent xs))) e ∙ ap (λ xs. Some xs) (append-nil done)
 
 -- the error of a remapping of the same
 pub not_remapped : (a b : MapRecord) (xs ys : List (Text × MapRecord)) (e : Error) → a ≡ b → xs ≡ ys → SomeRemapping a xs (Err e) → SomeRemapping b ys (Err e)
@@ -118,14 +130,11 @@ held_added : (o : Option MapRecord) (j j' : MapRecord) (p : Position) (ps : List
 held_added None j j' p ps rest e = absurd e
 held_added (Some m) j j' p ps rest e = ap (λ r. option_map (λ ms. added_all r (at_places ms ps)) rest) e ∙ sym (one_added j m p ps rest)
 
-front_place : (ps : List Position) (i : ℕ) (p : Position) → i < length ps → p ≡ get_or ps i p → drop i ps ≡ p ∷ drop (i + 1) ps
-front_place ps i p a is = drop_more ps i p a ∙ ap (λ x. x ∷ drop (i + 1) ps) (sym is)
-
 pub joined_more : (hs : List Lent) (ps : List Position) (i : ℕ) (h : Lent) (p : Position) (j j' : MapRecord) → i < length hs → i < length ps → h ≡ get_or hs i h → p ≡ get_or ps i p
     → MatchOption (held_map h.held) ⊥ (λ m. j' ≡ added j m p) → joined_with j' (drop (i + 1) hs) (drop (i + 1) ps) ≡ joined_with j (drop i hs) (drop i ps)
 joined_more hs ps i h p j j' a b is at e =
     held_added (held_map h.held) j j' p (drop (i + 1) ps) (all_maps (all_lent (drop (i + 1) hs))) e
-    ∙ sym (ap (λ xs. joined_with j xs (drop i ps)) (front hs i h a is) ∙ ap (λ qs. joined_with j (h ∷ drop (i + 1) hs) qs) (front_place ps i p b at))
+    ∙ sym (ap (λ xs. joined_with j xs (drop i ps)) (front hs i h a is) ∙ ap (λ qs. joined_with j (h ∷ drop (i + 1) hs) qs) (front ps i p b at))
 
 same_number_by : (o : Option MapRecord) (rest : Option (List MapRecord)) (hs : List (Option Held)) (ms : List MapRecord) → ((ns : List MapRecord) → rest ≡ Some ns → length ns ≡ length hs)
     → option_and_then (λ m. option_map (λ ms. m ∷ ms) rest) o ≡ Some ms → length ms ≡ suc (length hs)
@@ -183,7 +192,7 @@ pub not_added : (hs : List Lent) (ps : List Position) (i : ℕ) (h : Lent) (p : 
     → IsAddErrorOf j (held_map h.held) p r → IsJoinErrorOf (all_lent hs) ps r
 not_added hs ps i h p j r a b is at there number so_far e =
     not_added_by (held_map h.held) hs ps (drop (i + 1) ps) j p (all_maps (all_lent (drop (i + 1) hs))) r there number
-    (sym (ap (λ xs. joined_with j xs (drop i ps)) (front hs i h a is) ∙ ap (λ qs. joined_with j (h ∷ drop (i + 1) hs) qs) (front_place ps i p b at)) ∙ so_far) e
+    (sym (ap (λ xs. joined_with j xs (drop i ps)) (front hs i h a is) ∙ ap (λ qs. joined_with j (h ∷ drop (i + 1) hs) qs) (front ps i p b at)) ∙ so_far) e
 
 -- there are not as many positions as maps
 wrong_number_by : (o : Option (List MapRecord)) (ps : List Position) → o ≢ None → ((ms : List MapRecord) → o ≡ Some ms → length ms ≢ length ps)
@@ -200,3 +209,27 @@ pub any_default : {A : Type 0} (xs : List A) (i : ℕ) (d e : A) → i < length 
 any_default [] i d e a = absurd (omega (arith, a))
 any_default (x ∷ xs) zero d e a = refl
 any_default (x ∷ xs) (suc i) d e a = any_default xs i d e (omega (arith, a))
+
+-- ---- what a join reports whatever the memory
+sure_null_by : (o : Option (List MapRecord)) (ps : List Position) (r : CallError) → o ≡ None → MatchOption o (r ≡ NullHandle) (λ ms. (r ≡ Lengths) × (length ms ≢ length ps)) → r ≡ NullHandle
+sure_null_by None ps r e sure = sure
+sure_null_by (Some ms) ps r e sure = cc (e)
+
+pub sure_null : (hs : List Lent) (ps : List Position) (r : CallError) → all_maps (all_lent hs) ≡ None → IsSureJoinError (all_lent hs) ps r → r ≡ NullHandle
+sure_null hs ps r = sure_null_by (all_maps (all_lent hs)) ps r
+
+sure_lengths_by : (o : Option (List MapRecord)) (ps : List Position) (r : CallError) → o ≢ None → MatchOption o (r ≡ NullHandle) (λ ms. (r ≡ Lengths) × (length ms ≢ length ps)) → r ≡ Lengths
+sure_lengths_by None ps r there sure = absurd (there refl)
+sure_lengths_by (Some ms) ps r there sure = sure.0
+
+pub sure_lengths : (hs : List Lent) (ps : List Position) (r : CallError) → all_maps (all_lent hs) ≢ None → IsSureJoinError (all_lent hs) ps r → r ≡ Lengths
+sure_lengths hs ps r = sure_lengths_by (all_maps (all_lent hs)) ps r
+
+none_sure_by : (o : Option (List MapRecord)) (ps : List Position) (r : CallError) → o ≢ None → ((ms : List MapRecord) → o ≡ Some ms → length ms ≡ length ps)
+    → MatchOption o (r ≡ NullHandle) (λ ms. (r ≡ Lengths) × (length ms ≢ length ps)) → ⊥
+none_sure_by None ps r there number sure = there refl
+none_sure_by (Some ms) ps r there number sure = sure.1 (number ms refl)
+
+pub none_sure : (hs : List Lent) (ps : List Position) (r : CallError) → all_maps (all_lent hs) ≢ None → length hs ≡ length ps → IsSureJoinError (all_lent hs) ps r → ⊥
+none_sure hs ps r there number =
+    none_sure_by (all_maps (all_lent hs)) ps r there (λ ms e. same_number (all_lent hs) ms e ∙ number_of_lent hs ∙ number)

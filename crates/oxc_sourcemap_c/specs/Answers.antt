@@ -7,7 +7,6 @@ use Rattle.oxc_sourcemap_handles.specs.declared.numbers.call_error.CallError.{Ca
 use Rattle.oxc_sourcemap_handles.specs.declared.numbers.call_error.CallError.TheVariants.{NullHandle}
 use Rattle.oxc_sourcemap_handles.specs.declared.numbers.call_error.CallError.TheVariants.{NoEntry}
 use Rattle.oxc_sourcemap_handles.specs.declared.holding.held.Held.{Held}
-use Rattle.oxc_sourcemap_handles.specs.declared.texts.text.Text.{Text as LentText}
 use Rattle.oxc_sourcemap_c.specs.declared.reading.asked.Asked.{Asked}
 use Rattle.oxc_sourcemap_c.specs.declared.reading.asked.Asked.TheVariants.{Name, Source}
 use Rattle.oxc_sourcemap_c.specs.declared.reading.asked.Asked.TheVariants.{SourceContent, File}
@@ -32,10 +31,6 @@ abbrev pub IsFound : {A B : Type 0} → Result A CallError → Option Held → (
 IsFound answer held ask Is =
     MatchOption (held_map held) (answer ≡ Err NullHandle)
     (λ m. MatchOption (ask m) (answer ≡ Err NoEntry) (λ found. MatchResult answer (λ x. Is x found) (λ _. ⊥)))
-
--- a borrowed text has the length of this one
-abbrev pub HasLength : LentText → Text → Type 0
-HasLength lent text = lent.len ≡ length text
 
 -- 1 for true and 0 for false
 abbrev pub flag_of : Bool → ℕ

@@ -8,6 +8,7 @@ use Rattle.oxc_sourcemap_tokens.specs.declared.position.Position.{Position}
 use Rattle.oxc_sourcemap_parts.specs.Record.{Text, MapRecord}
 use Rattle.oxc_sourcemap_join.specs.Joined.{joined, IsWithinLimits}
 use Rattle.oxc_sourcemap_steps.specs.Composed.{composition, SomeComposition, NoColumnGoesBack}
+use Rattle.oxc_sourcemap_steps.specs.Composed.{composition_fault}
 use Rattle.oxc_sourcemap_steps.specs.Inputs.{NoInputColumnGoesBack}
 use Rattle.oxc_sourcemap_steps.specs.Remapped.{remapping, SomeRemapping}
 use Rattle.oxc_sourcemap_handles.specs.declared.numbers.call_error.CallError.{CallError}
@@ -109,3 +110,13 @@ IsComposingError a b r = (e : Error) × SomeComposition a b (Err e) × (r ≡ of
 abbrev pub IsCompositionError : Option MapRecord → Option MapRecord → CallError → Type 0
 IsCompositionError first second r =
     MatchOption first (r ≡ NullHandle) (λ a. MatchOption second (r ≡ NullHandle) (λ b. IsComposingError a b r))
+
+-- what composing what two handles hold reports whatever the memory: that one holds no map, or the fault of the two maps
+abbrev pub IsSureComposeError : Option MapRecord → Option MapRecord → CallError → Type 0
+IsSureComposeError first second r =
+    MatchOption first (r ≡ NullHandle) (λ a. MatchOption second (r ≡ NullHandle)
+    (λ b. (e : Error) × (composition_fault a b ≡ Some e) × (r ≡ of_map e)))
+
+-- the same of joining what handles hold: that one holds no map, or that there are not as many positions as maps
+abbrev pub IsSureJoinError : List (Option Held) → List Position → CallError → Type 0
+IsSureJoinError hs ps r = MatchOption (all_maps hs) (r ≡ NullHandle) (λ ms. (r ≡ Lengths) × (length ms ≢ length ps))

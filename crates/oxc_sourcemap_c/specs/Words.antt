@@ -2,7 +2,6 @@
 pub use Rattle.oxc_sourcemap_json.specs.JsonText.{map_text, map_url}
 pub use Rattle.oxc_sourcemap_json.specs.Within.{map_text_within, map_url_within, mappings_within}
 pub use Rattle.oxc_sourcemap_found.specs.MendText.{mend_text}
-pub use Rattle.oxc_sourcemap_handles.specs.Back.{IsBack, IsGivenBack}
 pub use Rattle.oxc_sourcemap_handles.specs.CallErrors.{call_error_text, out_of_memory, IsNotText}
 pub use Rattle.oxc_sourcemap_handles.specs.CallErrors.{of_map, IsSimplifyError, IsUnsorted}
 pub use Rattle.oxc_sourcemap_handles.specs.Codes.{call_error_of, code_of, fault_of, no_fault}
@@ -14,7 +13,8 @@ pub use Rattle.oxc_sourcemap_handles.specs.Listed.{cow_options, filled}
 pub use Rattle.oxc_sourcemap_handles.specs.Lists.{token_of, AreTexts, known_texts, AreContents}
 pub use Rattle.oxc_sourcemap_handles.specs.Lists.{IsNotContents, IsNotTexts}
 pub use Rattle.oxc_sourcemap_handles.specs.PlaceNumbers.{place_of_numbers}
-pub use Rattle.oxc_sourcemap_handles.specs.Structs.{HasContent, bytes_of_options, bytes_of_texts}
+pub use Rattle.oxc_sourcemap_handles.specs.Structs.{IsText, IsContentText, bytes_of_options}
+pub use Rattle.oxc_sourcemap_handles.specs.Structs.{bytes_of_texts}
 pub use Rattle.oxc_sourcemap_handles.specs.Structs.{capped, counts_of, map_bytes, numbers_of}
 pub use Rattle.oxc_sourcemap_handles.specs.Structs.{piece_numbers, token_numbers}
 pub use Rattle.oxc_sourcemap_handles.specs.Traces.{AreFoundIn, AreTracesOf, HasBias}
@@ -50,13 +50,13 @@ pub use Rattle.oxc_sourcemap_mappings.specs.Reading.{reading}
 pub use Rattle.oxc_sourcemap_plan.specs.Outcome.{outcome}
 pub use Rattle.oxc_sourcemap_plan.specs.PlanArguments.{parsed_plan}
 pub use Rattle.oxc_sourcemap_plan.specs.PlanPlaces.{TellsText}
-pub use Rattle.oxc_sourcemap_steps.specs.Inputs.{owned_input_records}
+pub use Rattle.oxc_sourcemap_steps.specs.Inputs.{lent_inputs}
 pub use Rattle.oxc_sourcemap_tokens.specs.declared.errors.error.Error.TheVariants.{OutOfMemory}
 pub use Rattle.oxc_sourcemap_map.specs.View.{content_at}
 pub use Rattle.oxc_sourcemap_parts.specs.Roots.{rooted}
 pub use Rattle.oxc_sourcemap_steps.specs.Simplified.{simplification}
 pub use Rattle.oxc_sourcemap_steps.specs.Sorting.{sorted_map}
-pub use Rattle.oxc_sourcemap_c.specs.Answers.{IsTraced, HasLength, IsFlagOf, IsFound, flag_of}
+pub use Rattle.oxc_sourcemap_c.specs.Answers.{IsTraced, IsFlagOf, IsFound, flag_of}
 pub use Rattle.oxc_sourcemap_c.specs.Answers.{text_at}
 pub use Rattle.oxc_sourcemap_c.specs.Mends.{kind_numbers, kind_of_numbers, mend_of_numbers}
 pub use Rattle.oxc_sourcemap_c.specs.Mends.{numbers_of_kind, numbers_of_mend}
@@ -87,10 +87,12 @@ pub use Rattle.oxc_sourcemap_c.specs.MapsOfMaps.{HoldMaps, IsComposition, IsComp
 pub use Rattle.oxc_sourcemap_c.specs.MapsOfMaps.{IsCompositionError, IsJoinErrorOf, IsAddErrorOf}
 pub use Rattle.oxc_sourcemap_c.specs.MapsOfMaps.{IsJoinOfLent, IsRemapError, IsRemapped}
 pub use Rattle.oxc_sourcemap_c.specs.MapsOfMaps.{IsRemapping, IsRemappingError, all_lent, all_maps}
-pub use Rattle.oxc_sourcemap_c.specs.MapsOfMaps.{by_path}
+pub use Rattle.oxc_sourcemap_c.specs.MapsOfMaps.{IsSureComposeError, IsSureJoinError, by_path}
+pub use Rattle.oxc_sourcemap_steps.specs.Composed.{composition_fault}
 pub use Rattle.oxc_sourcemap_c.specs.Plans.{IsEvaluationErrorAt, IsOutcomeErrorAt, IsPlaceOfPlan}
 pub use Rattle.oxc_sourcemap_c.specs.Plans.{IsPlanErrorAt, IsPlanMap, call_error_of_run, of_plan}
 pub use Rattle.oxc_sourcemap_c.specs.Exports.{Found, HoldsString, HoldsText, HoldsWritten, IsCodeOf}
 pub use Rattle.oxc_sourcemap_c.specs.Exports.{IsError, IsUrlAnswer, IsWritingError}
 pub use Rattle.oxc_sourcemap_c.specs.Reading.{DifferFrom, HasAll, HasFirst, Lists, ListsBy}
 pub use Rattle.oxc_sourcemap_c.specs.Reading.{ListsOption, position_at, source_place}
+pub use Rattle.oxc_sourcemap_tokens.specs.declared.errors.error.Error.{Error}

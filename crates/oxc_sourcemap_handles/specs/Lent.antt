@@ -1,7 +1,6 @@
 -- What C lends to a call.
 use Rattle.std.specs.Prelude.{Option, None, Some, [], ◌∷◌}
-use base.Fraction.{full_share}
-use base.Fml.{Lft, Fml, ftrue, ffalse, fsep, fex, flft}
+use base.Fml.{Lft, Share, Fml, ftrue, ffalse, fsep, fex, flft}
 use denote.RawPtr.{Ptr, block_ptr, null_ptr, Testable}
 use denote.Ref.{ShrRef}
 use mir.Syntax.{named}
@@ -15,6 +14,6 @@ shared_at life null_ptr (Some held) = ffalse
 shared_at life (block_ptr b o) None = ffalse
 shared_at life (block_ptr b o) (Some held) = fsep (fex (Testable (block_ptr b o)) (λ _. ftrue)) ((ShrRef (named 0) life the_row).own_val (record { ref_ptr = (b, o); now = held }) (vptr b o ∷ []))
 
--- that, with the whole token of the lifetime, so that nobody ends it before the call has given it back
+-- that, with some share of the token of the lifetime, so that nobody ends it while this is lent
 abbrev pub lent_owns : Lft → Ptr → Option the_row.Denot → Fml
-lent_owns life at held = fsep (flft life full_share) (shared_at life at held)
+lent_owns life at held = fsep (fex Share (λ q. flft life q)) (shared_at life at held)

@@ -3,7 +3,6 @@ pub mod FieldNumbers
 pub mod PlaceNumbers
 pub mod Codes
 pub mod Handles
-pub mod Back
 pub mod Lent
 pub mod Holding
 pub mod Indices

@@ -2,7 +2,6 @@
 use Rattle.std.specs.Prelude.{◌≡◌, ◌≢◌, ℕ, ◌+◌, ◌*◌, List, [], length, map, min, slice_get, sum}
 use Rattle.std.specs.Prelude.{Option, Some, None, option_map}
 use Rattle.std.specs.Option.{unwrap_or, option_and_then}
-use denote.RawPtr.{null_ptr}
 use Rattle.oxc_sourcemap_tokens.specs.Token.{TokenRecord, last}
 use Rattle.oxc_sourcemap_parts.specs.Record.{Text, MapRecord}
 use Rattle.oxc_sourcemap_parts.specs.DecodedMap.{OriginalPosition, name_of}
@@ -59,25 +58,25 @@ abbrev pub kind_of : Option Text → ℕ
 kind_of None = 2
 kind_of (Some name) = 3
 
--- An answer is an original position. Of its source and its name only the lengths are specified.
+-- an answer is an original position
 pub record IsOriginal (p : Original) (o : OriginalPosition) : Type 0 where
   pub kind : p.kind ≡ kind_of o.name
   pub line : p.token.src_line ≡ o.src_line
   pub column : p.token.src_col ≡ o.src_col
-  pub source : p.source.len ≡ length o.source.path
-  pub name : p.name.len ≡ length (unwrap_or o.name [])
+  pub source : p.source.bytes.now ≡ o.source.path
+  pub name : p.name.bytes.now ≡ unwrap_or o.name []
 
 -- an answer says what is found: nothing, an unmapped token, or an original position
 abbrev pub HasOriginal : Original → Option (Option OriginalPosition) → Type 0
-HasOriginal p None = (p.kind ≡ 0) × (p.source.len ≡ 0) × (p.name.len ≡ 0)
-HasOriginal p (Some None) = (p.kind ≡ 1) × (p.source.len ≡ 0)
+HasOriginal p None = (p.kind ≡ 0) × (p.source.bytes.now ≡ []) × (p.name.bytes.now ≡ [])
+HasOriginal p (Some None) = (p.kind ≡ 1) × (p.source.bytes.now ≡ [])
 HasOriginal p (Some (Some o)) = IsOriginal p o
 
 -- an answer is that of the token at this index of a map, if it is one
 pub record IsSeen (m : MapRecord) (found : Option ℕ) (p : Original) : Type 0 where
   pub index : p.index ≡ index_number found
   pub token : p.token ≡ numbers_or_none (option_and_then (slice_get m.tokens) found)
-  pub name : p.name.len ≡ length (unwrap_or (option_and_then (name_of m.names) (option_and_then (slice_get m.tokens) found)) [])
+  pub name : p.name.bytes.now ≡ unwrap_or (option_and_then (name_of m.names) (option_and_then (slice_get m.tokens) found)) []
   pub original : HasOriginal p (option_map (original_in m) (option_and_then (slice_get m.tokens) found))
 
 -- the numbers of a piece
@@ -88,10 +87,13 @@ piece_numbers piece = record {
   index = index_number piece.index;
 }
 
--- a lent text is that of a content: its length, or no address if it is not known
-abbrev pub HasContent : LentText → Option Text → Type 0
-HasContent lent None = (lent.at ≡ null_ptr) × (lent.len ≡ 0)
-HasContent lent (Some text) = (lent.at ≢ null_ptr) × (lent.len ≡ length text)
+-- a lent text is this one
+abbrev pub IsText : LentText → Text → Type 0
+IsText lent text = lent.bytes.now ≡ text
+
+-- a lent text is that of a content, and empty if that is not known
+abbrev pub IsContentText : LentText → Option Text → Type 0
+IsContentText lent content = lent.bytes.now ≡ unwrap_or content []
 
 -- a number of bytes; 18446744073709551615 stands for more
 abbrev pub capped : ℕ → ℕ

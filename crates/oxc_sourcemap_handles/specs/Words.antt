@@ -31,7 +31,7 @@ pub use Rattle.oxc_sourcemap_handles.specs.Options.{bias_of, direction_of}
 pub use Rattle.oxc_sourcemap_handles.specs.PlaceNumbers.{no_place, number_told, numbers_of_place}
 pub use Rattle.oxc_sourcemap_handles.specs.PlaceNumbers.{numbers_of_spot, place_of_numbers}
 pub use Rattle.oxc_sourcemap_handles.specs.PlaceNumbers.{spot_of_numbers, told_number}
-pub use Rattle.oxc_sourcemap_handles.specs.Structs.{HasContent, HasOriginal, IsSeen, capped}
+pub use Rattle.oxc_sourcemap_handles.specs.Structs.{HasOriginal, IsSeen, capped}
 pub use Rattle.oxc_sourcemap_handles.specs.Structs.{index_number, no_numbers, number_or_none}
 pub use Rattle.oxc_sourcemap_handles.specs.Structs.{numbers_of, piece_numbers}
 pub use Rattle.oxc_sourcemap_handles.specs.Traces.{AreFoundIn, AreTracesOf, IsTraceOf}

@@ -10,5 +10,5 @@ mod setters;
 
 pub use handle::Handle;
 pub use held::{Held, LoadedMap, index_of};
-pub use lent::{GivenBack, Lent, map_of};
+pub use lent::Lent;
 pub use operations::{box_map, empty_box, put, put_map, put_text};

@@ -7,8 +7,7 @@ mod numbers;
 mod texts;
 
 pub use holding::{
-    GivenBack, Handle, Held, Lent, LoadedMap, box_map, empty_box, index_of, map_of, put, put_map,
-    put_text,
+    Handle, Held, Lent, LoadedMap, box_map, empty_box, index_of, put, put_map, put_text,
 };
 pub use numbers::{CallError, Direction, Fault, PlaceNumbers, bias_from, number_told, told_number};
 pub use texts::{

@@ -5,7 +5,7 @@ ghost use Rattle.oxc_sourcemap_c.specs.Words.{out_of_memory, no_fault, held_join
 ghost use Rattle.oxc_sourcemap_c.specs.Words.{IsErrorAs, added, IsWithinLimits, nothing_joined};
 ghost use Rattle.oxc_sourcemap_c.specs.Words.{IsJoined, IsAddError, IsOneNull, IsPartsError};
 ghost use Rattle.oxc_sourcemap_c.specs.Words.{IsJoinFinished, IsNullJoin, CallError, ChunksFit};
-ghost use Rattle.oxc_sourcemap_c.specs.Words.{IsBack, code_of, position};
+ghost use Rattle.oxc_sourcemap_c.specs.Words.{code_of, position};
 
 use crate::answers::write_fault;
 use oxc_sourcemap_handles::{
@@ -31,15 +31,14 @@ fn add_copy(
     Ok(())
 }
 
-fn add_held(held: &mut Held, map: &mut Lent, position: Position) -> Result<(), CallError>
+fn add_held(held: &mut Held, map: &Lent, position: Position) -> Result<(), CallError>
     ensures added { OnOk result (IsJoined (Some held.old) (Some held.new)
-        map.old.held position) }
+        map.now.held position) }
     ensures error { IfErr result (λ r. (r ≢ out_of_memory)
-        → IsAddError (Some held.old) map.old.held position r) }
-    ensures sure { (r : CallError) → IsOneNull (Some held.old) map.old.held r
+        → IsAddError (Some held.old) map.now.held position r) }
+    ensures sure { (r : CallError) → IsOneNull (Some held.old) map.now.held r
         → result ≡ Err r }
     ensures unchanged { OnErr result (held.new ≡ held.old) }
-    ensures back { IsBack map.old map.new }
 {
     match held {
         Held::Joining(join) => add_copy(join, map.map()?.map(), position),
@@ -52,17 +51,16 @@ fn add_held(held: &mut Held, map: &mut Lent, position: Position) -> Result<(), C
 fn add_to_join(
     alloc: Global,
     handle: &mut Handle,
-    map: &mut Lent,
+    map: &Lent,
     position: Position,
 ) -> Result<(), CallError>
     ensures added { OnOk result (IsJoined handle.old.held handle.new.held
-        map.old.held position) }
+        map.now.held position) }
     ensures error { IfErr result (λ r. (r ≢ out_of_memory)
-        → IsAddError handle.old.held map.old.held position r) }
-    ensures sure { (r : CallError) → IsOneNull handle.old.held map.old.held r
+        → IsAddError handle.old.held map.now.held position r) }
+    ensures sure { (r : CallError) → IsOneNull handle.old.held map.now.held r
         → result ≡ Err r }
     ensures unchanged { OnErr result (handle.new.held ≡ handle.old.held) }
-    ensures back { IsBack map.old map.new }
 {
     match handle.take(alloc) {
         Some(held) => {
@@ -80,20 +78,19 @@ fn add_to_join(
 pub extern "C" fn proved_join_add(
     alloc: Global,
     join: &mut Handle,
-    map: &mut Lent,
+    map: &Lent,
     line: u32,
     column: u32,
     fault: &mut Fault,
 ) -> u32
-    ensures added { result ≡ 0 → IsJoined join.old.held join.new.held map.old.held
+    ensures added { result ≡ 0 → IsJoined join.old.held join.new.held map.now.held
         (position line column) }
     ensures no_error { result ≡ 0 → fault.new ≡ no_fault }
     ensures error { result ≢ 0 → (join.new.held ≡ join.old.held)
-        × IsErrorAs result fault.new (IsAddError join.old.held map.old.held
+        × IsErrorAs result fault.new (IsAddError join.old.held map.now.held
         (position line column)) }
-    ensures sure { (r : CallError) → IsOneNull join.old.held map.old.held r
+    ensures sure { (r : CallError) → IsOneNull join.old.held map.now.held r
         → result ≡ code_of r }
-    ensures back { IsBack map.old map.new }
 {
     let added = add_to_join(alloc, join, map, Position { line, column });
     write_fault(added, fault)

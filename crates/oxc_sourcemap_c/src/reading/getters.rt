@@ -5,11 +5,11 @@ ghost use Rattle.std.specs.Cow.{cow_str_bytes};
 ghost use Rattle.std.specs.Option.{unwrap_or};
 ghost use Rattle.oxc_sourcemap_c.specs.Words.{are_tokens_sorted, NullHandle, IsSound, held_map};
 ghost use Rattle.oxc_sourcemap_c.specs.Words.{held_text, held_loaded, counts_of, numbers_of};
-ghost use Rattle.oxc_sourcemap_c.specs.Words.{text_at, flag_of, IsFound, HasLength, filled};
-ghost use Rattle.oxc_sourcemap_c.specs.Words.{HasContent, AreFilled, IsListed, IsListedBy};
+ghost use Rattle.oxc_sourcemap_c.specs.Words.{text_at, flag_of, IsFound, IsText, filled};
+ghost use Rattle.oxc_sourcemap_c.specs.Words.{IsContentText, AreFilled, IsListed, IsListedBy};
 ghost use Rattle.oxc_sourcemap_c.specs.Words.{cow_texts, cow_options, bytes_of_texts, capped};
 ghost use Rattle.oxc_sourcemap_c.specs.Words.{bytes_of_options, IsFlagOf, IsOptionListed};
-ghost use Rattle.oxc_sourcemap_c.specs.Words.{lines_through, last, lent_item, map_bytes, IsBack};
+ghost use Rattle.oxc_sourcemap_c.specs.Words.{lines_through, last, lent_item, map_bytes};
 ghost use Rattle.oxc_sourcemap_c.specs.Words.{token_numbers, code_of, content_at, Found, HoldsText};
 ghost use Rattle.oxc_sourcemap_c.specs.Words.{Lists, ListsBy, ListsOption};
 
@@ -105,21 +105,19 @@ fn counts_in(loaded: &LoadedMap) -> Counts
 }
 
 /// The counts of the map in a handle.
-fn counts(map: &mut Lent) -> Result<Counts, CallError>
-    ensures found { MatchOption (held_loaded map.old.held) (result ≡ Err NullHandle)
+fn counts(map: &Lent) -> Result<Counts, CallError>
+    ensures found { MatchOption (held_loaded map.now.held) (result ≡ Err NullHandle)
         (λ l. result ≡ Ok (counts_of l)) }
-    ensures back { IsBack map.old map.new }
 {
     Ok(counts_in(map.map()?))
 }
 
 /// The numbers of tokens, names, sources, contents, ignored sources, lines and bytes of a map.
 #[unsafe(no_mangle)]
-pub extern "C" fn proved_get_counts(map: &mut Lent, out: &mut Counts) -> u32
-    ensures found { MatchOption (held_loaded map.old.held) (result ≡ code_of NullHandle)
+pub extern "C" fn proved_get_counts(map: &Lent, out: &mut Counts) -> u32
+    ensures found { MatchOption (held_loaded map.now.held) (result ≡ code_of NullHandle)
         (λ l. (result ≡ 0) × (out.new ≡ counts_of l)) }
     ensures unchanged { result ≢ 0 → out.new ≡ out.old }
-    ensures back { IsBack map.old map.new }
 {
     write_found(counts(map), out)
 }
@@ -131,10 +129,9 @@ fn flag(is_so: bool) -> u32
 }
 
 /// 1 if the tokens of the map in a handle are sorted, else 0.
-fn is_sorted(map: &mut Lent) -> Result<u32, CallError>
-    ensures found { IsFound result map.old.held (λ m. Some (flag_of (are_tokens_sorted m.tokens)))
+fn is_sorted(map: &Lent) -> Result<u32, CallError>
+    ensures found { IsFound result map.now.held (λ m. Some (flag_of (are_tokens_sorted m.tokens)))
         (λ x is. x ≡ is) }
-    ensures back { IsBack map.old map.new }
 {
     let loaded = map.map()?;
     Ok(flag(loaded.map().as_source_map().is_sorted()))
@@ -142,20 +139,18 @@ fn is_sorted(map: &mut Lent) -> Result<u32, CallError>
 
 /// Whether the tokens of a map are sorted: 1 or 0.
 #[unsafe(no_mangle)]
-pub extern "C" fn proved_is_sorted(map: &mut Lent, out: &mut u32) -> u32
-    ensures found { Found result map.old.held (λ m. Some (flag_of (are_tokens_sorted m.tokens)))
+pub extern "C" fn proved_is_sorted(map: &Lent, out: &mut u32) -> u32
+    ensures found { Found result map.now.held (λ m. Some (flag_of (are_tokens_sorted m.tokens)))
         (λ is. out.new ≡ is) }
     ensures unchanged { result ≢ 0 → out.new ≡ out.old }
-    ensures back { IsBack map.old map.new }
 {
     write_found(is_sorted(map), out)
 }
 
 /// 1 if the map in a handle is sound, else 0.
-fn is_sound(map: &mut Lent) -> Result<u32, CallError>
-    ensures found { MatchOption (held_map map.old.held) (result ≡ Err NullHandle)
+fn is_sound(map: &Lent) -> Result<u32, CallError>
+    ensures found { MatchOption (held_map map.now.held) (result ≡ Err NullHandle)
         (λ m. MatchResult result (IsFlagOf (IsSound m)) (λ _. ⊥)) }
-    ensures back { IsBack map.old map.new }
 {
     let loaded = map.map()?;
     Ok(flag(loaded.map().as_source_map().is_sound()))
@@ -163,113 +158,102 @@ fn is_sound(map: &mut Lent) -> Result<u32, CallError>
 
 /// Whether the tokens of a map are sorted, and its ids in range: 1 or 0.
 #[unsafe(no_mangle)]
-pub extern "C" fn proved_is_sound(map: &mut Lent, out: &mut u32) -> u32
-    ensures found { MatchOption (held_map map.old.held) (result ≡ code_of NullHandle)
+pub extern "C" fn proved_is_sound(map: &Lent, out: &mut u32) -> u32
+    ensures found { MatchOption (held_map map.now.held) (result ≡ code_of NullHandle)
         (λ m. (result ≡ 0) × IsFlagOf (IsSound m) out.new) }
     ensures unchanged { result ≢ 0 → out.new ≡ out.old }
-    ensures back { IsBack map.old map.new }
 {
     write_found(is_sound(map), out)
 }
 
 /// A text of the map in a handle.
-fn text_of_map(map: &mut Lent, asked: Asked) -> Result<Text, CallError>
-    ensures found { IsFound result map.old.held (λ m. text_at m asked) HasLength }
-    ensures back { IsBack map.old map.new }
+fn text_of_map<'c>(map: Lent, asked: Asked) -> Result<Text<'c>, CallError>
+    ensures found { IsFound result map.held (λ m. text_at m asked) IsText }
 {
-    let loaded = map.map()?;
+    let loaded = map.into_map()?;
     match asked.text_in(loaded.map()) {
-        Some(text) => Ok(Text::of(text.as_bytes())),
+        Some(text) => Ok(Text::of(text)),
         None => Err(CallError::NoEntry),
     }
 }
 
 /// The name with this id in a map, lent.
 #[unsafe(no_mangle)]
-pub extern "C" fn proved_get_name(map: &mut Lent, id: u32, out: &mut Text) -> u32
-    ensures found { Found result map.old.held (λ m. slice_get m.names id) (HasLength out.new) }
+pub extern "C" fn proved_get_name<'c>(map: Lent, id: u32, out: &mut Text<'c>) -> u32
+    ensures found { Found result map.held (λ m. slice_get m.names id) (IsText out.new) }
     ensures unchanged { result ≢ 0 → out.new ≡ out.old }
-    ensures back { IsBack map.old map.new }
 {
     write_found(text_of_map(map, Asked::Name(id)), out)
 }
 
 /// The source with this id in a map, lent.
 #[unsafe(no_mangle)]
-pub extern "C" fn proved_get_source(map: &mut Lent, id: u32, out: &mut Text) -> u32
-    ensures found { Found result map.old.held (λ m. slice_get m.sources id) (HasLength out.new) }
+pub extern "C" fn proved_get_source<'c>(map: Lent, id: u32, out: &mut Text<'c>) -> u32
+    ensures found { Found result map.held (λ m. slice_get m.sources id) (IsText out.new) }
     ensures unchanged { result ≢ 0 → out.new ≡ out.old }
-    ensures back { IsBack map.old map.new }
 {
     write_found(text_of_map(map, Asked::Source(id)), out)
 }
 
 /// The content listed for the source with this id in a map, lent.
 #[unsafe(no_mangle)]
-pub extern "C" fn proved_get_source_content(map: &mut Lent, id: u32, out: &mut Text) -> u32
-    ensures found { Found result map.old.held (λ m. content_at m.source_contents id)
-        (HasLength out.new) }
+pub extern "C" fn proved_get_source_content<'c>(map: Lent, id: u32, out: &mut Text<'c>) -> u32
+    ensures found { Found result map.held (λ m. content_at m.source_contents id)
+        (IsText out.new) }
     ensures unchanged { result ≢ 0 → out.new ≡ out.old }
-    ensures back { IsBack map.old map.new }
 {
     write_found(text_of_map(map, Asked::SourceContent(id)), out)
 }
 
 /// The name of the generated file of a map, lent.
 #[unsafe(no_mangle)]
-pub extern "C" fn proved_get_file(map: &mut Lent, out: &mut Text) -> u32
-    ensures found { Found result map.old.held (λ m. m.file) (HasLength out.new) }
+pub extern "C" fn proved_get_file<'c>(map: Lent, out: &mut Text<'c>) -> u32
+    ensures found { Found result map.held (λ m. m.file) (IsText out.new) }
     ensures unchanged { result ≢ 0 → out.new ≡ out.old }
-    ensures back { IsBack map.old map.new }
 {
     write_found(text_of_map(map, Asked::File), out)
 }
 
 /// The source root of a map, lent.
 #[unsafe(no_mangle)]
-pub extern "C" fn proved_get_source_root(map: &mut Lent, out: &mut Text) -> u32
-    ensures found { Found result map.old.held (λ m. m.source_root) (HasLength out.new) }
+pub extern "C" fn proved_get_source_root<'c>(map: Lent, out: &mut Text<'c>) -> u32
+    ensures found { Found result map.held (λ m. m.source_root) (IsText out.new) }
     ensures unchanged { result ≢ 0 → out.new ≡ out.old }
-    ensures back { IsBack map.old map.new }
 {
     write_found(text_of_map(map, Asked::SourceRoot), out)
 }
 
 /// The debug id of a map, lent.
 #[unsafe(no_mangle)]
-pub extern "C" fn proved_get_debug_id(map: &mut Lent, out: &mut Text) -> u32
-    ensures found { Found result map.old.held (λ m. m.debug_id) (HasLength out.new) }
+pub extern "C" fn proved_get_debug_id<'c>(map: Lent, out: &mut Text<'c>) -> u32
+    ensures found { Found result map.held (λ m. m.debug_id) (IsText out.new) }
     ensures unchanged { result ≢ 0 → out.new ≡ out.old }
-    ensures back { IsBack map.old map.new }
 {
     write_found(text_of_map(map, Asked::DebugId), out)
 }
 
 /// The text in a handle.
-fn written_text(string: &mut Lent) -> Result<Text, CallError>
-    ensures found { MatchOption (held_text string.old.held) (result ≡ Err NullHandle)
-        (λ text. MatchResult result (λ t. HasLength t text) (λ _. ⊥)) }
-    ensures back { IsBack string.old string.new }
+fn written_text<'c>(string: Lent) -> Result<Text<'c>, CallError>
+    ensures found { MatchOption (held_text string.held) (result ≡ Err NullHandle)
+        (λ text. MatchResult result (λ t. IsText t text) (λ _. ⊥)) }
 {
-    let text = string.text()?;
-    Ok(Text::of(text.as_bytes()))
+    let text = string.into_text()?;
+    Ok(Text::of(text))
 }
 
 /// The text of a string, lent.
 #[unsafe(no_mangle)]
-pub extern "C" fn proved_get_text(string: &mut Lent, out: &mut Text) -> u32
-    ensures found { HoldsText result string.old.held out.new }
+pub extern "C" fn proved_get_text<'c>(string: Lent, out: &mut Text<'c>) -> u32
+    ensures found { HoldsText result string.held out.new }
     ensures unchanged { result ≢ 0 → out.new ≡ out.old }
-    ensures back { IsBack string.old string.new }
 {
     write_found(written_text(string), out)
 }
 
 /// A token of the map in a handle.
-fn token(map: &mut Lent, index: u32) -> Result<TokenNumbers, CallError>
-    ensures found { IsFound result map.old.held (λ m. slice_get m.tokens index)
+fn token(map: &Lent, index: u32) -> Result<TokenNumbers, CallError>
+    ensures found { IsFound result map.now.held (λ m. slice_get m.tokens index)
         (λ x token. x ≡ numbers_of token) }
-    ensures back { IsBack map.old map.new }
 {
     let loaded = map.map()?;
     match loaded.map().get_token(index) {
@@ -280,11 +264,10 @@ fn token(map: &mut Lent, index: u32) -> Result<TokenNumbers, CallError>
 
 /// The numbers of a token of a map.
 #[unsafe(no_mangle)]
-pub extern "C" fn proved_get_token(map: &mut Lent, index: u32, out: &mut TokenNumbers) -> u32
-    ensures found { Found result map.old.held (λ m. slice_get m.tokens index)
+pub extern "C" fn proved_get_token(map: &Lent, index: u32, out: &mut TokenNumbers) -> u32
+    ensures found { Found result map.now.held (λ m. slice_get m.tokens index)
         (λ token. out.new ≡ numbers_of token) }
     ensures unchanged { result ≢ 0 → out.new ≡ out.old }
-    ensures back { IsBack map.old map.new }
 {
     write_found(token(map, index), out)
 }
@@ -299,27 +282,27 @@ fn write_tokens(tokens: &[Token], out: &mut [TokenNumbers])
 }
 
 /// Writes as many texts as there is room for.
-fn write_texts(texts: &[CowStr<'_>], out: &mut [Text])
-    ensures { AreFilled HasLength (cow_texts texts.now) out.old out.new }
+fn write_texts<'c>(texts: &'c [CowStr<'c>], out: &mut [Text<'c>])
+    ensures { AreFilled IsText (cow_texts texts.now) out.old out.new }
 {
     for i in 0..texts.len().min(out.len()) {
-        out[i] = Text::of(texts[i].as_str().as_bytes());
+        out[i] = Text::of(texts[i].as_str());
     }
 }
 
-/// A content as it is stored, lent; it has no address if it is not known.
-fn content_text(content: &Option<CowStr<'_>>) -> Text
-    ensures { HasContent result (option_map cow_str_bytes content.now) }
+/// A content as it is stored, lent; it is empty if it is not known.
+fn content_text<'c>(content: &'c Option<CowStr<'c>>) -> Text<'c>
+    ensures { IsContentText result (option_map cow_str_bytes content.now) }
 {
     match content {
-        Some(text) => Text::of_content(Some(text.as_str())),
-        None => Text::of_content(None),
+        Some(text) => Text::of(text.as_str()),
+        None => Text::of_option(None),
     }
 }
 
-/// Writes as many contents as there is room for; those that are not known have no address.
-fn write_contents(contents: &[Option<CowStr<'_>>], out: &mut [Text])
-    ensures { AreFilled HasContent (cow_options contents.now) out.old out.new }
+/// Writes as many contents as there is room for; those that are not known are empty.
+fn write_contents<'c>(contents: &'c [Option<CowStr<'c>>], out: &mut [Text<'c>])
+    ensures { AreFilled IsContentText (cow_options contents.now) out.old out.new }
 {
     for i in 0..contents.len().min(out.len()) {
         out[i] = content_text(&contents[i]);
@@ -335,9 +318,8 @@ pub(crate) fn write_numbers(numbers: &[u32], out: &mut [u32])
 }
 
 /// The number of tokens of the map in a handle. Writes as many as there is room for.
-fn tokens(map: &mut Lent, out: &mut [TokenNumbers]) -> Result<usize, CallError>
-    ensures found { IsListed result map.old.held token_numbers out.old out.new }
-    ensures back { IsBack map.old map.new }
+fn tokens(map: &Lent, out: &mut [TokenNumbers]) -> Result<usize, CallError>
+    ensures found { IsListed result map.now.held token_numbers out.old out.new }
 {
     let loaded = map.map()?;
     write_tokens(loaded.tokens(), out);
@@ -346,25 +328,19 @@ fn tokens(map: &mut Lent, out: &mut [TokenNumbers]) -> Result<usize, CallError>
 
 /// The numbers of all tokens of a map, as many as there is room for, and how many there are.
 #[unsafe(no_mangle)]
-pub extern "C" fn proved_get_tokens(
-    map: &mut Lent,
-    out: &mut [TokenNumbers],
-    count: &mut usize,
-) -> u32
-    ensures listed { Lists result map.old.held token_numbers out.old out.new
+pub extern "C" fn proved_get_tokens(map: &Lent, out: &mut [TokenNumbers], count: &mut usize) -> u32
+    ensures listed { Lists result map.now.held token_numbers out.old out.new
         count.new }
     ensures unchanged { result ≢ 0 → (out.new ≡ out.old) × (count.new ≡ count.old) }
-    ensures back { IsBack map.old map.new }
 {
     write_found(tokens(map, out), count)
 }
 
 /// The number of names of the map in a handle. Writes as many as there is room for.
-fn names(map: &mut Lent, out: &mut [Text]) -> Result<usize, CallError>
-    ensures found { IsListedBy HasLength result map.old.held (λ m. m.names) out.old out.new }
-    ensures back { IsBack map.old map.new }
+fn names<'c>(map: Lent, out: &mut [Text<'c>]) -> Result<usize, CallError>
+    ensures found { IsListedBy IsText result map.held (λ m. m.names) out.old out.new }
 {
-    let loaded = map.map()?;
+    let loaded = map.into_map()?;
     let names = parts_of(loaded.map().as_source_map()).names.as_slice();
     write_texts(names, out);
     Ok(names.len())
@@ -372,21 +348,19 @@ fn names(map: &mut Lent, out: &mut [Text]) -> Result<usize, CallError>
 
 /// All names of a map, lent, as many as there is room for, and how many there are.
 #[unsafe(no_mangle)]
-pub extern "C" fn proved_get_names(map: &mut Lent, out: &mut [Text], count: &mut usize) -> u32
-    ensures listed { ListsBy HasLength result map.old.held (λ m. m.names)
+pub extern "C" fn proved_get_names<'c>(map: Lent, out: &mut [Text<'c>], count: &mut usize) -> u32
+    ensures listed { ListsBy IsText result map.held (λ m. m.names)
         out.old out.new count.new }
     ensures unchanged { result ≢ 0 → (out.new ≡ out.old) × (count.new ≡ count.old) }
-    ensures back { IsBack map.old map.new }
 {
     write_found(names(map, out), count)
 }
 
 /// The number of sources of the map in a handle. Writes as many as there is room for.
-fn sources(map: &mut Lent, out: &mut [Text]) -> Result<usize, CallError>
-    ensures found { IsListedBy HasLength result map.old.held (λ m. m.sources) out.old out.new }
-    ensures back { IsBack map.old map.new }
+fn sources<'c>(map: Lent, out: &mut [Text<'c>]) -> Result<usize, CallError>
+    ensures found { IsListedBy IsText result map.held (λ m. m.sources) out.old out.new }
 {
-    let loaded = map.map()?;
+    let loaded = map.into_map()?;
     let sources = parts_of(loaded.map().as_source_map()).sources.as_slice();
     write_texts(sources, out);
     Ok(sources.len())
@@ -394,22 +368,20 @@ fn sources(map: &mut Lent, out: &mut [Text]) -> Result<usize, CallError>
 
 /// All sources of a map, lent, as many as there is room for, and how many there are.
 #[unsafe(no_mangle)]
-pub extern "C" fn proved_get_sources(map: &mut Lent, out: &mut [Text], count: &mut usize) -> u32
-    ensures listed { ListsBy HasLength result map.old.held (λ m. m.sources)
+pub extern "C" fn proved_get_sources<'c>(map: Lent, out: &mut [Text<'c>], count: &mut usize) -> u32
+    ensures listed { ListsBy IsText result map.held (λ m. m.sources)
         out.old out.new count.new }
     ensures unchanged { result ≢ 0 → (out.new ≡ out.old) × (count.new ≡ count.old) }
-    ensures back { IsBack map.old map.new }
 {
     write_found(sources(map, out), count)
 }
 
 /// The number of contents of the map in a handle. Writes as many as there is room for.
-fn source_contents(map: &mut Lent, out: &mut [Text]) -> Result<usize, CallError>
-    ensures found { IsListedBy HasContent result map.old.held (λ m. m.source_contents)
+fn source_contents<'c>(map: Lent, out: &mut [Text<'c>]) -> Result<usize, CallError>
+    ensures found { IsListedBy IsContentText result map.held (λ m. m.source_contents)
         out.old out.new }
-    ensures back { IsBack map.old map.new }
 {
-    let loaded = map.map()?;
+    let loaded = map.into_map()?;
     let contents = parts_of(loaded.map().as_source_map())
         .source_contents
         .as_slice();
@@ -417,26 +389,24 @@ fn source_contents(map: &mut Lent, out: &mut [Text]) -> Result<usize, CallError>
     Ok(contents.len())
 }
 
-/// All contents of a map, lent, as many as there is room for, and how many there are. Those that are not known have no address.
+/// All contents of a map, lent, as many as there is room for, and how many there are. Those that are not known are empty.
 #[unsafe(no_mangle)]
-pub extern "C" fn proved_get_source_contents(
-    map: &mut Lent,
-    out: &mut [Text],
+pub extern "C" fn proved_get_source_contents<'c>(
+    map: Lent,
+    out: &mut [Text<'c>],
     count: &mut usize,
 ) -> u32
-    ensures listed { ListsBy HasContent result map.old.held (λ m. m.source_contents) out.old out.new
+    ensures listed { ListsBy IsContentText result map.held (λ m. m.source_contents) out.old out.new
         count.new }
     ensures unchanged { result ≢ 0 → (out.new ≡ out.old) × (count.new ≡ count.old) }
-    ensures back { IsBack map.old map.new }
 {
     write_found(source_contents(map, out), count)
 }
 
 /// The number of ids in the ignore list of the map in a handle. Writes as many as there is room for. Fails with `NoEntry` if the
 /// map has no ignore list.
-fn ignore_list(map: &mut Lent, out: &mut [u32]) -> Result<usize, CallError>
-    ensures found { IsOptionListed result map.old.held (λ m. m.ignore_list) out.old out.new }
-    ensures back { IsBack map.old map.new }
+fn ignore_list(map: &Lent, out: &mut [u32]) -> Result<usize, CallError>
+    ensures found { IsOptionListed result map.now.held (λ m. m.ignore_list) out.old out.new }
 {
     let loaded = map.map()?;
     let Some(ids) = loaded.map().get_ignore_list() else {
@@ -448,11 +418,10 @@ fn ignore_list(map: &mut Lent, out: &mut [u32]) -> Result<usize, CallError>
 
 /// The ignore list of a map, as many ids as there is room for, and how many there are. Fails if the map has none.
 #[unsafe(no_mangle)]
-pub extern "C" fn proved_get_ignore_list(map: &mut Lent, out: &mut [u32], count: &mut usize) -> u32
-    ensures listed { ListsOption result map.old.held (λ m. m.ignore_list)
+pub extern "C" fn proved_get_ignore_list(map: &Lent, out: &mut [u32], count: &mut usize) -> u32
+    ensures listed { ListsOption result map.now.held (λ m. m.ignore_list)
         out.old out.new count.new }
     ensures unchanged { result ≢ 0 → (out.new ≡ out.old) × (count.new ≡ count.old) }
-    ensures back { IsBack map.old map.new }
 {
     write_found(ignore_list(map, out), count)
 }

@@ -4,100 +4,117 @@ ghost use Rattle.std.specs.Prelude.{MatchOption, MatchResult, Some, ◌<◌, dro
 ghost use Rattle.oxc_sourcemap_c.specs.Words.{NullHandle, code_of, no_fault, held_map, HoldsMap};
 ghost use Rattle.oxc_sourcemap_c.specs.Words.{HasBias, IsTraced, AreTracesOf, AreFoundIn};
 ghost use Rattle.oxc_sourcemap_c.specs.Words.{IsTraceError, IsTraceAllError, Lengths};
-ghost use Rattle.oxc_sourcemap_c.specs.Words.{piece_numbers, IsBack, ArePieces};
+ghost use Rattle.oxc_sourcemap_c.specs.Words.{piece_numbers, ArePieces};
 ghost use Rattle.oxc_sourcemap_c.specs.Words.{IsDifference, Piece, filled, IsError, DifferFrom};
-ghost use Rattle.oxc_sourcemap_c.specs.Words.{position_at, IsGivenBack, IsCodeOf};
+ghost use Rattle.oxc_sourcemap_c.specs.Words.{position_at, IsCodeOf, lent_item};
 
 use crate::answers::{write_fault, write_found};
 use crate::reading::reverse::generated;
-use oxc_sourcemap_handles::{CallError, Fault, GivenBack, Lent, Original, PieceNumbers, bias_from};
+use oxc_sourcemap_handles::{
+    CallError, Fault, Held, Lent, LoadedMap, Original, PieceNumbers, bias_from,
+};
 use oxc_sourcemap_queries::Pieces;
 use oxc_sourcemap_tokens::Position;
 
 /// Writes what the map in a handle says of a generated position, where this is quick: there is a map, its index of lines has the
 /// usual form, and the number is that of the bias `Before`. Else it writes nothing, and returns false.
 #[inline(always)]
-fn trace_usual(map: &mut Lent, at: Position, bias: u32, out: &mut Original) -> bool
-    ensures traced { result ≡ true → IsTraced map.old.held bias at out.new }
+fn trace_usual<'c>(held: Option<&'c Held>, at: Position, bias: u32, out: &mut Original<'c>) -> bool
+    ensures traced { result ≡ true → IsTraced (lent_item held.entry) bias at out.new }
     ensures unchanged { result ≡ false → out.new ≡ out.old }
-    ensures back { IsBack map.old map.new }
 {
-    match map.map() {
-        Ok(loaded) if bias == 0 => loaded.trace_usual(at, out),
+    match held {
+        Some(Held::Map(loaded)) if bias == 0 => loaded.trace_usual(at, out),
         _ => false,
     }
 }
 
 /// What a map says of a generated position, by the bias of this number: 0, 1 or 2 for the last token before it, the same or else the
 /// first of the line, and the first token after it.
-// By value, so that what is lent stays in a register: many lookups are asked one by one.
 #[unsafe(no_mangle)]
-pub extern "C" fn proved_trace(
+pub extern "C" fn proved_trace<'c>(
     map: Lent,
     line: u32,
     column: u32,
     bias: u32,
-    out: &mut Original,
+    out: &mut Original<'c>,
     fault: &mut Fault,
-) -> GivenBack
-    ensures traced { result.code ≡ 0 → IsTraced map.held bias (position_at line column) out.new }
-    ensures no_error { result.code ≡ 0 → fault.new ≡ no_fault }
-    ensures error { result.code ≢ 0 → (out.new ≡ out.old)
-        × IsError result.code fault.new (IsTraceError (held_map map.held) bias) }
-    ensures back { IsGivenBack map result }
+) -> u32
+    ensures traced { result ≡ 0 → IsTraced map.held bias (position_at line column) out.new }
+    ensures no_error { result ≡ 0 → fault.new ≡ no_fault }
+    ensures error { result ≢ 0 → (out.new ≡ out.old)
+        × IsError result fault.new (IsTraceError (held_map map.held) bias) }
 {
-    let mut map = map;
     let at = Position { line, column };
-    if trace_usual(&mut map, at, bias, out) {
+    let held = map.into_held();
+    if trace_usual(held, at, bias, out) {
         *fault = Fault::none();
-        return map.give_back(0);
+        return 0;
     }
-    trace_anyhow(map, at, bias, out, fault)
+    trace_anyhow(held, at, bias, out, fault)
 }
 
 /// As `proved_trace`, for a caller that wants of an error the code alone.
 #[unsafe(no_mangle)]
-pub extern "C" fn proved_trace_code(
+pub extern "C" fn proved_trace_code<'c>(
     map: Lent,
     line: u32,
     column: u32,
     bias: u32,
-    out: &mut Original,
-) -> GivenBack
-    ensures traced { result.code ≡ 0 → IsTraced map.held bias (position_at line column) out.new }
-    ensures error { result.code ≢ 0 → (out.new ≡ out.old)
-        × IsCodeOf result.code (IsTraceError (held_map map.held) bias) }
-    ensures back { IsGivenBack map result }
+    out: &mut Original<'c>,
+) -> u32
+    ensures traced { result ≡ 0 → IsTraced map.held bias (position_at line column) out.new }
+    ensures error { result ≢ 0 → (out.new ≡ out.old)
+        × IsCodeOf result (IsTraceError (held_map map.held) bias) }
 {
-    let mut map = map;
     let asked = Position { line, column };
-    if trace_usual(&mut map, asked, bias, out) {
-        map.give_back(0)
+    let held = map.into_held();
+    if trace_usual(held, asked, bias, out) {
+        0
     } else {
-        trace_code_anyhow(map, asked, bias, out)
+        trace_code_anyhow(held, asked, bias, out)
     }
 }
 
 /// As `proved_trace_code`, for any map and bias.
 #[inline(never)]
-fn trace_code_anyhow(map: Lent, at: Position, bias: u32, out: &mut Original) -> GivenBack
-    ensures traced { result.code ≡ 0 → IsTraced map.held bias at out.new }
-    ensures error { result.code ≢ 0 → (out.new ≡ out.old)
-        × IsCodeOf result.code (IsTraceError (held_map map.held) bias) }
-    ensures back { IsGivenBack map result }
+fn trace_code_anyhow<'c>(
+    held: Option<&'c Held>,
+    at: Position,
+    bias: u32,
+    out: &mut Original<'c>,
+) -> u32
+    ensures traced { result ≡ 0 → IsTraced (lent_item held.entry) bias at out.new }
+    ensures error { result ≢ 0 → (out.new ≡ out.old)
+        × IsCodeOf result (IsTraceError (held_map (lent_item held.entry)) bias) }
 {
     let mut fault = Fault::none();
-    trace_anyhow(map, at, bias, out, &mut fault)
+    trace_anyhow(held, at, bias, out, &mut fault)
+}
+
+/// The map in what is lent. Fails with `NullHandle` if there is none.
+fn loaded_of(held: Option<&Held>) -> Result<&LoadedMap, CallError>
+    ensures { MatchOption (held_map (lent_item held.entry)) (result ≡ Err NullHandle)
+        (λ m. MatchResult result (λ loaded. loaded.now.map ≡ m) (λ _. ⊥)) }
+{
+    match held {
+        Some(Held::Map(loaded)) => Ok(loaded),
+        _ => Err(CallError::NullHandle),
+    }
 }
 
 /// Writes what the map in a handle says of a generated position, by the bias of this number, and nothing on an error.
-fn trace(map: &mut Lent, at: Position, bias: u32, out: &mut Original) -> Result<(), CallError>
-    ensures traced { OnOk result (IsTraced map.old.held bias at out.new) }
-    ensures error { IfErr result (IsTraceError (held_map map.old.held) bias) }
+fn trace<'c>(
+    held: Option<&'c Held>,
+    at: Position,
+    bias: u32,
+    out: &mut Original<'c>,
+) -> Result<(), CallError>
+    ensures traced { OnOk result (IsTraced (lent_item held.entry) bias at out.new) }
+    ensures error { IfErr result (IsTraceError (held_map (lent_item held.entry)) bias) }
     ensures unchanged { OnErr result (out.new ≡ out.old) }
-    ensures back { IsBack map.old map.new }
 {
-    let loaded = map.map()?;
+    let loaded = loaded_of(held)?;
     let bias = bias_from(bias)?;
     Ok(loaded.trace(at, bias, out)?)
 }
@@ -105,22 +122,19 @@ fn trace(map: &mut Lent, at: Position, bias: u32, out: &mut Original) -> Result<
 /// As `proved_trace`, for any map and bias.
 // A call of its own, so that the usual lookup saves few registers.
 #[inline(never)]
-fn trace_anyhow(
-    map: Lent,
+fn trace_anyhow<'c>(
+    held: Option<&'c Held>,
     at: Position,
     bias: u32,
-    out: &mut Original,
+    out: &mut Original<'c>,
     fault: &mut Fault,
-) -> GivenBack
-    ensures traced { result.code ≡ 0 → IsTraced map.held bias at out.new }
-    ensures no_error { result.code ≡ 0 → fault.new ≡ no_fault }
-    ensures error { result.code ≢ 0 → (out.new ≡ out.old)
-        × IsError result.code fault.new (IsTraceError (held_map map.held) bias) }
-    ensures back { IsGivenBack map result }
+) -> u32
+    ensures traced { result ≡ 0 → IsTraced (lent_item held.entry) bias at out.new }
+    ensures no_error { result ≡ 0 → fault.new ≡ no_fault }
+    ensures error { result ≢ 0 → (out.new ≡ out.old)
+        × IsError result fault.new (IsTraceError (held_map (lent_item held.entry)) bias) }
 {
-    let mut map = map;
-    let code = write_fault(trace(&mut map, at, bias, out), fault);
-    map.give_back(code)
+    write_fault(trace(held, at, bias, out), fault)
 }
 
 /// Whether there are as many answers as positions. Fails with `Lengths` if not.
@@ -136,20 +150,19 @@ fn have_one_length(positions: usize, answers: usize) -> Result<(), CallError>
 }
 
 /// Writes what the map in a handle says of many generated positions, by the bias of this number, and nothing on an error.
-fn trace_all(
-    map: &mut Lent,
+fn trace_all<'c>(
+    map: Lent,
     positions: &[Position],
     bias: u32,
-    out: &mut [Original],
+    out: &mut [Original<'c>],
 ) -> Result<(), CallError>
-    ensures traced { OnOk result (HoldsMap map.old.held (λ m. HasBias bias
+    ensures traced { OnOk result (HoldsMap map.held (λ m. HasBias bias
         (λ b. AreTracesOf b positions.now out.new m))) }
     ensures error { IfErr result
-        (IsTraceAllError positions.now out.old (held_map map.old.held) bias) }
+        (IsTraceAllError positions.now out.old (held_map map.held) bias) }
     ensures unchanged { OnErr result (out.new ≡ out.old) }
-    ensures back { IsBack map.old map.new }
 {
-    let loaded = map.map()?;
+    let loaded = map.into_map()?;
     have_one_length(positions.len(), out.len())?;
     let bias = bias_from(bias)?;
     Ok(loaded.trace_all(positions, bias, out)?)
@@ -158,37 +171,30 @@ fn trace_all(
 /// What a map says of generated positions, each at the index of its position, by the bias of this number. On an error nothing is
 /// written.
 #[unsafe(no_mangle)]
-pub extern "C" fn proved_trace_all(
-    map: &mut Lent,
+pub extern "C" fn proved_trace_all<'c>(
+    map: Lent,
     positions: &[Position],
     bias: u32,
-    out: &mut [Original],
+    out: &mut [Original<'c>],
     fault: &mut Fault,
 ) -> u32
-    ensures traced { result ≡ 0 → HoldsMap map.old.held (λ m. HasBias bias
+    ensures traced { result ≡ 0 → HoldsMap map.held (λ m. HasBias bias
         (λ b. AreTracesOf b positions.now out.new m)) }
     ensures no_error { result ≡ 0 → fault.new ≡ no_fault }
     ensures error { result ≢ 0 → (out.new ≡ out.old) × IsError result fault.new
-        (IsTraceAllError positions.now out.old (held_map map.old.held) bias) }
-    ensures back { IsBack map.old map.new }
+        (IsTraceAllError positions.now out.old (held_map map.held) bias) }
 {
     write_fault(trace_all(map, positions, bias, out), fault)
 }
 
 /// Writes the indices of the tokens that answer for many generated positions in the map in a handle, by the bias of this number,
 /// and nothing on an error.
-fn find_all(
-    map: &mut Lent,
-    positions: &[Position],
-    bias: u32,
-    out: &mut [u32],
-) -> Result<(), CallError>
-    ensures found { OnOk result (HoldsMap map.old.held (λ m. HasBias bias
+fn find_all(map: &Lent, positions: &[Position], bias: u32, out: &mut [u32]) -> Result<(), CallError>
+    ensures found { OnOk result (HoldsMap map.now.held (λ m. HasBias bias
         (λ b. AreFoundIn b positions.now out.new m))) }
     ensures error { IfErr result
-        (IsTraceAllError positions.now out.old (held_map map.old.held) bias) }
+        (IsTraceAllError positions.now out.old (held_map map.now.held) bias) }
     ensures unchanged { OnErr result (out.new ≡ out.old) }
-    ensures back { IsBack map.old map.new }
 {
     let loaded = map.map()?;
     have_one_length(positions.len(), out.len())?;
@@ -200,18 +206,17 @@ fn find_all(
 /// number; 4294967295 for none. On an error nothing is written.
 #[unsafe(no_mangle)]
 pub extern "C" fn proved_find_all(
-    map: &mut Lent,
+    map: &Lent,
     positions: &[Position],
     bias: u32,
     out: &mut [u32],
     fault: &mut Fault,
 ) -> u32
-    ensures found { result ≡ 0 → HoldsMap map.old.held (λ m. HasBias bias
+    ensures found { result ≡ 0 → HoldsMap map.now.held (λ m. HasBias bias
         (λ b. AreFoundIn b positions.now out.new m)) }
     ensures no_error { result ≡ 0 → fault.new ≡ no_fault }
     ensures error { result ≢ 0 → (out.new ≡ out.old) × IsError result fault.new
-        (IsTraceAllError positions.now out.old (held_map map.old.held) bias) }
-    ensures back { IsBack map.old map.new }
+        (IsTraceAllError positions.now out.old (held_map map.now.held) bias) }
 {
     write_fault(find_all(map, positions, bias, out), fault)
 }
@@ -242,15 +247,14 @@ fn write_pieces(pieces: Pieces<'_>, out: &mut [PieceNumbers]) -> usize
 
 /// The number of pieces of a range of generated code, by the map in a handle. Writes as many as there is room for.
 fn pieces(
-    map: &mut Lent,
+    map: &Lent,
     begin: Position,
     end: Position,
     out: &mut [PieceNumbers],
 ) -> Result<usize, CallError>
-    ensures found { MatchOption (held_map map.old.held)
+    ensures found { MatchOption (held_map map.now.held)
         ((result ≡ Err NullHandle) × (out.new ≡ out.old))
         (λ m. ArePieces m begin end result out.old out.new) }
-    ensures back { IsBack map.old map.new }
 {
     let loaded = map.map()?;
     let pieces = loaded
@@ -262,25 +266,22 @@ fn pieces(
 /// The pieces of a range of generated code, by a map, as many as there is room for, and how many there are.
 #[unsafe(no_mangle)]
 pub extern "C" fn proved_pieces(
-    map: &mut Lent,
+    map: &Lent,
     begin: &Position,
     end: &Position,
     out: &mut [PieceNumbers],
     count: &mut usize,
 ) -> u32
-    ensures pieces { MatchOption (held_map map.old.held) (result ≡ code_of NullHandle)
+    ensures pieces { MatchOption (held_map map.now.held) (result ≡ code_of NullHandle)
         (λ m. (result ≡ 0) × ArePieces m begin.now end.now (Ok count.new) out.old out.new) }
     ensures unchanged { result ≢ 0 → (out.new ≡ out.old) × (count.new ≡ count.old) }
-    ensures back { IsBack map.old map.new }
 {
     write_found(pieces(map, *begin, *end, out), count)
 }
 
 /// The first generated position at which the maps in two handles say different things.
-fn first_difference(map: &mut Lent, other: &mut Lent) -> Result<Position, CallError>
-    ensures found { IsDifference (held_map map.old.held) (held_map other.old.held) result }
-    ensures back { IsBack map.old map.new }
-    ensures other_back { IsBack other.old other.new }
+fn first_difference(map: &Lent, other: &Lent) -> Result<Position, CallError>
+    ensures found { IsDifference (held_map map.now.held) (held_map other.now.held) result }
 {
     let map = map.map()?;
     let other = other.map()?;
@@ -292,15 +293,9 @@ fn first_difference(map: &mut Lent, other: &mut Lent) -> Result<Position, CallEr
 
 /// The first generated position at which two maps say different things.
 #[unsafe(no_mangle)]
-pub extern "C" fn proved_first_difference(
-    map: &mut Lent,
-    other: &mut Lent,
-    out: &mut Position,
-) -> u32
-    ensures found { DifferFrom (held_map map.old.held) (held_map other.old.held) result out.new }
+pub extern "C" fn proved_first_difference(map: &Lent, other: &Lent, out: &mut Position) -> u32
+    ensures found { DifferFrom (held_map map.now.held) (held_map other.now.held) result out.new }
     ensures unchanged { result ≢ 0 → out.new ≡ out.old }
-    ensures back { IsBack map.old map.new }
-    ensures other_back { IsBack other.old other.new }
 {
     write_found(first_difference(map, other), out)
 }

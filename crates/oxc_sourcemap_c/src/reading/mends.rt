@@ -3,7 +3,7 @@ ghost use Rattle.std.specs.Prelude.{◌≡◌, map, length, MatchOption, IsOk, O
 ghost use Rattle.std.specs.Prelude.{None, Ok};
 ghost use Rattle.oxc_sourcemap_c.specs.Words.{numbers_of_kind, numbers_of_mend, kind_of_numbers};
 ghost use Rattle.oxc_sourcemap_c.specs.Words.{mend_of_numbers, filled, kind_numbers, held_mends};
-ghost use Rattle.oxc_sourcemap_c.specs.Words.{lent_item, NullHandle, IsBack, found, code_of};
+ghost use Rattle.oxc_sourcemap_c.specs.Words.{lent_item, NullHandle, found, code_of};
 
 use oxc_sourcemap_found::{Mend, MendKind};
 use oxc_sourcemap_handles::{CallError, Fault, Held, Lent, number_told, told_number};
@@ -129,28 +129,22 @@ fn list_held(
 }
 
 /// Writes the numbers of as many of the mends that are lent as there is room for, and the number of all.
-fn list_mends(mends: &mut Lent, out: &mut [MendNumbers], count: &mut usize) -> Result<(), CallError>
-    ensures found { MatchOption (held_mends mends.old.held) (result ≡ Err NullHandle)
+fn list_mends(mends: &Lent, out: &mut [MendNumbers], count: &mut usize) -> Result<(), CallError>
+    ensures found { MatchOption (held_mends mends.now.held) (result ≡ Err NullHandle)
         (λ ms. IsOk result × (count.new ≡ length ms)
         × (out.new ≡ filled (map numbers_of_mend ms) out.old)) }
     ensures unchanged { OnErr result ((out.new ≡ out.old) × (count.new ≡ count.old)) }
-    ensures back { IsBack mends.old mends.new }
 {
     list_held(mends.get(), out, count)
 }
 
 /// Lists what was mended: as many as there is room for, and the number of all.
 #[unsafe(no_mangle)]
-pub extern "C" fn proved_get_mends(
-    mends: &mut Lent,
-    out: &mut [MendNumbers],
-    count: &mut usize,
-) -> u32
-    ensures found { MatchOption (held_mends mends.old.held) (result ≡ code_of NullHandle)
+pub extern "C" fn proved_get_mends(mends: &Lent, out: &mut [MendNumbers], count: &mut usize) -> u32
+    ensures found { MatchOption (held_mends mends.now.held) (result ≡ code_of NullHandle)
         (λ ms. (result ≡ 0) × (count.new ≡ length ms)
         × (out.new ≡ filled (map numbers_of_mend ms) out.old)) }
     ensures unchanged { result ≢ 0 → (out.new ≡ out.old) × (count.new ≡ count.old) }
-    ensures back { IsBack mends.old mends.new }
 {
     match list_mends(mends, out, count) {
         Ok(()) => 0,

@@ -1,13 +1,14 @@
 //! From original positions to generated ones, in the maps of handles.
 ghost use Rattle.std.specs.Prelude.{◌≡◌, ◌≢◌, ◌<◌, ◌≤◌, ℕ, true, List, [], ◌∷◌, ◌++◌, Some, length};
 ghost use Rattle.std.specs.Prelude.{get_or, slice_get, OnOk, OnErr, IfErr, IfSome, IsNone};
-ghost use Rattle.std.specs.Prelude.{MatchResult, Ok};
+ghost use Rattle.std.specs.Prelude.{MatchResult, Ok, Err};
 ghost use Rattle.oxc_sourcemap_c.specs.Words.{TokenRecord, is_into, indices_on, answering};
 ghost use Rattle.oxc_sourcemap_c.specs.Words.{IsSourceOrderOf, filled, held_loaded, held_map};
 ghost use Rattle.oxc_sourcemap_c.specs.Words.{IsFirstGenerated, AreAllGenerated, HoldsOrder};
-ghost use Rattle.oxc_sourcemap_c.specs.Words.{IsIndexError, out_of_memory, OnLine, code_of, IsBack};
+ghost use Rattle.oxc_sourcemap_c.specs.Words.{IsIndexError, out_of_memory, OnLine, code_of};
 ghost use Rattle.oxc_sourcemap_c.specs.Words.{no_fault, IsErrorAs, NullHandle, HasFirst, HasAll};
 ghost use Rattle.oxc_sourcemap_c.specs.Words.{source_place};
+ghost use Rattle.oxc_sourcemap_c.specs.Words.{CallError, IsMapMissing};
 
 use crate::answers::{write_fault, write_found};
 use crate::reading::getters::write_numbers;
@@ -174,9 +175,8 @@ fn first_answer(
 }
 
 /// The first token of the map in a handle that answers for an original position, in the direction of this number.
-pub fn generated(map: &mut Lent, at: SourcePlace, direction: u32) -> Result<FoundToken, CallError>
-    ensures found { IsFirstGenerated (held_loaded map.old.held) direction at result }
-    ensures back { IsBack map.old map.new }
+pub fn generated(map: &Lent, at: SourcePlace, direction: u32) -> Result<FoundToken, CallError>
+    ensures found { IsFirstGenerated (held_loaded map.now.held) direction at result }
 {
     let loaded = map.map()?;
     let direction = Direction::of(direction)?;
@@ -195,7 +195,7 @@ pub fn generated(map: &mut Lent, at: SourcePlace, direction: u32) -> Result<Foun
 /// or 3: at the position, at the last column up to it, at the first one from it on, or on its line.
 #[unsafe(no_mangle)]
 pub extern "C" fn proved_generated(
-    map: &mut Lent,
+    map: &Lent,
     source_id: u32,
     line: u32,
     column: u32,
@@ -203,11 +203,10 @@ pub extern "C" fn proved_generated(
     index: &mut u32,
     token: &mut TokenNumbers,
 ) -> u32
-    ensures found { HasFirst (held_loaded map.old.held) direction
+    ensures found { HasFirst (held_loaded map.now.held) direction
         (source_place source_id line column)
         result index.new token.new }
     ensures unchanged { result ≢ 0 → (index.new ≡ index.old) × (token.new ≡ token.old) }
-    ensures back { IsBack map.old map.new }
 {
     let at = SourcePlace {
         source_id,
@@ -220,13 +219,12 @@ pub extern "C" fn proved_generated(
 /// The number of tokens of the map in a handle that answer for an original position, in the direction of this number. Writes the
 /// indices of as many as there is room for.
 fn all_generated(
-    map: &mut Lent,
+    map: &Lent,
     at: SourcePlace,
     direction: u32,
     out: &mut [u32],
 ) -> Result<usize, CallError>
-    ensures found { AreAllGenerated (held_loaded map.old.held) direction at result out.old out.new }
-    ensures back { IsBack map.old map.new }
+    ensures found { AreAllGenerated (held_loaded map.now.held) direction at result out.old out.new }
 {
     let loaded = map.map()?;
     let direction = Direction::of(direction)?;
@@ -238,7 +236,7 @@ fn all_generated(
 /// and how many there are.
 #[unsafe(no_mangle)]
 pub extern "C" fn proved_all_generated(
-    map: &mut Lent,
+    map: &Lent,
     source_id: u32,
     line: u32,
     column: u32,
@@ -246,10 +244,9 @@ pub extern "C" fn proved_all_generated(
     out: &mut [u32],
     count: &mut usize,
 ) -> u32
-    ensures found { HasAll (held_loaded map.old.held) direction (source_place source_id line column)
+    ensures found { HasAll (held_loaded map.now.held) direction (source_place source_id line column)
         result out.old out.new count.new }
     ensures unchanged { result ≢ 0 → (out.new ≡ out.old) × (count.new ≡ count.old) }
-    ensures back { IsBack map.old map.new }
 {
     let at = SourcePlace {
         source_id,
@@ -266,6 +263,7 @@ fn index_held(alloc: Global, held: &mut Held) -> Result<(), CallError>
     ensures error { IfErr result (λ r. (r ≢ out_of_memory)
         → IsIndexError (held_loaded (Some held.old)) r) }
     ensures unchanged { OnErr result (held.new ≡ held.old) }
+    ensures sure { (r : CallError) → IsMapMissing (Some held.old) r → result ≡ Err r }
 {
     match held {
         Held::Map(loaded) => Ok(loaded.index_sources(alloc)?),
@@ -280,6 +278,7 @@ fn index_sources(alloc: Global, handle: &mut Handle) -> Result<(), CallError>
     ensures error { IfErr result (λ r. (r ≢ out_of_memory)
         → IsIndexError (held_loaded handle.old.held) r) }
     ensures unchanged { OnErr result (handle.new.held ≡ handle.old.held) }
+    ensures sure { (r : CallError) → IsMapMissing handle.old.held r → result ≡ Err r }
 {
     match handle.take(alloc) {
         Some(held) => {
@@ -300,6 +299,7 @@ pub extern "C" fn proved_index_sources(alloc: Global, map: &mut Handle, fault: &
     ensures no_error { result ≡ 0 → fault.new ≡ no_fault }
     ensures error { result ≢ 0 → (map.new.held ≡ map.old.held)
         × IsErrorAs result fault.new (IsIndexError (held_loaded map.old.held)) }
+    ensures sure { (r : CallError) → IsMapMissing map.old.held r → result ≡ code_of r }
 {
     write_fault(index_sources(alloc, map), fault)
 }

@@ -21,20 +21,22 @@ fn language_of(number: u32) -> Option<Language>
     }
 }
 
-fn url_in(code: &str, language: u32) -> Result<Text, CallError>
+fn url_in(code: &str, language: u32) -> Result<Text<'_>, CallError>
     ensures { IsUrlIn code.now language result }
 {
     let Some(language) = language_of(language) else {
         return Err(CallError::BadOption);
     };
     match oxc_sourcemap_text::source_mapping_url(code, language) {
-        Some(url) => Ok(Text::of(url.as_bytes())),
+        Some(url) => Ok(Text {
+            bytes: url.as_bytes(),
+        }),
         None => Err(CallError::NoEntry),
     }
 }
 
 /// The URL that a code in the language with this number names for its map, as a part of the code.
-fn source_mapping_url(code: &[u8], language: u32) -> Result<Text, CallError>
+fn source_mapping_url(code: &[u8], language: u32) -> Result<Text<'_>, CallError>
     ensures { IsUrlOf code.now language result }
 {
     url_in(text_of(code)?, language)
@@ -42,10 +44,10 @@ fn source_mapping_url(code: &[u8], language: u32) -> Result<Text, CallError>
 
 /// The URL that a code names for its map, as a part of the code. The language is 0 for JavaScript and 1 for CSS.
 #[unsafe(no_mangle)]
-pub extern "C" fn proved_source_mapping_url(
-    code: &[u8],
+pub extern "C" fn proved_source_mapping_url<'c>(
+    code: &'c [u8],
     language: u32,
-    out: &mut Text,
+    out: &mut Text<'c>,
     fault: &mut Fault,
 ) -> u32
     ensures url { IsUrlAnswer code.now language result out.new fault.new }

@@ -2,83 +2,66 @@
 ghost use Rattle.std.specs.Prelude.{◌≡◌, ◌≢◌, None, Ok, map, string_bytes, IfOk, IfErr};
 ghost use Rattle.oxc_sourcemap_c.specs.Words.{out_of_memory, map_text_within, map_url_within};
 ghost use Rattle.oxc_sourcemap_c.specs.Words.{mappings_within, mappings_text_within, token_of};
-ghost use Rattle.oxc_sourcemap_c.specs.Words.{IsWrittenAs, IsTokensErrorWithin, lent_item, IsBack};
+ghost use Rattle.oxc_sourcemap_c.specs.Words.{IsWrittenAs, IsTokensErrorWithin};
 ghost use Rattle.oxc_sourcemap_c.specs.Words.{Answers, no_fault, IsErrorAs, held_map, HoldsString};
 ghost use Rattle.oxc_sourcemap_c.specs.Words.{HoldsWritten, IsWritingError};
+ghost use Rattle.oxc_sourcemap_c.specs.Words.{CallError, IsMapMissing, code_of};
 
-use oxc_sourcemap_handles::{
-    CallError, Fault, Handle, Held, Lent, TokenNumbers, map_of, put_text, tokens_of,
-};
+use oxc_sourcemap_handles::{CallError, Fault, Handle, Lent, TokenNumbers, put_text, tokens_of};
 use oxc_sourcemap_json::encode_mappings_within as encode_within;
 use oxc_sourcemap_map::{OwnedSourceMap, parts_of};
 use std::alloc::Global;
 
-fn json_of(alloc: Global, held: Option<&Held>, limit: usize) -> Result<String, CallError>
-    ensures { IsWrittenAs (λ text. string_bytes text) result (lent_item held.entry)
-        (map_text_within limit) }
-{
-    Ok(map_of(held)?.to_json_string_within(alloc, limit)?)
-}
-
 /// The JSON text of the map that is lent, if it has at most `limit` bytes.
-fn to_json_string_within(alloc: Global, map: &mut Lent, limit: usize) -> Result<String, CallError>
-    ensures text { IsWrittenAs (λ text. string_bytes text) result map.old.held
+fn to_json_string_within(alloc: Global, map: &Lent, limit: usize) -> Result<String, CallError>
+    ensures text { IsWrittenAs (λ text. string_bytes text) result map.now.held
         (map_text_within limit) }
-    ensures back { IsBack map.old map.new }
 {
-    json_of(alloc, map.get(), limit)
+    Ok(map.source_map()?.to_json_string_within(alloc, limit)?)
 }
 
 /// Writes the JSON text of a map, if it has at most `limit` bytes.
 #[unsafe(no_mangle)]
 pub extern "C" fn proved_to_json_string_within(
     alloc: Global,
-    map: &mut Lent,
+    map: &Lent,
     limit: usize,
     out: &mut Handle,
     fault: &mut Fault,
 ) -> u32
-    ensures text { result ≡ 0 → HoldsWritten (map_text_within limit) map.old.held out.new.held }
+    ensures text { result ≡ 0 → HoldsWritten (map_text_within limit) map.now.held out.new.held }
     ensures no_error { result ≡ 0 → fault.new ≡ no_fault }
     ensures error { result ≢ 0 → (out.new.held ≡ out.old.held)
         × IsErrorAs result fault.new
-        (IsWritingError (map_text_within limit) (held_map map.old.held)) }
-    ensures back { IsBack map.old map.new }
+        (IsWritingError (map_text_within limit) (held_map map.now.held)) }
+    ensures sure { (r : CallError) → IsMapMissing map.now.held r → result ≡ code_of r }
 {
     put_text(alloc, to_json_string_within(alloc, map, limit), out, fault)
 }
 
-fn url_of(alloc: Global, held: Option<&Held>, limit: usize) -> Result<String, CallError>
-    ensures { IsWrittenAs (λ text. string_bytes text) result (lent_item held.entry)
-        (map_url_within limit) }
-{
-    Ok(map_of(held)?.to_data_url_within(alloc, limit)?)
-}
-
 /// The data URL of the map that is lent, if it has at most `limit` bytes.
-fn to_data_url_within(alloc: Global, map: &mut Lent, limit: usize) -> Result<String, CallError>
-    ensures text { IsWrittenAs (λ text. string_bytes text) result map.old.held
+fn to_data_url_within(alloc: Global, map: &Lent, limit: usize) -> Result<String, CallError>
+    ensures text { IsWrittenAs (λ text. string_bytes text) result map.now.held
         (map_url_within limit) }
-    ensures back { IsBack map.old map.new }
 {
-    url_of(alloc, map.get(), limit)
+    Ok(map.source_map()?.to_data_url_within(alloc, limit)?)
 }
 
 /// Writes the data URL of a map, if it has at most `limit` bytes.
 #[unsafe(no_mangle)]
 pub extern "C" fn proved_to_data_url_within(
     alloc: Global,
-    map: &mut Lent,
+    map: &Lent,
     limit: usize,
     out: &mut Handle,
     fault: &mut Fault,
 ) -> u32
-    ensures text { result ≡ 0 → HoldsWritten (map_url_within limit) map.old.held out.new.held }
+    ensures text { result ≡ 0 → HoldsWritten (map_url_within limit) map.now.held out.new.held }
     ensures no_error { result ≡ 0 → fault.new ≡ no_fault }
     ensures error { result ≢ 0 → (out.new.held ≡ out.old.held)
         × IsErrorAs result fault.new
-        (IsWritingError (map_url_within limit) (held_map map.old.held)) }
-    ensures back { IsBack map.old map.new }
+        (IsWritingError (map_url_within limit) (held_map map.now.held)) }
+    ensures sure { (r : CallError) → IsMapMissing map.now.held r → result ≡ code_of r }
 {
     put_text(alloc, to_data_url_within(alloc, map, limit), out, fault)
 }
@@ -105,38 +88,30 @@ fn mappings_of(
     }
 }
 
-fn mappings_in(alloc: Global, held: Option<&Held>, limit: usize) -> Result<String, CallError>
-    ensures { IsWrittenAs (λ text. string_bytes text) result (lent_item held.entry)
-        (mappings_text_within limit) }
-{
-    Ok(mappings_of(alloc, map_of(held)?, limit)?)
-}
-
 /// The mappings text of the map that is lent, if it has at most `limit` bytes.
-fn get_mappings_within(alloc: Global, map: &mut Lent, limit: usize) -> Result<String, CallError>
-    ensures text { IsWrittenAs (λ text. string_bytes text) result map.old.held
+fn get_mappings_within(alloc: Global, map: &Lent, limit: usize) -> Result<String, CallError>
+    ensures text { IsWrittenAs (λ text. string_bytes text) result map.now.held
         (mappings_text_within limit) }
-    ensures back { IsBack map.old map.new }
 {
-    mappings_in(alloc, map.get(), limit)
+    Ok(mappings_of(alloc, map.source_map()?, limit)?)
 }
 
 /// Writes the mappings text of a map, if it has at most `limit` bytes.
 #[unsafe(no_mangle)]
 pub extern "C" fn proved_get_mappings_within(
     alloc: Global,
-    map: &mut Lent,
+    map: &Lent,
     limit: usize,
     out: &mut Handle,
     fault: &mut Fault,
 ) -> u32
     ensures text { result ≡ 0
-        → HoldsWritten (mappings_text_within limit) map.old.held out.new.held }
+        → HoldsWritten (mappings_text_within limit) map.now.held out.new.held }
     ensures no_error { result ≡ 0 → fault.new ≡ no_fault }
     ensures error { result ≢ 0 → (out.new.held ≡ out.old.held)
         × IsErrorAs result fault.new
-        (IsWritingError (mappings_text_within limit) (held_map map.old.held)) }
-    ensures back { IsBack map.old map.new }
+        (IsWritingError (mappings_text_within limit) (held_map map.now.held)) }
+    ensures sure { (r : CallError) → IsMapMissing map.now.held r → result ≡ code_of r }
 {
     put_text(alloc, get_mappings_within(alloc, map, limit), out, fault)
 }

@@ -164,7 +164,7 @@ impl LoadedMap {
 
     /// Writes what the token at this index says, or that there is none.
     #[inline(always)]
-    fn write_original(&self, found: Option<usize>, out: &mut Original)
+    fn write_original<'c>(&'c self, found: Option<usize>, out: &mut Original<'c>)
         requires { IfSome found (λ i. i < length self.now.map.tokens) }
         ensures { IsSeen self.now.map found out.new }
     {
@@ -178,7 +178,7 @@ impl LoadedMap {
     }
 
     /// Writes what the map says of a generated position, found by this index of lines.
-    fn trace_by(&self, index: &LineIndex, at: Position, bias: Bias, out: &mut Original)
+    fn trace_by<'c>(&'c self, index: &LineIndex, at: Position, bias: Bias, out: &mut Original<'c>)
         requires { IsIndexOf self.now.map.tokens index.now }
         ensures { IsTraceOf bias self.now.map at out.new }
     {
@@ -187,7 +187,7 @@ impl LoadedMap {
 
     /// As `trace_by` by the last token before the position.
     #[inline(always)]
-    fn trace_by_usual(&self, index: UsualIndex<'_>, at: Position, out: &mut Original)
+    fn trace_by_usual<'c>(&'c self, index: UsualIndex<'_>, at: Position, out: &mut Original<'c>)
         requires { IsUsualIndexOf self.now.map.tokens index }
         ensures { IsTraceOf Before self.now.map at out.new }
     {
@@ -209,7 +209,7 @@ impl LoadedMap {
     /// returns false.
     // Compiled it has no call, so the usual lookup saves few registers.
     #[inline(always)]
-    pub fn trace_usual(&self, at: Position, out: &mut Original) -> bool
+    pub fn trace_usual<'c>(&'c self, at: Position, out: &mut Original<'c>) -> bool
         ensures traced { result ≡ true → IsInLineOrder self.now.map.tokens
             × IsTraceOf Before self.now.map at out.new }
         ensures unchanged { result ≡ false → out.new ≡ out.old }
@@ -225,7 +225,7 @@ impl LoadedMap {
 
     /// Writes what the map says of a generated position. Fails with `LineOrder` if the tokens are not in line order, and writes
     /// nothing then.
-    pub fn trace(&self, at: Position, bias: Bias, out: &mut Original) -> Result<()>
+    pub fn trace<'c>(&'c self, at: Position, bias: Bias, out: &mut Original<'c>) -> Result<()>
         ensures traced { OnOk result (IsInLineOrder self.now.map.tokens
             × IsTraceOf bias self.now.map at out.new) }
         ensures error { IfErr result (IsOutOfOrder self.now.map.tokens) }
@@ -237,12 +237,12 @@ impl LoadedMap {
     }
 
     /// Writes what the map says of many positions, found by this index of lines, each at the index of its position.
-    fn write_traces(
-        &self,
+    fn write_traces<'c>(
+        &'c self,
         index: &LineIndex,
         positions: &[Position],
         bias: Bias,
-        out: &mut [Original],
+        out: &mut [Original<'c>],
     )
         requires index { IsIndexOf self.now.map.tokens index.now }
         requires lengths { length positions.now ≡ length out.old }
@@ -254,11 +254,11 @@ impl LoadedMap {
     }
 
     /// As `write_traces` by the last token before each position.
-    fn write_usual_traces(
-        &self,
+    fn write_usual_traces<'c>(
+        &'c self,
         index: UsualIndex<'_>,
         positions: &[Position],
-        out: &mut [Original],
+        out: &mut [Original<'c>],
     )
         requires index { IsUsualIndexOf self.now.map.tokens index }
         requires lengths { length positions.now ≡ length out.old }
@@ -270,7 +270,12 @@ impl LoadedMap {
     }
 
     /// What the map says of many positions, each at the index of its position. Fails as `trace` does, and writes nothing then.
-    pub fn trace_all(&self, positions: &[Position], bias: Bias, out: &mut [Original]) -> Result<()>
+    pub fn trace_all<'c>(
+        &'c self,
+        positions: &[Position],
+        bias: Bias,
+        out: &mut [Original<'c>],
+    ) -> Result<()>
         requires { length positions.now ≡ length out.old }
         ensures traced { OnOk result (AreTracesOf bias positions.now out.new self.now.map) }
         ensures error { IfErr result (IsOutOfOrder self.now.map.tokens) }

@@ -40,6 +40,7 @@ pub fn put_map(
         (λ map. (held_map handle.new.held ≡ Some map) × (fault.new ≡ no_fault)) (λ _. ⊥) }
     ensures error { result ≢ 0 → (handle.new.held ≡ handle.old.held)
         × IsErrorAs result fault.new (λ r. made ≡ Err r) }
+    ensures told { IfErr made (λ r. result ≡ code_of r) }
 {
     let held = match made {
         Ok(map) => box_map(alloc, map),
@@ -60,6 +61,7 @@ pub fn put_text(
         (λ _. ⊥) }
     ensures error { result ≢ 0 → (handle.new.held ≡ handle.old.held)
         × IsErrorAs result fault.new (λ r. written ≡ Err r) }
+    ensures told { IfErr written (λ r. result ≡ code_of r) }
 {
     let held = match written {
         Ok(text) => match Box::new(alloc, Held::Written(text)) {

@@ -1,60 +1,40 @@
 //! What C reads: borrowed bytes, and structs of numbers and borrowed bytes.
-ghost use Rattle.std.specs.Prelude.{◌≡◌, [], length, Option, Some, None, slice_get};
+ghost use Rattle.std.specs.Prelude.{◌≡◌, [], Some, None, slice_get};
 ghost use Rattle.std.specs.Option.{unwrap_or};
-ghost use Rattle.std.specs.Ptr.{as_ptr, null_ptr};
 ghost use Rattle.oxc_sourcemap_handles.specs.Words.{view_of, view_name, view_original, HasOriginal};
 ghost use Rattle.oxc_sourcemap_handles.specs.Words.{number_or_none, numbers_of, no_numbers};
-ghost use Rattle.oxc_sourcemap_handles.specs.Words.{lent_item, index_number, IsSeen, HasContent};
+ghost use Rattle.oxc_sourcemap_handles.specs.Words.{lent_item, index_number, IsSeen};
 ghost use Rattle.oxc_sourcemap_handles.specs.Words.{piece_numbers};
 
 use oxc_sourcemap_map::{SourceMap, SourceViewToken};
 use oxc_sourcemap_queries::Piece;
 use oxc_sourcemap_tokens::{Position, Token};
-use std::ptr::null;
 
-/// Bytes borrowed from what a handle holds, for C alone: nothing here reads them.
+/// The bytes of a text that is lent to C, for the lifetime `'c`.
 #[repr(C)]
-#[derive(Drop)]
-pub struct Text {
-    pub at: *const u8,
-    pub len: usize,
+#[derive(Clone, Copy)]
+pub struct Text<'c> {
+    pub bytes: &'c [u8],
 }
 
-impl Text {
-    /// The address and the length of these bytes.
-    pub fn of(bytes: &[u8]) -> Text
-        ensures { (result.at ≡ as_ptr bytes.entry) × (result.len ≡ length bytes.now) }
+impl<'c> Text<'c> {
+    /// The bytes of this text.
+    pub fn of(text: &'c str) -> Text<'c>
+        ensures { result.bytes.now ≡ text.now }
     {
-        let at = bytes.as_ptr();
-        let len = bytes.len();
-        Text { at, len }
-    }
-
-    /// No text: no address, and the length 0.
-    fn none() -> Text
-        ensures { (result.at ≡ null_ptr) × (result.len ≡ 0) }
-    {
-        Text { at: null(), len: 0 }
-    }
-
-    /// A content, or no text if it is not known.
-    pub fn of_content(content: Option<&str>) -> Text
-        ensures { HasContent result (lent_item content.entry) }
-    {
-        match content {
-            Some(text) => Text::of(text.as_bytes()),
-            None => Text::none(),
+        Text {
+            bytes: text.as_bytes(),
         }
     }
 
-    /// A text, or an empty one if there is none.
+    /// The bytes of this text, none if there is no text.
     #[inline(always)]
-    fn of_option(text: Option<&str>) -> Text
-        ensures { result.len ≡ length (unwrap_or (lent_item text.entry) []) }
+    pub fn of_option(text: Option<&'c str>) -> Text<'c>
+        ensures { result.bytes.now ≡ unwrap_or (lent_item text.entry) [] }
     {
         match text {
-            Some(text) => Text::of(text.as_bytes()),
-            None => Text::of(&[]),
+            Some(text) => Text::of(text),
+            None => Text { bytes: &[] },
         }
     }
 }
@@ -138,19 +118,19 @@ pub struct Counts {
 /// What a map says of a generated position. The kind is 0 for no token, 1 for an unmapped one, 2 for an original position and 3
 /// for one with a name. A missing text is empty, a missing id or index 4294967295.
 #[repr(C)]
-#[derive(Drop)]
-pub struct Original {
+#[derive(Clone, Copy)]
+pub struct Original<'c> {
     pub kind: u32,
     pub index: u32,
     pub token: TokenNumbers,
-    pub source: Text,
-    pub name: Text,
+    pub source: Text<'c>,
+    pub name: Text<'c>,
 }
 
-impl Original {
+impl<'c> Original<'c> {
     /// The answer if there is no token.
     #[inline(always)]
-    pub fn nothing() -> Original
+    pub fn nothing() -> Original<'c>
         ensures kind { HasOriginal result None }
         ensures index { result.index ≡ 4294967295 }
         ensures token { result.token ≡ no_numbers }
@@ -167,29 +147,29 @@ impl Original {
     /// Writes the source and the name of a token, as a view of its map has them, and the kind that follows from these.
     // Each is written where it is found, and not gathered first: so the usual lookup saves few registers.
     #[inline(always)]
-    fn write_texts(&mut self, view: &SourceViewToken<'_, '_>)
+    fn write_texts(&mut self, view: &SourceViewToken<'c, '_>)
         ensures kept { (self.new.index ≡ self.old.index) × (self.new.token ≡ self.old.token) }
-        ensures name { self.new.name.len ≡ length (unwrap_or (view_name (view_of view.now)) []) }
+        ensures name { self.new.name.bytes.now ≡ unwrap_or (view_name (view_of view.now)) [] }
         ensures original { self.old.token.src_line ≡ (view_of view.now).token.src_line
             → self.old.token.src_col ≡ (view_of view.now).token.src_col
             → HasOriginal self.new (Some (view_original (view_of view.now))) }
     {
         match view.get_source() {
             Some(source) => {
-                self.source = Text::of(source.as_bytes());
+                self.source = Text::of(source);
                 match view.get_name() {
                     Some(name) => {
-                        self.name = Text::of(name.as_bytes());
+                        self.name = Text::of(name);
                         self.kind = 3;
                     }
                     None => {
-                        self.name = Text::of(&[]);
+                        self.name = Text::of_option(None);
                         self.kind = 2;
                     }
                 }
             }
             None => {
-                self.source = Text::of(&[]);
+                self.source = Text::of_option(None);
                 self.name = Text::of_option(view.get_name());
                 self.kind = 1;
             }
@@ -198,7 +178,7 @@ impl Original {
 
     /// Writes what the token at this index of a map says.
     #[inline(always)]
-    pub fn write(&mut self, index: usize, token: Token, map: &SourceMap<'static>)
+    pub fn write(&mut self, index: usize, token: Token, map: &'c SourceMap<'static>)
         requires { slice_get map.now.tokens index ≡ Some token }
         ensures { IsSeen map.now (Some index) self.new }
     {

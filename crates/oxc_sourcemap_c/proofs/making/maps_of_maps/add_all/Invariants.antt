@@ -4,7 +4,4 @@ use Rattle.oxc_sourcemap_c.proofs.MapsOfMaps.{joined_with}
 use Rattle.oxc_sourcemap_c.proofs.making.maps_of_maps.add_all.Given as goal
 
 abbrev pub invariant-loop-i : goal.invariant-loop-i
-invariant-loop-i l = record {
-  same : l.maps ≡ l.initial.maps;
-  all : joined_with l.joined (drop l.i l.initial.maps) (drop l.i l.positions) ≡ joined_with nothing_joined l.initial.maps l.positions;
-}
+invariant-loop-i l = joined_with l.joined (drop l.i l.maps) (drop l.i l.positions) ≡ joined_with nothing_joined l.maps l.positions

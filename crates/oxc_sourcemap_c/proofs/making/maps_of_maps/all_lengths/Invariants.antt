@@ -4,7 +4,6 @@ use Rattle.oxc_sourcemap_c.proofs.making.maps_of_maps.all_lengths.Given as goal
 
 abbrev pub invariant-loop-i : goal.invariant-loop-i
 invariant-loop-i l = record {
-  same : l.maps ≡ l.initial.maps;
-  there : all_maps (all_lent (drop l.i l.initial.maps)) ≢ None → all_maps (all_lent l.initial.maps) ≢ None;
-  missing : all_maps (all_lent (drop l.i l.initial.maps)) ≡ None → all_maps (all_lent l.initial.maps) ≡ None;
+  there : all_maps (all_lent (drop l.i l.maps)) ≢ None → all_maps (all_lent l.maps) ≢ None;
+  missing : all_maps (all_lent (drop l.i l.maps)) ≡ None → all_maps (all_lent l.maps) ≡ None;
 }

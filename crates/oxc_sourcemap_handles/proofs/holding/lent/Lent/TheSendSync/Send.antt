@@ -20,4 +20,4 @@ pointer : IsSend RawPtr
 pointer = search sendable
 
 pub send : IsSend the_row
-send = owning_send the_type (pointer, tt) (λ d. (tt, shared_keyless d.life d.at d.held)) (λ k d w. tt)
+send = owning_send the_type (pointer, tt) (λ d. ((λ _. tt), shared_keyless d.life d.at d.held)) (λ k d w. tt)

@@ -6,3 +6,6 @@ use Rattle.oxc_sourcemap_plan.proofs.plan_arguments.read_plan.Goals as goal
 
 pub returns-clause-error : goal.returns-clause-error
 returns-clause-error c = λ n. ap whole c.in_ok-plan.ensures.part ∙ whole-left (outcome_of c.in_ok-plan.plan) c.in_ok-plan.rest.now (λ e. let l = c.in_default.len_at_least in omega (arith, e, l))
+
+pub returns-clause-texts : goal.returns-clause-texts
+returns-clause-texts c = ?

@@ -49,7 +49,8 @@ pub use Rattle.oxc_sourcemap_join.specs.Joined.{IsWithinLimits, added, nothing_j
 pub use Rattle.oxc_sourcemap_mappings.specs.Reading.{reading}
 pub use Rattle.oxc_sourcemap_plan.specs.Outcome.{outcome}
 pub use Rattle.oxc_sourcemap_plan.specs.PlanArguments.{parsed_plan}
-pub use Rattle.oxc_sourcemap_plan.specs.PlanPlaces.{TellsText}
+pub use Rattle.oxc_sourcemap_plan.specs.Evaluated.{are_among}
+pub use Rattle.oxc_sourcemap_plan.specs.PlanPlaces.{fault_place_in}
 pub use Rattle.oxc_sourcemap_steps.specs.Inputs.{owned_input_records}
 pub use Rattle.oxc_sourcemap_tokens.specs.declared.errors.error.Error.TheVariants.{OutOfMemory}
 pub use Rattle.oxc_sourcemap_map.specs.View.{content_at}
@@ -88,7 +89,7 @@ pub use Rattle.oxc_sourcemap_c.specs.MapsOfMaps.{IsCompositionError, IsJoinError
 pub use Rattle.oxc_sourcemap_c.specs.MapsOfMaps.{IsJoinOfLent, IsRemapError, IsRemapped}
 pub use Rattle.oxc_sourcemap_c.specs.MapsOfMaps.{IsRemapping, IsRemappingError, all_lent, all_maps}
 pub use Rattle.oxc_sourcemap_c.specs.MapsOfMaps.{by_path}
-pub use Rattle.oxc_sourcemap_c.specs.Plans.{IsEvaluationErrorAt, IsOutcomeErrorAt, IsPlaceOfPlan}
+pub use Rattle.oxc_sourcemap_c.specs.Plans.{IsEvaluationErrorAt, IsOutcomeErrorAt}
 pub use Rattle.oxc_sourcemap_c.specs.Plans.{IsPlanErrorAt, IsPlanMap, call_error_of_run, of_plan}
 pub use Rattle.oxc_sourcemap_c.specs.Exports.{Found, HoldsString, HoldsText, HoldsWritten, IsCodeOf}
 pub use Rattle.oxc_sourcemap_c.specs.Exports.{IsError, IsUrlAnswer, IsWritingError}

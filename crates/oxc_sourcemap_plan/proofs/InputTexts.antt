@@ -1,27 +1,29 @@
 -- The texts of a plan that was read from words are inputs.
 use Rattle.std.proofs.Common.{◌≡◌, ℕ, zero, suc, Bool, true, false, cond, ◌==◌, ◌&&◌, ◌||◌, List, []}
 use Rattle.std.proofs.Common.{◌∷◌, codes, refl, sym, ap, ◌∙◌, subst, Option, Some, None, Result, Ok, Err}
-use Rattle.std.proofs.Common.{bytes_eq}
+use Rattle.std.proofs.Common.{bytes_eq, nat_le}
 use Rattle.std.specs.Prelude.{⊤}
 use Rattle.std.specs.Result.{IfOk}
 use Rattle.std.specs.List.{slice_get, list_all, AllByRecursion}
 use Rattle.std.proofs.lemmas.Bool.{and_parts}
 use Rattle.oxc_sourcemap_parts.specs.Record.{Text}
 use Rattle.oxc_sourcemap_tokens.specs.declared.position.Position.{Position}
+use Rattle.oxc_sourcemap_plan.specs.declared.plan.Plan.{Plan}
 use Rattle.oxc_sourcemap_plan.specs.declared.run_error.RunError.{RunError}
+use Rattle.oxc_sourcemap_plan.specs.Depth.{depth}
 use Rattle.oxc_sourcemap_plan.specs.declared.run_error.RunError.TheVariants.{Arguments}
 use Rattle.oxc_sourcemap_plan.specs.Evaluated.{is_among, are_among}
 use Rattle.oxc_sourcemap_plan.specs.Numbers.{number_of}
 use Rattle.oxc_sourcemap_plan.specs.Outcome.{Outcome, texts_of_all, input_texts, rewrite_outcome}
 use Rattle.oxc_sourcemap_plan.specs.Outcome.{root_outcome, simplified_outcome, join_outcome}
-use Rattle.oxc_sourcemap_plan.specs.Outcome.{composition_outcome, remap_outcome}
+use Rattle.oxc_sourcemap_plan.specs.Outcome.{composition_outcome, remap_outcome, outcome_of, outcome, too_deep}
 use Rattle.oxc_sourcemap_plan.specs.PlanArguments.{Parsed, then_parsed, parsed_number, text_or_fault}
 use Rattle.oxc_sourcemap_plan.specs.PlanArguments.{text_of_number, parsed_text, read_of_text}
 use Rattle.oxc_sourcemap_plan.specs.PlanArguments.{sorted_of_text, with_rest, parsed_sort}
 use Rattle.oxc_sourcemap_plan.specs.PlanArguments.{parsed_beginning, parsed_join_part, parsed_path}
 use Rattle.oxc_sourcemap_plan.specs.PlanArguments.{parsed_input_part, parsed_items, parsed_list}
 use Rattle.oxc_sourcemap_plan.specs.PlanArguments.{parsed_join, parsed_composition, parsed_remapping}
-use Rattle.oxc_sourcemap_plan.specs.PlanArguments.{parsed_by, parsed_part, whole, parsed_plan}
+use Rattle.oxc_sourcemap_plan.specs.PlanArguments.{parsed_by, parsed_part}
 use Rattle.oxc_sourcemap_plan.proofs.KnownNames.{among-both, bytes-self, or-left, or-right}
 
 -- ---- what is read, if it is
@@ -150,10 +152,7 @@ module _ (inputs : List Text) where
   of-part zero (argument ∷ rest) = tt
   of-part (suc levels) (argument ∷ rest) = of-first (parsed_part inputs levels) (of-part levels) argument rest
 
-  of-whole : (r : Parsed Outcome) → IfOk r (λ x. IsOver x.0) → IfOk (whole r) IsOver
-  of-whole (Err e) h = tt
-  of-whole (Ok (o, [])) h = h
-  of-whole (Ok (o, argument ∷ arguments)) h = tt
-
-  pub plan_over : (arguments : List Text) (o : Outcome) → parsed_plan inputs arguments ≡ Ok o → are_among inputs o.texts ≡ true
-  plan_over arguments o e = subst (λ r. IfOk r IsOver) e (of-whole (parsed_part inputs 64 arguments) (of-part 64 arguments))
+  pub plan_over : (arguments rest : List Text) (plan : Plan) → parsed_part inputs 64 arguments ≡ Ok (outcome_of plan, rest) → are_among inputs (outcome plan).texts ≡ true
+  plan_over arguments rest plan e =
+      let over : are_among inputs (outcome_of plan).texts ≡ true = subst (λ r. IfOk r (λ x. IsOver x.0)) e (of-part 64 arguments) in
+      elim (nat_le (depth plan) 64) as (λ b. are_among inputs (cond b (outcome_of plan) (too_deep (outcome_of plan).texts)).texts ≡ true) [ true ↦ over | false ↦ over ]

@@ -128,10 +128,10 @@ input_part first a ms ps i p l q g h =
     }
 
 -- ---- a text that cannot be read
-text-place : (text : Text) (place : Option FaultPlace) → ((d : Data) → read text ≡ Some d → value_place d ≡ place) → (read text ≡ None → IsSomeAnd place IsReading) → is_some place ≡ true
+pub text_place : (text : Text) (place : Option FaultPlace) → ((d : Data) → read text ≡ Some d → value_place d ≡ place) → (read text ≡ None → IsSomeAnd place IsReading) → is_some place ≡ true
     → IsSomeAnd place (IsTextPlace text)
-text-place text None json bad there = absurd (cc (there))
-text-place text (Some p) json bad there = (json, bad)
+text_place text None json bad there = absurd (cc (there))
+text_place text (Some p) json bad there = (json, bad)
 
 told-by : (w : Bool) (text : Bor Text) (e : Error) (place : Option FaultPlace) → read_map text.now ≡ Err e → IsSomeAnd place (IsTextPlace text.now)
     → MatchOption {T = Bor Text × FaultPlace} (option_map (λ p. (text, p)) place) (IsOfNoText w (Map e)) (λ x. IsTextFault (text.now ∷ []) (Map e) x.0.now x.1)
@@ -147,7 +147,7 @@ text_told o text f g texts error at reads placed = λ other.
     subst (λ x. MatchOption x (IsOfNoText o.is_within_limits g.error) (λ x. IsTextFault o.texts g.error x.0.now x.1)) (sym at)
     (subst (λ e. MatchOption {T = Bor Text × FaultPlace} (option_map (λ p. (text, p)) f.place) (IsOfNoText o.is_within_limits e) (λ x. IsTextFault o.texts e x.0.now x.1)) (sym error)
     (subst (λ texts. MatchOption {T = Bor Text × FaultPlace} (option_map (λ p. (text, p)) f.place) (IsOfNoText o.is_within_limits (Map f.error)) (λ x. IsTextFault texts (Map f.error) x.0.now x.1)) (sym texts)
-    (told-by o.is_within_limits text f.error f.place (reads not) (text-place text.now f.place told.0 told.1 told.2))))
+    (told-by o.is_within_limits text f.error f.place (reads not) (text_place text.now f.place told.0 told.1 told.2))))
 
 -- ---- a step that fails by itself
 -- what is meant is no error that reading can have

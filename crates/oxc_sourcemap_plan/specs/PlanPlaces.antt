@@ -1,7 +1,7 @@
 -- Where a plan has its first fault, if that is one of a text.
 use Rattle.std.specs.Prelude.{◌≡◌, ◌≢◌, ℕ, ◌+◌, List, [], ◌∷◌, ◌++◌, Option, Some, None, Result}
 use Rattle.std.specs.Prelude.{Bool, false, Ok, Err, IfSome, IsSomeAnd, MatchOption, position, ⊤}
-use Rattle.std.specs.Option.{option_map}
+use Rattle.std.specs.Option.{option_map, option_and_then}
 use Rattle.std.specs.List.{flat_map}
 use Rattle.std.specs.Str.{bytes_eq}
 use Rattle.serde_json.specs.Data.{Data}
@@ -107,6 +107,10 @@ input_number inputs text = position (bytes_eq text) inputs
 -- a place in a text, with the number that the text has in these inputs
 abbrev pub numbered_in : List Text → Text → FaultPlace → Option FaultPlace
 numbered_in inputs text place = option_map (λ k. with_number k place) (input_number inputs text)
+
+-- the place of a fault of a plan in these inputs, with the number of its text
+abbrev pub fault_place_in : List Text → PlanFault → Option FaultPlace
+fault_place_in inputs f = option_and_then (λ at. numbered_in inputs at.0.now at.1) f.at
 
 -- the place in these inputs of an error of a plan of these texts: that of the first text that cannot be read
 abbrev pub IsInputPlace : List Text → List Text → PlanError → FaultPlace → Type 0

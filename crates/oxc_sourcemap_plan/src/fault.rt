@@ -1,7 +1,6 @@
 //! Errors of plans, with the texts that they come from.
 ghost use Rattle.std.specs.Prelude.{◌≡◌, None, option_map};
-ghost use Rattle.std.specs.Option.{option_and_then};
-ghost use Rattle.oxc_sourcemap_plan.specs.Words.{Map, OutOfMemory, input_number, numbered_in};
+ghost use Rattle.oxc_sourcemap_plan.specs.Words.{Map, OutOfMemory, input_number, fault_place_in};
 ghost use Rattle.oxc_sourcemap_plan.specs.Words.{lent_items};
 
 use oxc_sourcemap_tokens::{Error, Fault, FaultPlace, PlanError};
@@ -19,15 +18,19 @@ pub struct PlanFault<'t> {
 fn input_number(inputs: &[&str], text: &str) -> Option<usize>
     ensures { result ≡ input_number (lent_items inputs.now) text.now }
 {
-    inputs.iter().position(|input| *input == text)
+    for k in 0..inputs.len() {
+        if inputs[k] == text {
+            return Some(k);
+        }
+    }
+    None
 }
 
 impl<'t> PlanFault<'t> {
     /// The place of the fault, with the number of the first of these inputs that is the text at fault. None if the error comes from
     /// no text, or from one that is none of these.
     pub fn place_in(&self, inputs: &[&str]) -> Option<FaultPlace>
-        ensures { result ≡ option_and_then (λ at.
-            numbered_in (lent_items inputs.now) at.0.now at.1) self.now.at }
+        ensures { result ≡ fault_place_in (lent_items inputs.now) self.now }
     {
         let (text, place) = self.at?;
         Some(place.in_text(input_number(inputs, text)?))

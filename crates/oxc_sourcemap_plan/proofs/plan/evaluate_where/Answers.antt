@@ -31,3 +31,6 @@ returns-clause-told c =
 
 pub returns-clause-same_texts : goal.returns-clause-same_texts
 returns-clause-same_texts c = same_texts c.args.plan.now
+
+pub returns-then-not-is_within_depth-clause-same_texts : goal.returns-then-not-is_within_depth-clause-same_texts
+returns-then-not-is_within_depth-clause-same_texts c = same_texts c.args.plan.now

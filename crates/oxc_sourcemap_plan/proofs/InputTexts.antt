@@ -1,6 +1,7 @@
 -- The texts of a plan that was read from words are inputs.
-use Rattle.std.proofs.Common.{◌≡◌, ℕ, zero, suc, Bool, true, false, cond, ◌==◌, ◌&&◌, ◌||◌, List, []}
-use Rattle.std.proofs.Common.{◌∷◌, codes, refl, sym, ap, ◌∙◌, subst, Option, Some, None, Result, Ok, Err}
+use Rattle.std.proofs.Common.{◌≡◌, ℕ, zero, suc, Bool, true, false, cond, ◌==◌, ◌&&◌, List, []}
+use Rattle.std.proofs.Common.{◌∷◌, codes, refl, sym, ap, ◌∙◌, subst, Option, Some, None, Result, Ok}
+use Rattle.std.proofs.Common.{Err}
 use Rattle.std.proofs.Common.{bytes_eq, nat_le}
 use Rattle.std.specs.Prelude.{⊤}
 use Rattle.std.specs.Result.{IfOk}
@@ -16,13 +17,16 @@ use Rattle.oxc_sourcemap_plan.specs.Evaluated.{is_among, are_among}
 use Rattle.oxc_sourcemap_plan.specs.Numbers.{number_of}
 use Rattle.oxc_sourcemap_plan.specs.Outcome.{Outcome, texts_of_all, input_texts, rewrite_outcome}
 use Rattle.oxc_sourcemap_plan.specs.Outcome.{root_outcome, simplified_outcome, join_outcome}
-use Rattle.oxc_sourcemap_plan.specs.Outcome.{composition_outcome, remap_outcome, outcome_of, outcome, too_deep}
-use Rattle.oxc_sourcemap_plan.specs.PlanArguments.{Parsed, then_parsed, parsed_number, text_or_fault}
+use Rattle.oxc_sourcemap_plan.specs.Outcome.{composition_outcome, remap_outcome, outcome_of}
+use Rattle.oxc_sourcemap_plan.specs.Outcome.{outcome, too_deep}
+use Rattle.oxc_sourcemap_plan.specs.PlanArguments.{Parsed, then_parsed, parsed_number}
+use Rattle.oxc_sourcemap_plan.specs.PlanArguments.{text_or_fault}
 use Rattle.oxc_sourcemap_plan.specs.PlanArguments.{text_of_number, parsed_text, read_of_text}
 use Rattle.oxc_sourcemap_plan.specs.PlanArguments.{sorted_of_text, with_rest, parsed_sort}
 use Rattle.oxc_sourcemap_plan.specs.PlanArguments.{parsed_beginning, parsed_join_part, parsed_path}
 use Rattle.oxc_sourcemap_plan.specs.PlanArguments.{parsed_input_part, parsed_items, parsed_list}
-use Rattle.oxc_sourcemap_plan.specs.PlanArguments.{parsed_join, parsed_composition, parsed_remapping}
+use Rattle.oxc_sourcemap_plan.specs.PlanArguments.{parsed_join, parsed_composition}
+use Rattle.oxc_sourcemap_plan.specs.PlanArguments.{parsed_remapping}
 use Rattle.oxc_sourcemap_plan.specs.PlanArguments.{parsed_by, parsed_part}
 use Rattle.oxc_sourcemap_plan.proofs.KnownNames.{among-both, bytes-self, or-left, or-right}
 

@@ -40,7 +40,8 @@ use Rattle.oxc_sourcemap_plan.specs.Meaning.{Meaning, meaning, meaning_of, root_
 use Rattle.oxc_sourcemap_plan.specs.Meaning.{onto_decoded_maps, all_decoded_maps, join_meaning}
 use Rattle.oxc_sourcemap_plan.specs.Meaning.{composition_meaning, by_path, onto_inputs, all_inputs}
 use Rattle.oxc_sourcemap_plan.specs.Meaning.{remap_meaning, simplified_meaning}
-use Rattle.oxc_sourcemap_plan.specs.Outcome.{Outcome, form_outcome, sorted_form_outcome, outcome_step}
+use Rattle.oxc_sourcemap_plan.specs.Outcome.{Outcome, form_outcome, sorted_form_outcome}
+use Rattle.oxc_sourcemap_plan.specs.Outcome.{outcome_step}
 use Rattle.oxc_sourcemap_plan.specs.Outcome.{outcome_of, too_deep, is_within_limits, meanings}
 use Rattle.oxc_sourcemap_plan.specs.Outcome.{input_meanings, are_all_within_limits}
 use Rattle.oxc_sourcemap_plan.specs.Outcome.{are_inputs_within_limits, names_of_sections}

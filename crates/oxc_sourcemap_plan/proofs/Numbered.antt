@@ -1,8 +1,10 @@
 -- The number of a text in the inputs of a plan.
-use Rattle.std.proofs.Common.{◌≡◌, ◌≢◌, ℕ, ◌+◌, Bool, true, false, cond, ◌||◌, List, [], ◌∷◌, refl, sym}
-use Rattle.std.proofs.Common.{ap, ◌∙◌, subst, Option, Some, None, option_map, IsSomeAnd, drop, length}
+use Rattle.std.proofs.Common.{◌≡◌, ◌≢◌, ℕ, ◌+◌, Bool, true, false, cond, ◌||◌, List, [], ◌∷◌, refl}
+use Rattle.std.proofs.Common.{sym}
+use Rattle.std.proofs.Common.{ap, ◌∙◌, subst, Option, Some, None, option_map, IsSomeAnd, drop}
+use Rattle.std.proofs.Common.{length}
 use Rattle.std.proofs.Common.{get_or, ◌<◌, ◌≤◌}
-use Rattle.std.specs.List.{list_any, position, position_from}
+use Rattle.std.specs.List.{list_any, position_from}
 use Rattle.std.specs.Option.{MatchOption, option_and_then}
 use Rattle.std.specs.Str.{bytes_eq}
 use Rattle.std.specs.Borrow.{Bor}
@@ -19,7 +21,7 @@ use Rattle.oxc_sourcemap_parts.specs.Record.{Text}
 use Rattle.oxc_sourcemap_plan.specs.declared.fault.PlanFault.{PlanFault}
 use Rattle.oxc_sourcemap_plan.specs.Evaluated.{is_among, are_among}
 use Rattle.oxc_sourcemap_plan.specs.Outcome.{Outcome}
-use Rattle.oxc_sourcemap_plan.specs.PlanPlaces.{Unread, first_unread, IsTextPlace, IsTextFault, IsTold}
+use Rattle.oxc_sourcemap_plan.specs.PlanPlaces.{first_unread, IsTextPlace, IsTextFault, IsTold}
 use Rattle.oxc_sourcemap_plan.specs.PlanPlaces.{IsOfNoText, input_number, numbered_in, with_number}
 use Rattle.oxc_sourcemap_plan.specs.PlanPlaces.{IsOutcomePlace, fault_place_in}
 use Rattle.oxc_sourcemap_plan.proofs.Unread.{first-is}

@@ -67,7 +67,8 @@ use Rattle.oxc_sourcemap_plan.specs.Limits.{are_counts_within_limits, is_positio
 use Rattle.oxc_sourcemap_plan.specs.Limits.{are_positions_within_limits, is_part_within_limits}
 use Rattle.oxc_sourcemap_plan.specs.Limits.{is_join_within_limits}
 use Rattle.oxc_sourcemap_plan.specs.Outcome.{Outcome, plain_outcome, rewrite_outcome, meanings}
-use Rattle.oxc_sourcemap_plan.specs.Outcome.{texts_of_all, names_of_all, all_records, joined_source_count}
+use Rattle.oxc_sourcemap_plan.specs.Outcome.{texts_of_all, names_of_all, all_records}
+use Rattle.oxc_sourcemap_plan.specs.Outcome.{joined_source_count}
 use Rattle.oxc_sourcemap_plan.specs.Outcome.{are_all_within_limits, join_outcome}
 use Rattle.oxc_sourcemap_plan.specs.Outcome.{composition_outcome}
 use Rattle.oxc_sourcemap_plan.specs.Evaluated.{is_among, are_among}

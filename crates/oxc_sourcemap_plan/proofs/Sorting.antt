@@ -42,7 +42,8 @@ use Rattle.oxc_sourcemap_steps.specs.Sorting.{sorted_decoded_map}
 use Rattle.oxc_sourcemap_steps.proofs.Sorting.{precedes, sorted-once}
 use Rattle.oxc_sourcemap_steps.proofs.Lookups.{decoded-sorted}
 use Rattle.oxc_sourcemap_tokens.specs.declared.errors.plan_error.PlanError.TheVariants.{Map}
-use Rattle.oxc_sourcemap_plan.specs.Outcome.{sorted_form_outcome, sorted_outcome, sorted_plain_outcome}
+use Rattle.oxc_sourcemap_plan.specs.Outcome.{sorted_form_outcome, sorted_outcome}
+use Rattle.oxc_sourcemap_plan.specs.Outcome.{sorted_plain_outcome}
 use Rattle.oxc_sourcemap_plan.specs.Outcome.{sorted_sections_outcome, names_of_sections}
 use Rattle.oxc_sourcemap_plan.specs.Evaluated.{are_among}
 use Rattle.oxc_sourcemap_plan.specs.Realizes.{Realizes, FailsAs}

@@ -27,7 +27,8 @@ pub use Rattle.oxc_sourcemap_plan.specs.PlanArguments.{parsed_remapping, parsed_
 pub use Rattle.oxc_sourcemap_plan.specs.PlanArguments.{parsed_plan}
 pub use Rattle.oxc_sourcemap_plan.specs.PlanInputs.{inputs_of}
 pub use Rattle.oxc_sourcemap_plan.specs.PlanPlaces.{texts_of, IsPlaceOf, IsPlanPlace, IsOfReading}
-pub use Rattle.oxc_sourcemap_plan.specs.PlanPlaces.{IsTold, with_number, input_number, fault_place_in}
+pub use Rattle.oxc_sourcemap_plan.specs.PlanPlaces.{IsTold, with_number, input_number}
+pub use Rattle.oxc_sourcemap_plan.specs.PlanPlaces.{fault_place_in}
 pub use Rattle.oxc_sourcemap_plan.specs.Realizes.{PartsRealize, FailsAs, AllRealize, InputsRealize}
 pub use Rattle.oxc_sourcemap_plan.specs.RunErrors.{out_of_memory, run_error_text, status_of}
 pub use Rattle.oxc_sourcemap_plan.specs.declared.run_error.RunError.TheVariants.{Plan}

@@ -1,13 +1,10 @@
 -- The places of failures.
-use Rattle.std.proofs.Common.{◌≡◌, ◌≢◌, Option, Some, None, true, is_some, sym, ap, ◌∙◌, subst, Ok, Err}
-use Rattle.std.proofs.Common.{IsSomeAnd, Result, ◌⊎◌, inl, inr, List}
+use Rattle.std.proofs.Common.{◌≡◌, ◌≢◌, None, sym, ap, subst, Ok, Err}
+use Rattle.std.proofs.Common.{IsSomeAnd, Result}
 use Rattle.std.specs.Result.{IfErr, IsErrAnd, MatchResult}
-use Rattle.serde_json.specs.Data.{Data}
 use Rattle.serde_json.specs.Read.{read}
-use Rattle.oxc_sourcemap_tokens.specs.declared.errors.error.Error.{Error}
 use Rattle.oxc_sourcemap_tokens.specs.declared.errors.error.Error.TheVariants.{OutOfMemory}
 use Rattle.oxc_sourcemap_tokens.specs.declared.errors.fault.Fault.{Fault}
-use Rattle.oxc_sourcemap_tokens.specs.declared.errors.fault.FaultPlace.{FaultPlace}
 use Rattle.oxc_sourcemap_tokens.specs.declared.errors.plan_error.PlanError.TheVariants.{Map}
 use Rattle.oxc_sourcemap_parts.specs.Record.{Text, MapRecord}
 use Rattle.oxc_sourcemap_json.specs.ReadMap.{read_map}

@@ -1,5 +1,5 @@
 -- Where the input of a command has the fault that its error tells.
-use Rattle.std.specs.Prelude.{◌≡◌, ◌≢◌, ℕ, List, Option, None, Result, Ok, Err, IsSomeAnd, IsUtf8}
+use Rattle.std.specs.Prelude.{◌≡◌, ◌≢◌, List, Option, None, Result, Ok, Err, IsSomeAnd, IsUtf8}
 use Rattle.std.specs.Result.{MatchResult}
 use Rattle.oxc_sourcemap_tokens.specs.declared.errors.plan_error.PlanError.{PlanError}
 use Rattle.oxc_sourcemap_parts.specs.Record.{Text}

@@ -3,7 +3,8 @@ ghost use Rattle.std.specs.Prelude.{◌≡◌, ◌≢◌, map, string_bytes, IfO
 ghost use Rattle.oxc_sourcemap_c.specs.Words.{call_error_of_run, parsed_plan, IsPlanMap};
 ghost use Rattle.oxc_sourcemap_c.specs.Words.{IsEvaluationErrorAt, IsPlanErrorAt, IsFailure};
 ghost use Rattle.oxc_sourcemap_c.specs.Words.{IsOutcomeErrorAt, lent_items, outcome, of_plan};
-ghost use Rattle.oxc_sourcemap_c.specs.Words.{HoldsMap, IsErrorAt, no_fault, are_among, fault_place_in};
+ghost use Rattle.oxc_sourcemap_c.specs.Words.{HoldsMap, IsErrorAt, no_fault, are_among};
+ghost use Rattle.oxc_sourcemap_c.specs.Words.{fault_place_in};
 
 use crate::making::failure::Failure;
 use crate::making::reading_texts::put_read;

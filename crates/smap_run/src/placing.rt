@@ -56,9 +56,10 @@ fn place_reason(
     }
 }
 
-/// Runs a command as `run` does, and tells where the input has the fault if that fails, and what is really wrong there. Of a plan it is
-/// a place in a text, whose number is the K of `@K`: that of the first text of the input with these bytes. There is no place if the error
-/// comes from no text, and for want of memory. The input is kept to the end, so that the memory for it is taken twice.
+/// Runs a command as `run` does, and tells where the input has the fault if that fails, and what is really wrong there. There is a
+/// place exactly if the error is that of reading a text, unless it is `TooLarge` of a plan that passes a limit. Of a plan it is in the
+/// first of its texts that cannot be read, whose number is the K of `@K`: that of the first text of the input with these bytes. The
+/// input is kept to the end, so that the memory for it is taken twice.
 pub fn run_where<R: Read, W: Write>(
     alloc: Global,
     command: &Command<'_>,

@@ -10,7 +10,7 @@ use std::alloc::{AllocError, AllocFailed};
 #[derive(Clone, Copy)]
 pub struct PlanFault<'t> {
     pub error: PlanError,
-    /// The text that cannot be read, and where its fault is. None if the error comes from no text, and for want of memory.
+    /// The first text that cannot be read, and where its fault is. None if the error comes from no text.
     pub at: Option<(&'t str, FaultPlace)>,
 }
 

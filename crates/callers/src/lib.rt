@@ -8,7 +8,7 @@ ghost use Rattle.std.specs.Prelude.{OnErr, Ok, Err, Some, None};
 ghost use Rattle.std.specs.List.{AllByRecursion};
 ghost use Rattle.oxc_sourcemap.specs.Words.{OutOfMemory, TooLarge, Map, Unsorted, as_written};
 ghost use Rattle.oxc_sourcemap.specs.Words.{are_tokens_sorted, IsSound, decoded_map_of, MapRecord};
-ghost use Rattle.oxc_sourcemap.specs.Words.{read_map, form_of_text, map_text, trace, view_of};
+ghost use Rattle.oxc_sourcemap.specs.Words.{read_map, map_text, trace, view_of};
 ghost use Rattle.oxc_sourcemap.specs.Words.{view_original, joined, lent_maps, IsWithinLimits};
 ghost use Rattle.oxc_sourcemap.specs.Words.{without_chunks, grouped_left, grouped_right};
 ghost use Rattle.oxc_sourcemap.specs.Words.{IsSeveralSources, read_meaning, outcome, read_outcome};
@@ -317,8 +317,7 @@ pub fn minified_map(
     ensures map { IfOk result (λ map. IsEvaluated map
         (composition_meaning (text_meaning minified.now) (text_meaning compiled.now))) }
     ensures outcome { IfOk result (λ map. HasOutcome map
-        (composition_outcome (read_outcome (form_of_text minified.now))
-        (read_outcome (form_of_text compiled.now)))) }
+        (composition_outcome (read_outcome minified.now) (read_outcome compiled.now))) }
 {
     let first = Box::new(alloc, Plan::Read(minified))?;
     let second = Box::new(alloc, Plan::Read(compiled))?;

@@ -4,7 +4,7 @@ pub use Rattle.oxc_sourcemap_map.specs.Building.{with_path, with_path_at, with_b
 pub use Rattle.oxc_sourcemap_map.specs.Built.{nothing_built}
 pub use Rattle.oxc_sourcemap_map.specs.NameLaws.{EqualIdsForEqualNames}
 pub use Rattle.oxc_sourcemap_json.specs.Decoded.{decoded, json_fault}
-pub use Rattle.oxc_sourcemap_json.specs.ReadMap.{read_value, read_map, form_of_text}
+pub use Rattle.oxc_sourcemap_json.specs.ReadMap.{read_value, read_map}
 pub use Rattle.oxc_sourcemap_json.specs.ReadMap.{read_decoded_map}
 pub use Rattle.oxc_sourcemap_queries.specs.Differences.{HaveSameTraceEverywhere, IsFirstDifference}
 pub use Rattle.oxc_sourcemap_queries.specs.Differences.{IfBothSorted}

@@ -1,6 +1,6 @@
 -- Failures and the places that they tell.
 use Rattle.std.proofs.Common.{◌≡◌, ◌≢◌, List, refl, sym, subst, Option, Some, None, true, Result}
-use Rattle.std.proofs.Common.{Ok, Err, IfSome, IsSomeAnd, is_some, ◌⊎◌, inl, inr, ◌∙◌}
+use Rattle.std.proofs.Common.{Ok, Err, IsSomeAnd, is_some, ◌⊎◌, inl, inr, ◌∙◌}
 use Rattle.std.specs.Result.{IfErr, IsErrAnd}
 use Rattle.serde_json.specs.Data.{Data}
 use Rattle.serde_json.specs.Read.{read}
@@ -19,13 +19,15 @@ use Rattle.oxc_sourcemap_plan.specs.declared.fault.PlanFault.{PlanFault}
 use Rattle.oxc_sourcemap_plan.specs.Evaluated.{IsErrorOf}
 use Rattle.oxc_sourcemap_plan.specs.Meaning.{Meaning}
 use Rattle.oxc_sourcemap_plan.specs.Outcome.{Outcome}
-use Rattle.oxc_sourcemap_plan.specs.PlanPlaces.{IsTextPlace, TellsText, IsTold}
+use Rattle.oxc_sourcemap_plan.specs.PlanPlaces.{IsTextPlace, IsTold, fault_place_in}
+use Rattle.oxc_sourcemap_plan.specs.Evaluated.{are_among}
+use Rattle.oxc_sourcemap_plan.proofs.Numbered.{told_place}
 use Rattle.oxc_sourcemap_plan.proofs.Realizing.{memory_or_not}
 use Rattle.oxc_sourcemap_handles.specs.declared.numbers.call_error.CallError.{CallError}
 use Rattle.oxc_sourcemap_handles.specs.CallErrors.{out_of_memory, of_map}
 use Rattle.oxc_sourcemap_c.specs.declared.making.failure.Failure.{Failure}
 use Rattle.oxc_sourcemap_c.specs.Failures.{IsFailure, IsTextErrorAt, IsFoundTextErrorAt}
-use Rattle.oxc_sourcemap_c.specs.Plans.{IsPlaceOfPlan, of_plan, HasPlanPlace, IsOutcomeErrorAt}
+use Rattle.oxc_sourcemap_c.specs.Plans.{of_plan, IsOutcomeErrorAt}
 
 -- what a fault becomes for C
 abbrev IsOf : ReadFault → Failure → Type 0
@@ -58,25 +60,16 @@ pub found_failed : (text : Text) (f : ReadFault) → (f.error ≢ OutOfMemory �
 found_failed text f reads is other =
     let told = is other in (f.error, reads other, refl, told.0, subst (λ r. HasPlaceIfRefused r f.place) (sym (reads other)) told.1)
 
--- why a plan over these inputs fails, by the fault of its evaluation
-abbrev pub IsPlanFailure : List Text → PlanFault → Failure → Type 0
-IsPlanFailure inputs f g = IsFailure (λ r place. (r ≡ of_plan f.error) × IfSome place (IsPlaceOfPlan inputs r) × (place ≡ None → f.at ≡ None)) g
-
 same-plan-error : (e : PlanError) (x : Error) → of_plan e ≡ of_map x → e ≡ Map x
 same-plan-error e x h = cc (h)
 
-has-place : (o : Outcome) (f : PlanFault) (r : CallError) (place : Option FaultPlace) → f.error ≢ Map OutOfMemory → IsTold o.is_within_limits f → r ≡ of_plan f.error → (place ≡ None → f.at ≡ None)
-    → HasPlanPlace (Ok o) r place
-has-place o f r (Some p) other told is none = λ within e same reads. refl
-has-place o f r None other told is none =
-    λ within e same reads. absurd ((told other).1 (none refl) within e (same-plan-error f.error e (sym is ∙ same)) reads)
-
 -- the failure of a plan with this outcome
 pub plan_failed : (o : Outcome) (m : Meaning) (f : PlanFault) (inputs : List Text) (g : Failure) → f.error ≢ Map OutOfMemory → o.meaning ≡ m
-    → (f.error ≡ Map OutOfMemory) ⊎ IsErrorOf m o.is_within_limits f.error → IsTold o.is_within_limits f → (TellsText f → IsPlanFailure inputs f g)
+    → (f.error ≡ Map OutOfMemory) ⊎ IsErrorOf m o.is_within_limits f.error → IsTold o f → are_among inputs o.texts ≡ true → g.error ≡ of_plan f.error → g.place ≡ fault_place_in inputs f
     → IsFailure (IsOutcomeErrorAt inputs (Ok o)) g
-plan_failed o m f inputs g other is fails told made =
-    let h = made (told other).0 in
+plan_failed o m f inputs g other is fails told among same place =
     let error : IsErrorOf o.meaning o.is_within_limits f.error =
-    elim fails [ inl memory ↦ absurd (other memory) | inr meant ↦ subst (λ w. IsErrorOf w o.is_within_limits f.error) (sym is) meant ] in
-    (h.0, λ n. let t = h.1 n in ((f.error, error, t.0), t.1, has-place o f g.error g.place other told t.0 t.2))
+    elim fails [ inl memory ↦ absurd (other memory) | inr meant ↦ subst (λ w. IsErrorOf w o.is_within_limits f.error) (sym is) meant ] in (
+      λ memory. absurd (other (same-plan-error f.error OutOfMemory (sym same ∙ memory))),
+      λ n. (f.error, error, same, told_place inputs o f g.place among other told place),
+    )

@@ -1,10 +1,7 @@
 -- Plans of words over texts, and their errors with the places of their faults.
-use Rattle.std.specs.Prelude.{◌≡◌, ◌⊎◌, ℕ, List, Option, Some, None, Result, Ok, Err, slice_get}
-use Rattle.std.specs.Prelude.{IfSome, IsSome, ⊤, true}
-use Rattle.oxc_sourcemap_tokens.specs.declared.errors.error.Error.{Error}
+use Rattle.std.specs.Prelude.{◌≡◌, ◌⊎◌, List, Option, None, Result, Ok, Err}
 use Rattle.oxc_sourcemap_tokens.specs.declared.errors.plan_error.PlanError.{PlanError}
 use Rattle.oxc_sourcemap_parts.specs.Record.{Text, MapRecord}
-use Rattle.oxc_sourcemap_json.specs.ReadMap.{read_map}
 use Rattle.oxc_sourcemap_tokens.specs.declared.errors.fault.FaultPlace.{FaultPlace}
 use Rattle.oxc_sourcemap_plan.specs.Outcome.{Outcome}
 use Rattle.oxc_sourcemap_plan.specs.Evaluated.{IsEvaluated, HasOutcome, IsErrorOf}
@@ -14,12 +11,11 @@ use Rattle.oxc_sourcemap_plan.specs.declared.run_error.RunError.TheVariants.{Pla
 use Rattle.oxc_sourcemap_plan.specs.declared.run_error.RunError.TheVariants.{Read, Write, Utf8}
 use Rattle.oxc_sourcemap_plan.specs.declared.run_error.RunError.TheVariants.{Arguments}
 use Rattle.oxc_sourcemap_plan.specs.declared.run_error.RunError.TheVariants.{NoText as NoInput}
-use Rattle.oxc_sourcemap_plan.specs.PlanPlaces.{IsNumberPlace, IsOfReading}
+use Rattle.oxc_sourcemap_plan.specs.PlanPlaces.{IsOutcomePlace}
 use Rattle.oxc_sourcemap_handles.specs.declared.numbers.call_error.CallError.{CallError}
 use Rattle.oxc_sourcemap_handles.specs.declared.numbers.call_error.CallError.TheVariants.{Plan}
 use Rattle.oxc_sourcemap_handles.specs.declared.numbers.call_error.CallError.TheVariants.{Words}
 use Rattle.oxc_sourcemap_handles.specs.declared.numbers.call_error.CallError.TheVariants.{NoText}
-use Rattle.oxc_sourcemap_handles.specs.CallErrors.{of_map}
 use Rattle.oxc_sourcemap_handles.specs.Lists.{AreTexts, IsNotTexts}
 
 -- the error for C of an error of a plan: all but a missing text and an error of evaluation become `Words`
@@ -36,36 +32,16 @@ abbrev pub IsPlanMap : Result Outcome RunError → MapRecord → Type 0
 IsPlanMap (Err e) m = ⊥
 IsPlanMap (Ok o) m = IsEvaluated m o.meaning × HasOutcome m o
 
--- an error of a plan: the first fault of its words, or an error of its evaluation
-abbrev pub IsPlanErrorOf : Result Outcome RunError → CallError → Type 0
-IsPlanErrorOf (Err e) r = r ≡ call_error_of_run e
-IsPlanErrorOf (Ok o) r = (p : PlanError) × IsErrorOf o.meaning o.is_within_limits p × (r ≡ Plan p)
-
--- the place, with its number, in the text whose reading fails with this error
-abbrev pub IsInputPlace : List Text → Error → FaultPlace → Type 0
-IsInputPlace texts error place =
-    (k : ℕ) × (text : Text) × (slice_get texts k ≡ Some text) × (read_map text ≡ Err error) × IsNumberPlace k text place
-
 -- an error of evaluating a plan
 abbrev pub of_plan : PlanError → CallError
 of_plan e = Plan e
 
--- the place of an error of a plan over these texts, which is that of reading one of them
-abbrev pub IsPlaceOfPlan : List Text → CallError → FaultPlace → Type 0
-IsPlaceOfPlan texts r place = (e : Error) × (r ≡ of_map e) × IsInputPlace texts e place
-
--- an error that reading a text can have comes with a place
-abbrev pub HasPlaceOf : CallError → Option FaultPlace → Type 0
-HasPlaceOf r place = (e : Error) → r ≡ of_map e → IsOfReading e → IsSome place
-
--- the same for an error of a plan, if no part passes a limit
-abbrev pub HasPlanPlace : Result Outcome RunError → CallError → Option FaultPlace → Type 0
-HasPlanPlace (Err e) r place = ⊤
-HasPlanPlace (Ok o) r place = o.is_within_limits ≡ true → HasPlaceOf r place
-
--- an error of a plan over these texts, by its outcome, and its place
+-- An error of a plan over these texts, by the outcome of its words, and its place: the first fault of the words, which has none,
+-- or an error of its evaluation.
 abbrev pub IsOutcomeErrorAt : List Text → Result Outcome RunError → CallError → Option FaultPlace → Type 0
-IsOutcomeErrorAt texts plan r place = IsPlanErrorOf plan r × IfSome place (IsPlaceOfPlan texts r) × HasPlanPlace plan r place
+IsOutcomeErrorAt texts (Err e) r place = (r ≡ call_error_of_run e) × (place ≡ None)
+IsOutcomeErrorAt texts (Ok o) r place =
+    (p : PlanError) × IsErrorOf o.meaning o.is_within_limits p × (r ≡ of_plan p) × IsOutcomePlace texts o p place
 
 -- an error of the plan of these words over these texts, and its place
 abbrev pub IsEvaluationErrorAt : List Text → List Text → CallError → Option FaultPlace → Type 0

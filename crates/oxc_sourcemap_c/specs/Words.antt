@@ -49,8 +49,9 @@ pub use Rattle.oxc_sourcemap_join.specs.Joined.{IsWithinLimits, added, nothing_j
 pub use Rattle.oxc_sourcemap_mappings.specs.Reading.{reading}
 pub use Rattle.oxc_sourcemap_plan.specs.Outcome.{outcome}
 pub use Rattle.oxc_sourcemap_plan.specs.PlanArguments.{parsed_plan}
-pub use Rattle.oxc_sourcemap_plan.specs.PlanPlaces.{TellsText}
 pub use Rattle.oxc_sourcemap_steps.specs.Inputs.{lent_inputs}
+pub use Rattle.oxc_sourcemap_plan.specs.Evaluated.{are_among}
+pub use Rattle.oxc_sourcemap_plan.specs.PlanPlaces.{fault_place_in}
 pub use Rattle.oxc_sourcemap_tokens.specs.declared.errors.error.Error.TheVariants.{OutOfMemory}
 pub use Rattle.oxc_sourcemap_map.specs.View.{content_at}
 pub use Rattle.oxc_sourcemap_parts.specs.Roots.{rooted}
@@ -89,7 +90,7 @@ pub use Rattle.oxc_sourcemap_c.specs.MapsOfMaps.{IsJoinOfLent, IsRemapError, IsR
 pub use Rattle.oxc_sourcemap_c.specs.MapsOfMaps.{IsRemapping, IsRemappingError, all_lent, all_maps}
 pub use Rattle.oxc_sourcemap_c.specs.MapsOfMaps.{IsSureComposeError, IsSureJoinError, by_path}
 pub use Rattle.oxc_sourcemap_steps.specs.Composed.{composition_fault}
-pub use Rattle.oxc_sourcemap_c.specs.Plans.{IsEvaluationErrorAt, IsOutcomeErrorAt, IsPlaceOfPlan}
+pub use Rattle.oxc_sourcemap_c.specs.Plans.{IsEvaluationErrorAt, IsOutcomeErrorAt}
 pub use Rattle.oxc_sourcemap_c.specs.Plans.{IsPlanErrorAt, IsPlanMap, call_error_of_run, of_plan}
 pub use Rattle.oxc_sourcemap_c.specs.Exports.{Found, HoldsString, HoldsText, HoldsWritten, IsCodeOf}
 pub use Rattle.oxc_sourcemap_c.specs.Exports.{IsError, IsUrlAnswer, IsWritingError}

@@ -58,7 +58,7 @@ module _ (traces : TracesAgree) (written : SoundIsWritten) (back : SoundReadsBac
     within : outcome plan ≡ outcome_of plan
     within =
         let t : nat_le (depth plan) 64 ≡ true = grind (arith, nat_tests) in
-        ap (λ b. cond b (outcome_of plan) too_deep) t
+        ap (λ b. cond b (outcome_of plan) (too_deep (outcome_of plan).texts)) t
 
     pub evaluated : IsEvaluated n (meaning plan)
     evaluated = subst (λ w. IsEvaluated n w) (ap (λ (o : Outcome). o.meaning) (sym within) ∙ same_meaning plan) (subst (λ x. IsEvaluated x (outcome_of plan).meaning) (sym is) (is_evaluated m (outcome_of plan) g))
@@ -70,12 +70,12 @@ module _ (traces : TracesAgree) (written : SoundIsWritten) (back : SoundReadsBac
 pub failed : (plan : Plan) (e : PlanError) → depth plan ≤ 64 → FailsAs e (outcome_of plan) → (e ≡ Map OutOfMemory) ⊎ IsErrorOf (meaning plan) (is_within_limits plan) e
 failed plan e few f =
     let t : nat_le (depth plan) 64 ≡ true = grind (arith, nat_tests) in
-    let is = ap (λ b. cond b (outcome_of plan) too_deep) t in
+    let is = ap (λ b. cond b (outcome_of plan) (too_deep (outcome_of plan).texts)) t in
     subst (λ w. (e ≡ Map OutOfMemory) ⊎ IsErrorOf w (is_within_limits plan) e) (same_meaning plan) (subst (FailsAs e) (sym is) f)
 
 -- its fault
-pub told : (plan : Plan) (f : PlanFault) → depth plan ≤ 64 → IsTold (outcome_of plan).is_within_limits f → IsTold (is_within_limits plan) f
+pub told : (plan : Plan) (f : PlanFault) → depth plan ≤ 64 → IsTold (outcome_of plan) f → IsTold (outcome plan) f
 told plan f few h =
     let t : nat_le (depth plan) 64 ≡ true = grind (arith, nat_tests) in
-    let is = ap (λ b. cond b (outcome_of plan) too_deep) t in
-    subst (λ (o : Outcome). IsTold o.is_within_limits f) (sym is) h
+    let is = ap (λ b. cond b (outcome_of plan) (too_deep (outcome_of plan).texts)) t in
+    subst (λ (o : Outcome). IsTold o f) (sym is) h

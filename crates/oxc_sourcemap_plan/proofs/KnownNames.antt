@@ -8,10 +8,10 @@ use Rattle.std.proofs.lemmas.List.Folds.{list_all-append, list_any-append}
 use Rattle.oxc_sourcemap_parts.specs.Record.{Text}
 use Rattle.oxc_sourcemap_plan.specs.Evaluated.{is_among, are_among}
 
-or-left : (a b : Bool) → a ≡ true → (a || b) ≡ true
+pub or-left : (a b : Bool) → a ≡ true → (a || b) ≡ true
 or-left a b e = rw e refl
 
-or-right : (a b : Bool) → b ≡ true → (a || b) ≡ true
+pub or-right : (a b : Bool) → b ≡ true → (a || b) ≡ true
 or-right true b e = refl
 or-right false b e = e
 
@@ -28,7 +28,7 @@ among-right xs ys ns h = list_all-weaker (is_among ys) (is_among (xs ++ ys)) (λ
 pub among-both : (xs ns ms : List Text) → are_among xs ns ≡ true → are_among xs ms ≡ true → are_among xs (ns ++ ms) ≡ true
 among-both xs ns ms h k = list_all-append (is_among xs) ns ms ∙ rw (h, k) refl
 
-bytes-self : (n : Text) → bytes_eq n n ≡ true
+pub bytes-self : (n : Text) → bytes_eq n n ≡ true
 bytes-self n = (bytes_decides n n).1 refl
 
 pub among-self : (ns : List Text) → are_among ns ns ≡ true

@@ -14,6 +14,9 @@ pub mod PlanTexts
 pub mod Unread
 pub mod Meant
 pub mod Told
+mod SameTexts
+mod InputTexts
+pub mod Numbered
 mod PlacesWorked
 pub mod Digits
 pub mod PlanInputs

@@ -15,8 +15,8 @@ use Rattle.oxc_sourcemap_plan.specs.Meaning.{Meaning, meaning_step, meaning_of, 
 use Rattle.oxc_sourcemap_plan.specs.Meaning.{form_meaning, sorted_form_meaning, root_meaning}
 use Rattle.oxc_sourcemap_plan.specs.Meaning.{all_decoded_maps, join_meaning, composition_meaning}
 use Rattle.oxc_sourcemap_plan.specs.Meaning.{by_path, all_inputs, remap_meaning, simplified_meaning}
-use Rattle.oxc_sourcemap_plan.specs.Outcome.{sorted_outcome, Outcome, outcome_step, outcome_of}
-use Rattle.oxc_sourcemap_plan.specs.Outcome.{outcome, too_deep, read_outcome, meanings}
+use Rattle.oxc_sourcemap_plan.specs.Outcome.{sorted_form_outcome, Outcome, outcome_step, outcome_of}
+use Rattle.oxc_sourcemap_plan.specs.Outcome.{outcome, too_deep, form_outcome, meanings}
 use Rattle.oxc_sourcemap_plan.specs.Outcome.{input_meanings}
 
 -- the outcome of this plan means what the plan means
@@ -27,11 +27,11 @@ Agrees plan = (outcome_of plan).meaning ≡ meaning_of plan
 abbrev Part : Type 0
 Part = (plan : Plan) × Agrees plan
 
-of-text : (form : ReadForm) → (read_outcome form).meaning ≡ form_meaning form
+of-text : (form : ReadForm) → (form_outcome form).meaning ≡ form_meaning form
 of-text (plain answer) = refl
 of-text (indexed file found) = refl
 
-of-sorted_text : (form : ReadForm) → (sorted_outcome form).meaning ≡ sorted_form_meaning form
+of-sorted_text : (form : ReadForm) → (sorted_form_outcome form).meaning ≡ sorted_form_meaning form
 of-sorted_text (plain answer) = refl
 of-sorted_text (indexed file found) = refl
 
@@ -76,4 +76,4 @@ agrees = ind-Plan Agrees (λ x y is. subst (λ z. Agrees (roll-Plan z)) is (agre
 -- the outcome of a plan that may be too deep
 pub same_meaning : (plan : Plan) → (outcome plan).meaning ≡ meaning plan
 same_meaning plan =
-    elim (nat_le (depth plan) 64) as (λ b. (cond b (outcome_of plan) too_deep).meaning ≡ cond b (meaning_of plan) (Err TooDeep)) [ true ↦ agrees plan | false ↦ refl ]
+    elim (nat_le (depth plan) 64) as (λ b. (cond b (outcome_of plan) (too_deep (outcome_of plan).texts)).meaning ≡ cond b (meaning_of plan) (Err TooDeep)) [ true ↦ agrees plan | false ↦ refl ]

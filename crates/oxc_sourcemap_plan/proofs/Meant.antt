@@ -40,23 +40,22 @@ use Rattle.oxc_sourcemap_plan.specs.Meaning.{Meaning, meaning, meaning_of, root_
 use Rattle.oxc_sourcemap_plan.specs.Meaning.{onto_decoded_maps, all_decoded_maps, join_meaning}
 use Rattle.oxc_sourcemap_plan.specs.Meaning.{composition_meaning, by_path, onto_inputs, all_inputs}
 use Rattle.oxc_sourcemap_plan.specs.Meaning.{remap_meaning, simplified_meaning}
-use Rattle.oxc_sourcemap_plan.specs.Outcome.{Outcome, read_outcome, sorted_outcome, outcome_step}
+use Rattle.oxc_sourcemap_plan.specs.Outcome.{Outcome, form_outcome, sorted_form_outcome}
+use Rattle.oxc_sourcemap_plan.specs.Outcome.{outcome_step}
 use Rattle.oxc_sourcemap_plan.specs.Outcome.{outcome_of, too_deep, is_within_limits, meanings}
 use Rattle.oxc_sourcemap_plan.specs.Outcome.{input_meanings, are_all_within_limits}
 use Rattle.oxc_sourcemap_plan.specs.Outcome.{are_inputs_within_limits, names_of_sections}
+use Rattle.oxc_sourcemap_plan.specs.Realizes.{IsRead, AreRead}
+use Rattle.oxc_sourcemap_plan.proofs.KnownNames.{all-more}
 use Rattle.oxc_sourcemap_plan.proofs.Realizing.{JoinLaws}
 use Rattle.oxc_sourcemap_plan.proofs.Reading.{not-within}
 use Rattle.oxc_sourcemap_plan.proofs.Meanings.{agrees}
 use Rattle.oxc_sourcemap_tokens.specs.declared.errors.fault.FaultPlace.{FaultPlace}
 use Rattle.oxc_sourcemap_plan.specs.PlanPlaces.{IsOfReading, texts_of, texts_step, Unread}
 use Rattle.oxc_sourcemap_plan.specs.PlanPlaces.{unread_from, first_unread, IsPlaceOf}
-use Rattle.oxc_sourcemap_plan.proofs.Unread.{unread-more, unread-here}
+use Rattle.oxc_sourcemap_plan.proofs.Unread.{unread-here, past-read}
 
 -- ---- texts in front of others
--- all of these can be read
-abbrev AreRead : List Text → Type 0
-AreRead texts = (k : ℕ) (more : List Text) → (n : ℕ) × (unread_from k (texts ++ more) ≡ unread_from n more)
-
 -- the first of these that cannot be read has this error
 abbrev IsFirst : Error → List Text → Type 0
 IsFirst e texts = (k : ℕ) (more : List Text) → (u : Unread) × (unread_from k (texts ++ more) ≡ Some u) × (u.error ≡ e)
@@ -71,14 +70,8 @@ abbrev Follows : {A : Type 0} → Result A PlanError → List Text → Type 0
 Follows (Ok x) texts = AreRead texts
 Follows (Err e) texts = IsErrorIn e texts
 
-none-read : AreRead []
-none-read k more = (k, refl)
-
 all-read : (xs ys : List Text) → AreRead xs → AreRead ys → AreRead (xs ++ ys)
-all-read xs ys a b k more =
-    let f = a k (ys ++ more) in
-    let g = b f.0 more in
-    (g.0, ap (unread_from k) (append_assoc xs ys more) ∙ f.1 ∙ g.1)
+all-read = all-more IsRead
 
 in-front : (e : PlanError) (xs ys : List Text) → IsErrorIn e xs → IsErrorIn e (xs ++ ys)
 in-front (Map e) xs ys h = λ r k more. let f = h r k (ys ++ more) in (f.0, ap (unread_from k) (append_assoc xs ys more) ∙ f.1, f.2)
@@ -87,7 +80,7 @@ in-front TooDeep xs ys h = tt
 
 behind : (e : PlanError) (xs ys : List Text) → AreRead xs → IsErrorIn e ys → IsErrorIn e (xs ++ ys)
 behind (Map e) xs ys a h = λ r k more.
-    let f = a k (ys ++ more) in
+    let f = past-read xs (ys ++ more) a k in
     let g = h r f.0 more in
     (g.0, ap (unread_from k) (append_assoc xs ys more) ∙ f.1 ∙ g.1, g.2)
 behind Unsorted xs ys a h = tt
@@ -143,7 +136,7 @@ IsReadAs (Err Unsorted) answer = ⊤
 IsReadAs (Err TooDeep) answer = ⊤
 
 one-follows : (m : Meaning) (text : Text) → IsReadAs m (read_map text) → Follows m (text ∷ [])
-one-follows (Ok s) text h = λ k more. (k + 1, unread-more k text more h.0 h.1)
+one-follows (Ok s) text h = ((h.0, h.1), tt)
 one-follows (Err (Map e)) text h = λ r k more. (record { number = k; text = text; error = e }, unread-here k text more e h, refl)
 one-follows (Err Unsorted) text h = tt
 one-follows (Err TooDeep) text h = tt
@@ -163,8 +156,8 @@ module _ (laws : JoinLaws) where
   form-indexed file ms fault w = ap (λ b. cond b (unless fault (Ok (joined ms))) (Err TooLarge) >>= (λ r. Ok (indexed_record file r))) w
 
   indexed-read : (file : Option Text) (ms : List (MapRecord × Position)) (fault : Option Error) → AllByRecursion (λ m. IsWellRead m.0) ms
-      → (read_outcome (indexed file (record { maps = ms; fault = fault }))).is_within_limits ≡ true
-      → IsReadAs (read_outcome (indexed file (record { maps = ms; fault = fault }))).meaning (map_of_form (indexed file (record { maps = ms; fault = fault })))
+      → (form_outcome (indexed file (record { maps = ms; fault = fault }))).is_within_limits ≡ true
+      → IsReadAs (form_outcome (indexed file (record { maps = ms; fault = fault }))).meaning (map_of_form (indexed file (record { maps = ms; fault = fault })))
   indexed-read file ms (Some e) well w = form-indexed file ms (Some e) (within ms well w)
   indexed-read file ms None well w =
       elim (is_sorted_decoded_map (joined_decoded_maps (decoded_maps_of ms)))
@@ -174,31 +167,31 @@ module _ (laws : JoinLaws) where
       ]
 
   sorted-indexed-read : (file : Option Text) (ms : List (MapRecord × Position)) (fault : Option Error) → AllByRecursion (λ m. IsWellRead m.0) ms
-      → (sorted_outcome (indexed file (record { maps = ms; fault = fault }))).is_within_limits ≡ true
-      → IsReadAs (sorted_outcome (indexed file (record { maps = ms; fault = fault }))).meaning (map_of_form (indexed file (record { maps = ms; fault = fault })))
+      → (sorted_form_outcome (indexed file (record { maps = ms; fault = fault }))).is_within_limits ≡ true
+      → IsReadAs (sorted_form_outcome (indexed file (record { maps = ms; fault = fault }))).meaning (map_of_form (indexed file (record { maps = ms; fault = fault })))
   sorted-indexed-read file ms (Some e) well w = form-indexed file ms (Some e) (within ms well w)
   sorted-indexed-read file ms None well w = (indexed_record file (joined ms), form-indexed file ms None (within ms well w))
 
   form-read : (form : ReadForm) → ((file : Option Text) (found : Sections) → form ≡ indexed file found → AllByRecursion (λ m. IsWellRead m.0) found.maps)
-      → (read_outcome form).is_within_limits ≡ true → IsReadAs (read_outcome form).meaning (map_of_form form)
+      → (form_outcome form).is_within_limits ≡ true → IsReadAs (form_outcome form).meaning (map_of_form form)
   form-read (plain (Err e)) well w = refl
   form-read (plain (Ok r)) well w =
       elim (are_tokens_sorted r.tokens) as (λ b. IsReadAs (cond b (Ok (decoded_map_of r)) (Err Unsorted)) (Ok r)) [ true ↦ (r, refl) | false ↦ tt ]
   form-read (indexed file found) well w = indexed-read file found.maps found.fault (well file found refl) w
 
   form-sorted : (form : ReadForm) → ((file : Option Text) (found : Sections) → form ≡ indexed file found → AllByRecursion (λ m. IsWellRead m.0) found.maps)
-      → (sorted_outcome form).is_within_limits ≡ true → IsReadAs (sorted_outcome form).meaning (map_of_form form)
+      → (sorted_form_outcome form).is_within_limits ≡ true → IsReadAs (sorted_form_outcome form).meaning (map_of_form form)
   form-sorted (plain (Err e)) well w = refl
   form-sorted (plain (Ok r)) well w = (r, refl)
   form-sorted (indexed file found) well w = sorted-indexed-read file found.maps found.fault (well file found refl) w
 
-  text-follows : (text : Text) → (read_outcome (form_of_text text)).is_within_limits ≡ true → Follows (read_outcome (form_of_text text)).meaning (text ∷ [])
+  text-follows : (text : Text) → (form_outcome (form_of_text text)).is_within_limits ≡ true → Follows (form_outcome (form_of_text text)).meaning (text ∷ [])
   text-follows text w =
-      one-follows _ text (subst (IsReadAs (read_outcome (form_of_text text)).meaning) (sym (read_is_form text)) (form-read (form_of_text text) (sections_well text) w))
+      one-follows _ text (subst (IsReadAs (form_outcome (form_of_text text)).meaning) (sym (read_is_form text)) (form-read (form_of_text text) (sections_well text) w))
 
-  sorted-follows : (text : Text) → (sorted_outcome (form_of_text text)).is_within_limits ≡ true → Follows (sorted_outcome (form_of_text text)).meaning (text ∷ [])
+  sorted-follows : (text : Text) → (sorted_form_outcome (form_of_text text)).is_within_limits ≡ true → Follows (sorted_form_outcome (form_of_text text)).meaning (text ∷ [])
   sorted-follows text w =
-      one-follows _ text (subst (IsReadAs (sorted_outcome (form_of_text text)).meaning) (sym (read_is_form text)) (form-sorted (form_of_text text) (sections_well text) w))
+      one-follows _ text (subst (IsReadAs (sorted_form_outcome (form_of_text text)).meaning) (sym (read_is_form text)) (form-sorted (form_of_text text) (sections_well text) w))
 
   -- ---- a plan
   abbrev Holds : Plan → Type 0
@@ -211,7 +204,7 @@ module _ (laws : JoinLaws) where
   lines-follow : (parts : List (Part × ℕ)) → are_all_within_limits (at_lines (map (λ (p : Plan × ℕ). (outcome_of p.0, p.1)) (map (λ (p : Part × ℕ). (p.0.0, p.1)) parts))) ≡ true
       → Follows (all_decoded_maps (meanings (at_lines (map (λ (p : Plan × ℕ). (outcome_of p.0, p.1)) (map (λ (p : Part × ℕ). (p.0.0, p.1)) parts)))))
       (flat_map (λ (p : List Text × ℕ). p.0) (map (λ (p : Plan × ℕ). (texts_of p.0, p.1)) (map (λ (p : Part × ℕ). (p.0.0, p.1)) parts)))
-  lines-follow [] w = none-read
+  lines-follow [] w = tt
   lines-follow (p ∷ parts) w =
       let ws = and_parts (outcome_of p.0.0).is_within_limits _ w in
       onto-follows _ (at_line p.1) _ (texts_of p.0.0) _ (p.0.1 ws.0) (lines-follow parts ws.1)
@@ -219,7 +212,7 @@ module _ (laws : JoinLaws) where
   positions-follow : (parts : List (Part × ℕ × ℕ)) → are_all_within_limits (at_positions (map (λ (p : Plan × ℕ × ℕ). (outcome_of p.0, p.1, p.2)) (map (λ (p : Part × ℕ × ℕ). (p.0.0, p.1, p.2)) parts))) ≡ true
       → Follows (all_decoded_maps (meanings (at_positions (map (λ (p : Plan × ℕ × ℕ). (outcome_of p.0, p.1, p.2)) (map (λ (p : Part × ℕ × ℕ). (p.0.0, p.1, p.2)) parts)))))
       (flat_map (λ (p : List Text × ℕ × ℕ). p.0) (map (λ (p : Plan × ℕ × ℕ). (texts_of p.0, p.1, p.2)) (map (λ (p : Part × ℕ × ℕ). (p.0.0, p.1, p.2)) parts)))
-  positions-follow [] w = none-read
+  positions-follow [] w = tt
   positions-follow (p ∷ parts) w =
       let ws = and_parts (outcome_of p.0.0).is_within_limits _ w in
       onto-follows _ (record { line = p.1; column = p.2 }) _ (texts_of p.0.0) _ (p.0.1 ws.0) (positions-follow parts ws.1)
@@ -227,7 +220,7 @@ module _ (laws : JoinLaws) where
   inputs-follow : (inputs : List (Bor Text × Part)) → are_inputs_within_limits (by_path (map (λ (p : Bor Text × Plan). (p.0, outcome_of p.1)) (map (λ (p : Bor Text × Part). (p.0, p.1.0)) inputs))) ≡ true
       → Follows (all_inputs (input_meanings (by_path (map (λ (p : Bor Text × Plan). (p.0, outcome_of p.1)) (map (λ (p : Bor Text × Part). (p.0, p.1.0)) inputs)))))
       (flat_map (λ (p : Bor Text × List Text). p.1) (map (λ (p : Bor Text × Plan). (p.0, texts_of p.1)) (map (λ (p : Bor Text × Part). (p.0, p.1.0)) inputs)))
-  inputs-follow [] w = none-read
+  inputs-follow [] w = tt
   inputs-follow (p ∷ inputs) w =
       let ws = and_parts (outcome_of p.1.0).is_within_limits _ w in
       input-follows p.0.now _ _ (texts_of p.1.0) _ (p.1.1 ws.0) (inputs-follow inputs ws.1)
@@ -267,7 +260,7 @@ module _ (laws : JoinLaws) where
   pub first_of_meant : (plan : Plan) (e : Error) → is_within_limits plan ≡ true → meaning plan ≡ Err (Map e) → IsOfReading e
       → (u : Unread) × (first_unread (texts_of plan) ≡ Some u) × (u.error ≡ e)
   first_of_meant plan e w m r =
-      elim (nat_le (depth plan) 64) as (λ b. (cond b (outcome_of plan) too_deep).is_within_limits ≡ true → cond b (meaning_of plan) (Err TooDeep) ≡ Err (Map e)
+      elim (nat_le (depth plan) 64) as (λ b. (cond b (outcome_of plan) (too_deep (outcome_of plan).texts)).is_within_limits ≡ true → cond b (meaning_of plan) (Err TooDeep) ≡ Err (Map e)
       → (u : Unread) × (first_unread (texts_of plan) ≡ Some u) × (u.error ≡ e)) [
         | true ↦ (λ w m. no-more e (texts_of plan) (subst (λ x. Follows x (texts_of plan)) (agrees plan ∙ m) (holds plan w) r))
         | false ↦ (λ w m. absurd (cc (m)))

@@ -3,7 +3,6 @@ use Rattle.std.proofs.Common.{◌≡◌, ℕ, List, [], ◌∷◌, ◌++◌, map
 use Rattle.std.proofs.Common.{◌∙◌}
 use Rattle.std.specs.declared.alloc.Global.{Global}
 use Rattle.std.specs.Borrow.{Bor}
-use Rattle.oxc_sourcemap_json.specs.ReadMap.{form_of_text}
 use Rattle.oxc_sourcemap_join.specs.Joined.{at_line, at_lines, at_positions}
 use Rattle.oxc_sourcemap_plan.specs.declared.plan.Plan.{Plan}
 use Rattle.oxc_sourcemap_plan.specs.declared.plan.Plan.TheVariants.{Read, rolls-Read, Rewrite}
@@ -69,10 +68,10 @@ outcome_parts_at plan parts items e f = ap outcome_of e ∙ outcome_join_at part
 pub outcome_compose : (p q : Box Plan Global) → outcome_of (Compose p q) ≡ composition_outcome (outcome_of p.value) (outcome_of q.value)
 outcome_compose p q = ap outcome_of (sym (rolls-Compose p q)) ∙ fold-roll-Plan Outcome outcome_step (Plan-F.Compose p q)
 
-pub outcome_read_sorted : (text : Bor (List ℕ)) → outcome_of (ReadSorted text) ≡ sorted_outcome (form_of_text text.now)
+pub outcome_read_sorted : (text : Bor (List ℕ)) → outcome_of (ReadSorted text) ≡ sorted_outcome text.now
 outcome_read_sorted text = ap outcome_of (sym (rolls-ReadSorted text)) ∙ fold-roll-Plan Outcome outcome_step (Plan-F.ReadSorted text)
 
-pub outcome_read : (text : Bor (List ℕ)) → outcome_of (Read text) ≡ read_outcome (form_of_text text.now)
+pub outcome_read : (text : Bor (List ℕ)) → outcome_of (Read text) ≡ read_outcome text.now
 outcome_read text = ap outcome_of (sym (rolls-Read text)) ∙ fold-roll-Plan Outcome outcome_step (Plan-F.Read text)
 
 pub outcome_rewrite : (p : Box Plan Global) → outcome_of (Rewrite p) ≡ rewrite_outcome (outcome_of p.value)

@@ -35,7 +35,7 @@ use Rattle.oxc_sourcemap_tokens.specs.declared.errors.plan_error.PlanError.TheVa
 use Rattle.oxc_sourcemap_plan.specs.Limits.{are_counts_within_limits, are_positions_within_limits}
 use Rattle.oxc_sourcemap_plan.specs.Limits.{is_join_within_limits}
 use Rattle.oxc_sourcemap_plan.specs.Outcome.{plain_outcome, names_of_sections, sections_outcome}
-use Rattle.oxc_sourcemap_plan.specs.Outcome.{read_outcome}
+use Rattle.oxc_sourcemap_plan.specs.Outcome.{Outcome, form_outcome, of_text, read_outcome}
 use Rattle.oxc_sourcemap_plan.specs.Evaluated.{are_among}
 use Rattle.oxc_sourcemap_plan.specs.Realizes.{Realizes, FailsAs}
 use Rattle.oxc_sourcemap_plan.proofs.KnownNames.{among-self}
@@ -113,6 +113,7 @@ module _ (laws : JoinLaws) (file : Option Text) (ms : List (MapRecord × Positio
         stands = record { sound = h; up_to_repeats = ap (λ (t : DecodedMap). record t { file = file }) same };
         in_bounds = b;
         map_record = refl;
+        texts = tt;
         tokens = omega arith;
         names = omega arith;
         contents = omega arith;
@@ -137,7 +138,7 @@ error-of file (Err g) f e = cc
 
 -- ---- by the value that is read
 gives : (laws : JoinLaws) (form : ReadForm) (r : MapRecord) → ((file : Option Text) (found : Sections) → form ≡ indexed file found → AllByRecursion (λ m. IsWellRead m.0) found.maps)
-    → map_of_form form ≡ Ok r → AreInBounds r.tokens → IsSound r → are_tokens_sorted r.tokens ≡ true → Realizes r (read_outcome form)
+    → map_of_form form ≡ Ok r → AreInBounds r.tokens → IsSound r → are_tokens_sorted r.tokens ≡ true → Realizes r (form_outcome form)
 gives laws (plain answer) r w e b h s = subst (λ a. Realizes r (plain_outcome a)) (sym e) (plain_gives r b h s)
 gives laws (indexed file found) r w e b h s =
     let j = joined-of file (joined_sections found) r e in
@@ -148,7 +149,7 @@ gives laws (indexed file found) r w e b h s =
     (sections_give laws file found.maps (w file found refl) (subst (λ (m : MapRecord). AreInBounds m.tokens) back b) (subst IsSound back h) (subst (λ (m : MapRecord). are_tokens_sorted m.tokens ≡ true) back s)))
 
 unsorted : (laws : JoinLaws) (form : ReadForm) (r : MapRecord) → ((file : Option Text) (found : Sections) → form ≡ indexed file found → AllByRecursion (λ m. IsWellRead m.0) found.maps)
-    → map_of_form form ≡ Ok r → are_tokens_sorted r.tokens ≡ false → FailsAs Unsorted (read_outcome form)
+    → map_of_form form ≡ Ok r → are_tokens_sorted r.tokens ≡ false → FailsAs Unsorted (form_outcome form)
 unsorted laws (plain answer) r w e s = subst (λ a. FailsAs Unsorted (plain_outcome a)) (sym e) (plain_unsorted r s)
 unsorted laws (indexed file found) r w e s =
     let j = joined-of file (joined_sections found) r e in
@@ -162,7 +163,7 @@ fault-of None r e h = cc
 fault-of (Some f) r e h = cc
 
 error : (laws : JoinLaws) (form : ReadForm) (e : Error) → ((file : Option Text) (found : Sections) → form ≡ indexed file found → AllByRecursion (λ m. IsWellRead m.0) found.maps)
-    → map_of_form form ≡ Err e → FailsAs (Map e) (read_outcome form)
+    → map_of_form form ≡ Err e → FailsAs (Map e) (form_outcome form)
 error laws (plain answer) e w h = subst (λ a. FailsAs (Map e) (plain_outcome a)) (sym h) (inr (inl refl))
 error laws (indexed file found) e w h =
     let j : joined_sections found ≡ Err e = error-of file (joined_sections found) e h in
@@ -173,11 +174,27 @@ error laws (indexed file found) e w h =
     ] refl j
 
 -- ---- by the text that is read
-pub read_gives : JoinLaws → (text : Text) (r : MapRecord) → read_map text ≡ Ok r → AreInBounds r.tokens → IsSound r → are_tokens_sorted r.tokens ≡ true → Realizes r (read_outcome (form_of_text text))
-read_gives laws text r e b h s = gives laws (form_of_text text) r (sections_well text) (sym (read_is_form text) ∙ e) b h s
+pub of-read-text : (text : Text) (r m : MapRecord) (o : Outcome) → read_map text ≡ Ok r → Realizes m o → Realizes m (of_text text o)
+of-read-text text r m o is g = record {
+  decoded_map = g.decoded_map;
+  means = g.means;
+  stands = g.stands;
+  in_bounds = g.in_bounds;
+  map_record = g.map_record;
+  texts = ((r, is), tt);
+  tokens = g.tokens;
+  names = g.names;
+  contents = g.contents;
+  known = g.known;
+  within_limits = g.within_limits;
+  rewritten = g.rewritten;
+}
 
-pub read_unsorted : JoinLaws → (text : Text) (r : MapRecord) → read_map text ≡ Ok r → are_tokens_sorted r.tokens ≡ false → FailsAs Unsorted (read_outcome (form_of_text text))
+pub read_gives : JoinLaws → (text : Text) (r : MapRecord) → read_map text ≡ Ok r → AreInBounds r.tokens → IsSound r → are_tokens_sorted r.tokens ≡ true → Realizes r (read_outcome text)
+read_gives laws text r e b h s = of-read-text text r r _ e (gives laws (form_of_text text) r (sections_well text) (sym (read_is_form text) ∙ e) b h s)
+
+pub read_unsorted : JoinLaws → (text : Text) (r : MapRecord) → read_map text ≡ Ok r → are_tokens_sorted r.tokens ≡ false → FailsAs Unsorted (read_outcome text)
 read_unsorted laws text r e s = unsorted laws (form_of_text text) r (sections_well text) (sym (read_is_form text) ∙ e) s
 
-pub read_error : JoinLaws → (text : Text) (e : Error) → ((e ≢ OutOfMemory) → read_map text ≡ Err e) → FailsAs (Map e) (read_outcome (form_of_text text))
-read_error laws text e q = unless_memory e (read_outcome (form_of_text text)) (λ n. error laws (form_of_text text) e (sections_well text) (sym (read_is_form text) ∙ q n))
+pub read_error : JoinLaws → (text : Text) (e : Error) → ((e ≢ OutOfMemory) → read_map text ≡ Err e) → FailsAs (Map e) (read_outcome text)
+read_error laws text e q = unless_memory e (read_outcome text) (λ n. error laws (form_of_text text) e (sections_well text) (sym (read_is_form text) ∙ q n))

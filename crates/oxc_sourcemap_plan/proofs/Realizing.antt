@@ -67,11 +67,12 @@ use Rattle.oxc_sourcemap_plan.specs.Limits.{are_counts_within_limits, is_positio
 use Rattle.oxc_sourcemap_plan.specs.Limits.{are_positions_within_limits, is_part_within_limits}
 use Rattle.oxc_sourcemap_plan.specs.Limits.{is_join_within_limits}
 use Rattle.oxc_sourcemap_plan.specs.Outcome.{Outcome, plain_outcome, rewrite_outcome, meanings}
-use Rattle.oxc_sourcemap_plan.specs.Outcome.{names_of_all, all_records, joined_source_count}
+use Rattle.oxc_sourcemap_plan.specs.Outcome.{texts_of_all, names_of_all, all_records}
+use Rattle.oxc_sourcemap_plan.specs.Outcome.{joined_source_count}
 use Rattle.oxc_sourcemap_plan.specs.Outcome.{are_all_within_limits, join_outcome}
 use Rattle.oxc_sourcemap_plan.specs.Outcome.{composition_outcome}
 use Rattle.oxc_sourcemap_plan.specs.Evaluated.{is_among, are_among}
-use Rattle.oxc_sourcemap_plan.specs.Realizes.{Realizes, FailsAs, AllRealize}
+use Rattle.oxc_sourcemap_plan.specs.Realizes.{IsRead, AreRead, Realizes, FailsAs, AllRealize}
 use Rattle.oxc_sourcemap_plan.proofs.KnownNames.{among-left, among-right, among-both, among-self}
 use Rattle.oxc_sourcemap_plan.proofs.KnownNames.{all-more, all-weaker}
 use Rattle.oxc_sourcemap_plan.proofs.Decoding.{decoded-bounds, sorted-order}
@@ -132,6 +133,7 @@ plain_gives r b h s =
       stands = record { sound = h; up_to_repeats = refl };
       in_bounds = b;
       map_record = refl;
+      texts = tt;
       tokens = rw length-map (omega arith);
       names = omega arith;
       contents = omega arith;
@@ -175,6 +177,7 @@ rewrite_gives law back stays r m j e d o g =
       stands = record { sound = st.sound; up_to_repeats = ap decoded_map_without_repeats st.decoded_map ∙ g.stands.up_to_repeats };
       in_bounds = decoded-bounds law (encoded_record r) (rewritten r) b.is_read;
       map_record = ap (option_map rewritten) g.map_record;
+      texts = g.texts;
       tokens = subst (λ n. n ≤ length g.decoded_map.mappings) (sym sc) gt;
       names = g.names;
       contents = omega arith;
@@ -316,6 +319,13 @@ records-of (m ∷ ms) (o ∷ os) h =
     ∙ ap (option_map (λ rs. (m.0, o.1) ∷ rs)) (records-of ms os h.1)
     ∙ ap (λ n. Some ((m.0, n) ∷ ms)) (sym h.0.1)
 
+-- all texts of parts that all give maps can be read
+pub texts-read : (ms : List (MapRecord × Position)) (os : List (Outcome × Position)) → AllRealize ms os → AreRead (texts_of_all os)
+texts-read [] [] h = tt
+texts-read [] (o ∷ os) h = absurd h
+texts-read (m ∷ ms) [] h = absurd h
+texts-read (m ∷ ms) (o ∷ os) h = all-more IsRead o.0.texts (texts_of_all os) h.0.0.texts (texts-read ms os h.1)
+
 -- the laws of joins
 pub record JoinLaws : Type 0 where
   pub tests : TestsAgree
@@ -369,6 +379,7 @@ module _ (laws : JoinLaws) (ms : List (MapRecord × Position)) (os : List (Outco
         stands = s.1 f;
         in_bounds = within.in_bounds;
         map_record = ap (option_map joined) (records-of ms os h);
+        texts = texts-read ms os h;
         tokens = omega arith;
         names = subst (λ ns. length ns ≤ length (names_of_all os)) (sym (laws.names ms)) j.names;
         contents = subst (λ q. length (joined ms).source_contents ≤ joined_source_count q) (sym j.mean)
@@ -491,6 +502,7 @@ module _ (laws : ComposeLaws) (a b : MapRecord) (p q : Outcome) (g : Realizes a 
         stands = laws.stands a b g.decoded_map k.decoded_map g.stands k.stands;
         in_bounds = subst (λ (x : MapRecord). AreInBounds x.tokens) (sym c.1) (laws.bounds a b m g.in_bounds k.in_bounds e);
         map_record = ap (option_and_then (λ r. option_map (composed r) q.map_record)) g.map_record ∙ ap (option_map (composed a)) k.map_record;
+        texts = all-more IsRead p.texts q.texts g.texts k.texts;
         tokens = rw (laws.tokens a b, length-map) g.tokens;
         names = omega arith;
         contents = k.contents;

@@ -24,12 +24,12 @@ use Rattle.oxc_sourcemap_tokens.specs.declared.errors.plan_error.PlanError.TheVa
 use Rattle.oxc_sourcemap_plan.specs.Meaning.{root_meaning, onto_inputs, all_inputs, remap_meaning}
 use Rattle.oxc_sourcemap_plan.specs.Limits.{is_part_within_limits}
 use Rattle.oxc_sourcemap_plan.specs.Outcome.{Outcome, root_outcome, input_meanings}
-use Rattle.oxc_sourcemap_plan.specs.Outcome.{all_input_records, input_names}
+use Rattle.oxc_sourcemap_plan.specs.Outcome.{all_input_records, input_texts, input_names}
 use Rattle.oxc_sourcemap_plan.specs.Outcome.{are_inputs_within_limits, source_count}
 use Rattle.oxc_sourcemap_plan.specs.Outcome.{remapped_meaning, remap_outcome}
 use Rattle.oxc_sourcemap_plan.specs.Evaluated.{is_among, are_among}
-use Rattle.oxc_sourcemap_plan.specs.Realizes.{Realizes, FailsAs, InputsRealize}
-use Rattle.oxc_sourcemap_plan.proofs.KnownNames.{among-left, among-right, among-both}
+use Rattle.oxc_sourcemap_plan.specs.Realizes.{IsRead, AreRead, Realizes, FailsAs, InputsRealize}
+use Rattle.oxc_sourcemap_plan.proofs.KnownNames.{among-left, among-right, among-both, all-more}
 use Rattle.oxc_sourcemap_plan.proofs.Realizing.{same-sources, CountsFit, counts-fit, ok-same}
 use Rattle.oxc_sourcemap_plan.proofs.Realizing.{err-same, no-ok-err}
 
@@ -45,6 +45,7 @@ root_gives stands r o g =
       stands = stands r s g.stands;
       in_bounds = g.in_bounds;
       map_record = ap (option_map rooted) g.map_record;
+      texts = g.texts;
       tokens = omega arith;
       names = g.names;
       contents = g.contents;
@@ -86,6 +87,13 @@ ready (m ∷ ms) (o ∷ os) h =
       names = omega arith;
       known = among-both (o.1.names ++ input_names os) m.1.names (names_of_inputs ms) (among-left o.1.names (input_names os) m.1.names g.known) (among-right o.1.names (input_names os) (names_of_inputs ms) j.known);
     }
+
+-- all texts of inputs that all give maps can be read
+pub inputs-read : (ms : List (Text × MapRecord)) (os : List (Text × Outcome)) → InputsRealize ms os → AreRead (input_texts os)
+inputs-read [] [] h = tt
+inputs-read [] (o ∷ os) h = absurd h
+inputs-read (m ∷ ms) [] h = absurd h
+inputs-read (m ∷ ms) (o ∷ os) h = all-more IsRead o.1.texts (input_texts os) h.0.1.texts (inputs-read ms os h.1)
 
 -- ---- a remapping
 pub record RemapLaws : Type 0 where
@@ -136,6 +144,7 @@ module _ (laws : RemapLaws) (a : MapRecord) (ms : List (Text × MapRecord)) (p :
         stands = laws.stands a ms g.decoded_map j.decoded_maps g.stands j.stand;
         in_bounds = subst (λ (x : MapRecord). AreInBounds x.tokens) (sym is) (laws.bounds a m ms g.in_bounds j.in_bounds e);
         map_record = ap (option_and_then (λ r. option_map (remapped r) (all_input_records os))) g.map_record ∙ ap (option_map (remapped a)) j.records;
+        texts = all-more IsRead p.texts (input_texts os) g.texts (inputs-read ms os h);
         tokens = omega arith;
         names = omega arith;
         contents = subst (λ q. length (remapped a ms).source_contents ≤ source_count q) (sym means) (omega arith);

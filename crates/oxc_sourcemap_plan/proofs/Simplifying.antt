@@ -126,6 +126,7 @@ module _ (laws : SimplifyLaws) (r : MapRecord) (o : Outcome) (g : Realizes r o) 
         stands = stands;
         in_bounds = laws.bounds r g.in_bounds c.0;
         map_record = ap (option_map simplified) g.map_record;
+        texts = g.texts;
         tokens = omega (arith, tokens);
         names = omega (arith, nm, gn);
         contents = subst (λ q. length (simplified r).source_contents ≤ source_count q) (sym means) (omega (arith, contents, ss));

@@ -42,7 +42,8 @@ use Rattle.oxc_sourcemap_steps.specs.Sorting.{sorted_decoded_map}
 use Rattle.oxc_sourcemap_steps.proofs.Sorting.{precedes, sorted-once}
 use Rattle.oxc_sourcemap_steps.proofs.Lookups.{decoded-sorted}
 use Rattle.oxc_sourcemap_tokens.specs.declared.errors.plan_error.PlanError.TheVariants.{Map}
-use Rattle.oxc_sourcemap_plan.specs.Outcome.{sorted_outcome, sorted_plain_outcome}
+use Rattle.oxc_sourcemap_plan.specs.Outcome.{sorted_form_outcome, sorted_outcome}
+use Rattle.oxc_sourcemap_plan.specs.Outcome.{sorted_plain_outcome}
 use Rattle.oxc_sourcemap_plan.specs.Outcome.{sorted_sections_outcome, names_of_sections}
 use Rattle.oxc_sourcemap_plan.specs.Evaluated.{are_among}
 use Rattle.oxc_sourcemap_plan.specs.Realizes.{Realizes, FailsAs}
@@ -50,7 +51,7 @@ use Rattle.oxc_sourcemap_plan.proofs.KnownNames.{among-self}
 use Rattle.oxc_sourcemap_plan.proofs.Realizing.{counts-fit, JoinLaws, unless_memory}
 use Rattle.oxc_sourcemap_plan.proofs.Reading.{room, count-mappings, not-within}
 use Rattle.oxc_sourcemap_plan.proofs.Reading.{same as sections-same, sections-contents, error-of}
-use Rattle.oxc_sourcemap_plan.proofs.Reading.{fault-of}
+use Rattle.oxc_sourcemap_plan.proofs.Reading.{fault-of, of-read-text}
 
 -- ---- repeats
 before-itself : (a b : ℕ) → precedes a b a b ≡ true
@@ -164,6 +165,7 @@ sorted-plain r k =
       stands = record { sound = k.sound; up_to_repeats = ap decoded_map_without_repeats (decoded-sorted r) };
       in_bounds = k.in_bounds;
       map_record = refl;
+      texts = tt;
       tokens = omega arith;
       names = omega arith;
       contents = omega arith;
@@ -195,6 +197,7 @@ sorted-sections laws file ms well k =
       stands = record { sound = k.sound; up_to_repeats = ap decoded_map_without_repeats (decoded-sorted r) ∙ sorted-repeats (decoded_map_of r) t e };
       in_bounds = k.in_bounds;
       map_record = refl;
+      texts = tt;
       tokens = omega arith;
       names = omega arith;
       contents = omega arith;
@@ -205,7 +208,7 @@ sorted-sections laws file ms well k =
 
 -- ---- by the value that is read
 gives : (laws : JoinLaws) (form : ReadForm) (r : MapRecord) → ((file : Option Text) (found : Sections) → form ≡ indexed file found → AllByRecursion (λ m. IsWellRead m.0) found.maps)
-    → map_of_form form ≡ Ok r → IsSortedRead r (sorted_map r) → Realizes (sorted_map r) (sorted_outcome form)
+    → map_of_form form ≡ Ok r → IsSortedRead r (sorted_map r) → Realizes (sorted_map r) (sorted_form_outcome form)
 gives laws (plain answer) r w e k = subst (λ a. Realizes (sorted_map r) (sorted_plain_outcome a)) (sym e) (sorted-plain r k)
 gives laws (indexed file found) r w e k =
     let j = joined-of file (joined_sections found) r e in
@@ -216,7 +219,7 @@ gives laws (indexed file found) r w e k =
     (sorted-sections laws file found.maps (w file found refl) (subst (λ m. IsSortedRead m (sorted_map m)) (sym is) k)))
 
 error : (laws : JoinLaws) (form : ReadForm) (e : Error) → ((file : Option Text) (found : Sections) → form ≡ indexed file found → AllByRecursion (λ m. IsWellRead m.0) found.maps)
-    → map_of_form form ≡ Err e → FailsAs (Map e) (sorted_outcome form)
+    → map_of_form form ≡ Err e → FailsAs (Map e) (sorted_form_outcome form)
 error laws (plain answer) e w h = subst (λ a. FailsAs (Map e) (sorted_plain_outcome a)) (sym h) (inr (inl refl))
 error laws (indexed file found) e w h =
     let j : joined_sections found ≡ Err e = error-of file (joined_sections found) e h in
@@ -227,10 +230,10 @@ error laws (indexed file found) e w h =
     ] refl j
 
 -- ---- by the text that is read
-pub sorted_gives : JoinLaws → (text : Text) (r : MapRecord) → read_map text ≡ Ok r → Realizes (sorted_map r) (sorted_outcome (form_of_text text))
+pub sorted_gives : JoinLaws → (text : Text) (r : MapRecord) → read_map text ≡ Ok r → Realizes (sorted_map r) (sorted_outcome text)
 sorted_gives laws text r e =
     let well = read_well text r e in
-    gives laws (form_of_text text) r (sections_well text) (sym (read_is_form text) ∙ e) (sorted-read r well.in_range well.chunks well.in_bounds)
+    of-read-text text r (sorted_map r) _ e (gives laws (form_of_text text) r (sections_well text) (sym (read_is_form text) ∙ e) (sorted-read r well.in_range well.chunks well.in_bounds))
 
-pub sorted_error : JoinLaws → (text : Text) (e : Error) → ((e ≢ OutOfMemory) → read_map text ≡ Err e) → FailsAs (Map e) (sorted_outcome (form_of_text text))
-sorted_error laws text e q = unless_memory e (sorted_outcome (form_of_text text)) (λ n. error laws (form_of_text text) e (sections_well text) (sym (read_is_form text) ∙ q n))
+pub sorted_error : JoinLaws → (text : Text) (e : Error) → ((e ≢ OutOfMemory) → read_map text ≡ Err e) → FailsAs (Map e) (sorted_outcome text)
+sorted_error laws text e q = unless_memory e (sorted_outcome text) (λ n. error laws (form_of_text text) e (sections_well text) (sym (read_is_form text) ∙ q n))

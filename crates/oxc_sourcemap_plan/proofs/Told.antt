@@ -1,15 +1,18 @@
 -- A fault of an evaluation tells the text that it comes from, or comes from none.
 use Rattle.std.proofs.Common.{◌≡◌, ◌≢◌, ℕ, ◌+◌, ◌<◌, Bool, true, false, cond, nat_lt, List, [], ◌∷◌}
 use Rattle.std.proofs.Common.{◌++◌, map, length, take, drop, get_or, refl, sym, ap, ◌∙◌, subst, inl}
-use Rattle.std.proofs.Common.{inr, Option, Some, None, Result, Ok, Err, IfSome, IsSomeAnd, is_some}
-use Rattle.std.proofs.Common.{option_map}
+use Rattle.std.proofs.Common.{inr, Option, Some, None, Result, Ok, Err, IsSomeAnd, is_some}
+use Rattle.std.proofs.Common.{option_map, append_assoc}
+use Rattle.std.specs.Option.{MatchOption}
 use Rattle.std.specs.Result.{IfErr, IsErrAnd}
 use Rattle.std.specs.Borrow.{Bor}
-use Rattle.std.proofs.lemmas.Bool.{and_parts, both_ways}
-use Rattle.std.proofs.lemmas.List.{map-append}
+use Rattle.std.proofs.lemmas.Bool.{and_left, and_right}
+use Rattle.std.proofs.lemmas.Grind.{flat_map-append}
+use Rattle.std.proofs.lemmas.List.{map-append, append-nil}
 use Rattle.oxc_sourcemap_tokens.specs.declared.errors.error.Error.{Error}
 use Rattle.oxc_sourcemap_tokens.specs.declared.errors.error.Error.TheVariants.{OutOfMemory}
 use Rattle.oxc_sourcemap_tokens.specs.declared.errors.error.Error.TheVariants.{SeveralSources}
+use Rattle.oxc_sourcemap_tokens.specs.declared.errors.error.Error.TheVariants.{TooLarge}
 use Rattle.oxc_sourcemap_tokens.specs.declared.errors.fault.Fault.{Fault}
 use Rattle.oxc_sourcemap_tokens.specs.declared.errors.fault.FaultPlace.{FaultPlace}
 use Rattle.oxc_sourcemap_tokens.specs.declared.errors.plan_error.PlanError.{PlanError}
@@ -31,114 +34,143 @@ use Rattle.oxc_sourcemap_plan.specs.Meaning.{root_meaning, simplified_meaning, j
 use Rattle.oxc_sourcemap_plan.specs.Meaning.{composition_meaning, remap_meaning, all_decoded_maps}
 use Rattle.oxc_sourcemap_plan.specs.Meaning.{onto_decoded_maps, all_inputs, onto_inputs, by_path}
 use Rattle.oxc_sourcemap_plan.specs.Outcome.{Outcome, rewrite_outcome, root_outcome, outcome_of}
+use Rattle.oxc_sourcemap_plan.specs.Outcome.{texts_of_all, input_texts}
 use Rattle.oxc_sourcemap_plan.specs.Outcome.{simplified_outcome, join_outcome, meanings, outcomes}
 use Rattle.oxc_sourcemap_plan.specs.Outcome.{composition_outcome, remap_outcome, input_meanings}
 use Rattle.oxc_sourcemap_plan.specs.Outcome.{are_all_within_limits, are_inputs_within_limits}
 use Rattle.oxc_sourcemap_plan.specs.Outcome.{input_outcomes}
-use Rattle.oxc_sourcemap_plan.specs.PlanPlaces.{IsOfReading, IsOfNoText, IsTextFault, TellsText}
+use Rattle.oxc_sourcemap_plan.specs.PlanPlaces.{IsOfReading, IsOfNoText, IsTextFault, IsTextPlace}
 use Rattle.oxc_sourcemap_plan.specs.PlanPlaces.{IsTold}
 use Rattle.oxc_sourcemap_plan.specs.Realizes.{Realizes, FailsAs, AllRealize, InputsRealize}
+use Rattle.oxc_sourcemap_plan.specs.Realizes.{IsRead, AreRead}
+use Rattle.oxc_sourcemap_plan.proofs.KnownNames.{all-more}
 use Rattle.oxc_sourcemap_plan.proofs.Parts.{around, input_at, outcomes-of}
-use Rattle.oxc_sourcemap_plan.proofs.Realizing.{no-room-part}
-use Rattle.oxc_sourcemap_plan.proofs.Remapping.{no-room-input}
+use Rattle.oxc_sourcemap_plan.proofs.Realizing.{no-room-part, texts-read}
+use Rattle.oxc_sourcemap_plan.proofs.Remapping.{no-room-input, inputs-read}
+use Rattle.oxc_sourcemap_plan.proofs.Unread.{unread-here, fault-among}
 
 -- ---- a fault that is handed on
--- a whole within the limits has its parts within them
-pub told_in : (whole part : Bool) (f : PlanFault) → (whole ≡ true → part ≡ true) → IsTold part f → IsTold whole f
-told_in whole part f k told = λ other. ((told other).0, λ none within. (told other).1 none (k within))
+-- A part of a whole: the texts in front of its own can be read, and if it is not within the limits, neither is the whole.
+pub record IsPart (part whole : Outcome) : Type 0 where
+  front : List Text
+  rest : List Text
+  texts : whole.texts ≡ front ++ (part.texts ++ rest)
+  read : AreRead front
+  limits : part.is_within_limits ≡ false → whole.is_within_limits ≡ false
 
--- the same by a `?`
-pub told_on : {A : Type 0} (whole part : Bool) (r : Result A PlanFault) (f : PlanFault) → IsErrAnd r (λ g. g ≡ f) → (whole ≡ true → part ≡ true) → IsTold part f → IfErr r (IsTold whole)
-told_on whole part (Ok x) f is k told = tt
-told_on whole part (Err g) f is k told = subst (IsTold whole) (sym is) (told_in whole part f k told)
+told-at : (part whole : Outcome) (e : PlanError) (at : Option (Bor Text × FaultPlace)) → IsPart part whole
+    → MatchOption at (IsOfNoText part.is_within_limits e) (λ x. IsTextFault part.texts e x.0.now x.1)
+    → MatchOption at (IsOfNoText whole.is_within_limits e) (λ x. IsTextFault whole.texts e x.0.now x.1)
+told-at part whole e None p told = λ f is reads. let large = told f is reads in (large.0, p.limits large.1)
+told-at part whole e (Some x) p told = subst (λ texts. IsTextFault texts e x.0.now x.1) (sym p.texts) (fault-among p.front part.texts p.rest e x.0.now x.1 p.read told)
 
-true-of : (part whole : Bool) → (part ≡ false → whole ≡ false) → whole ≡ true → part ≡ true
-true-of true whole h w = refl
-true-of false whole h w = absurd (both_ways whole (h refl) w)
+-- by a `?`
+pub told_on : {A : Type 0} (part whole : Outcome) (r : Result A PlanFault) (f : PlanFault) → IsErrAnd r (λ g. g ≡ f) → IsPart part whole → IsTold part f → IfErr r (IsTold whole)
+told_on part whole (Ok x) f is p told = tt
+told_on part whole (Err g) f is p told = subst (IsTold whole) (sym is) (λ other. told-at part whole f.error f.at p (told other))
 
-pub of_simplified : (o : Outcome) → (simplified_outcome o).is_within_limits ≡ true → o.is_within_limits ≡ true
-of_simplified o w = (and_parts _ _ w).0
+-- the part of a step that has one part
+pub only_part : (part whole : Outcome) → whole.texts ≡ part.texts → (part.is_within_limits ≡ false → whole.is_within_limits ≡ false) → IsPart part whole
+only_part part whole same limits = record { front = []; rest = []; texts = same ∙ sym (append-nil part.texts); read = tt; limits = limits }
 
-pub of_first : (p q : Outcome) → (composition_outcome p q).is_within_limits ≡ true → p.is_within_limits ≡ true
-of_first p q w = (and_parts p.is_within_limits q.is_within_limits (and_parts _ _ w).0).0
+pub simplified_part : (o : Outcome) → IsPart o (simplified_outcome o)
+simplified_part o = only_part o (simplified_outcome o) refl (λ w. and_left _ _ w)
 
-pub of_second : (p q : Outcome) → (composition_outcome p q).is_within_limits ≡ true → q.is_within_limits ≡ true
-of_second p q w = (and_parts p.is_within_limits q.is_within_limits (and_parts _ _ w).0).1
+pub first_part : (p q : Outcome) → IsPart p (composition_outcome p q)
+first_part p q = record { front = []; rest = q.texts; texts = refl; read = tt; limits = λ w. and_left _ _ (and_left _ _ w) }
 
-pub of_remapped : (p : Outcome) (os : List (Text × Outcome)) → (remap_outcome p os).is_within_limits ≡ true → p.is_within_limits ≡ true
-of_remapped p os w = (and_parts p.is_within_limits (are_inputs_within_limits os) (and_parts _ _ w).0).0
+pub second_part : (a : MapRecord) (p q : Outcome) → Realizes a p → IsPart q (composition_outcome p q)
+second_part a p q g = record {
+  front = p.texts;
+  rest = [];
+  texts = ap (λ texts. p.texts ++ texts) (sym (append-nil q.texts));
+  read = g.texts;
+  limits = λ w. and_left _ _ (and_right _ _ w);
+}
 
--- of a part of a join that is at this index
-pub of_part : {A : Type 0} (part_at : A → Plan × Position) (ps : List A) (i : ℕ) (p : A) → i < length ps → p ≡ get_or ps i p
-    → (join_outcome (outcomes (map part_at ps))).is_within_limits ≡ true → (outcome_of (part_at p).0).is_within_limits ≡ true
-of_part part_at ps i p l q w =
+pub remapped_part : (p : Outcome) (os : List (Text × Outcome)) → IsPart p (remap_outcome p os)
+remapped_part p os = record { front = []; rest = input_texts os; texts = refl; read = tt; limits = λ w. and_left _ _ (and_left _ _ w) }
+
+-- the part of a join that is at this index
+pub joined_part : {A : Type 0} (part_at : A → Plan × Position) (ms : List (MapRecord × Position)) (ps : List A) (i : ℕ) (p : A) → i < length ps → p ≡ get_or ps i p
+    → AllRealize ms (outcomes (map part_at (take i ps))) → IsPart (outcome_of (part_at p).0) (join_outcome (outcomes (map part_at ps)))
+joined_part part_at ms ps i p l q h =
     let os = outcomes (map part_at (take i ps)) in
     let rest = outcomes (map part_at (drop (i + 1) ps)) in
     let o = outcome_of (part_at p).0 in
     let cut : outcomes (map part_at ps) ≡ os ++ (o, (part_at p).1) ∷ rest =
     ap outcomes (ap (map part_at) (around ps i p l q) ∙ map-append part_at (take i ps) (p ∷ drop (i + 1) ps))
     ∙ map-append (λ (p : Plan × Position). (outcome_of p.0, p.1)) (map part_at (take i ps)) (part_at p ∷ map part_at (drop (i + 1) ps)) in
-    let all = (and_parts (are_all_within_limits (outcomes (map part_at ps))) _ w).0 in
-    true-of o.is_within_limits (are_all_within_limits (os ++ (o, (part_at p).1) ∷ rest)) (no-room-part os rest o (part_at p).1) (ap are_all_within_limits (sym cut) ∙ all)
+    record {
+      front = texts_of_all os;
+      rest = texts_of_all rest;
+      texts = ap texts_of_all cut ∙ flat_map-append (λ (p : Outcome × Position). p.0.texts) os ((o, (part_at p).1) ∷ rest);
+      read = texts-read ms os h;
+      limits = λ w. and_left _ _ (ap are_all_within_limits cut ∙ no-room-part os rest o (part_at p).1 w);
+    }
 
--- of an input of a remapping
-pub of_input : (first : Outcome) (ps : List (Bor Text × Plan)) (i : ℕ) (p : Bor Text × Plan) → i < length ps → p ≡ get_or ps i p
-    → (remap_outcome first (input_outcomes (by_path ps))).is_within_limits ≡ true → (outcome_of p.1).is_within_limits ≡ true
-of_input first ps i p l q w =
+pub input_part : (first : Outcome) (a : MapRecord) (ms : List (Text × MapRecord)) (ps : List (Bor Text × Plan)) (i : ℕ) (p : Bor Text × Plan) → i < length ps → p ≡ get_or ps i p
+    → Realizes a first → InputsRealize ms (input_outcomes (by_path (take i ps))) → IsPart (outcome_of p.1) (remap_outcome first (input_outcomes (by_path ps)))
+input_part first a ms ps i p l q g h =
     let os = map input_at (take i ps) in
     let rest = map input_at (drop (i + 1) ps) in
     let cut : input_outcomes (by_path ps) ≡ os ++ input_at p ∷ rest =
     outcomes-of ps ∙ ap (map input_at) (around ps i p l q) ∙ map-append input_at (take i ps) (p ∷ drop (i + 1) ps) in
-    let all = (and_parts first.is_within_limits (are_inputs_within_limits (input_outcomes (by_path ps))) (and_parts _ _ w).0).1 in
-    true-of (outcome_of p.1).is_within_limits (are_inputs_within_limits (os ++ input_at p ∷ rest)) (no-room-input os rest (input_at p)) (ap are_inputs_within_limits (sym cut) ∙ all)
+    let read = subst (InputsRealize ms) (outcomes-of (take i ps)) h in
+    record {
+      front = first.texts ++ input_texts os;
+      rest = input_texts rest;
+      texts = ap (λ xs. first.texts ++ input_texts xs) cut
+          ∙ ap (λ xs. first.texts ++ xs) (flat_map-append (λ (p : Text × Outcome). p.1.texts) os (input_at p ∷ rest))
+          ∙ sym (append_assoc first.texts (input_texts os) ((outcome_of p.1).texts ++ input_texts rest));
+      read = all-more IsRead first.texts (input_texts os) g.texts (inputs-read ms os read);
+      limits = λ w. and_left _ _ (and_right _ _ (ap are_inputs_within_limits cut ∙ no-room-input os rest (input_at p) w));
+    }
 
 -- ---- a text that cannot be read
-no-text-none : (x : Bor Text × FaultPlace) (o : Option (Bor Text × FaultPlace)) → o ≡ Some x → o ≡ None → ⊥
-no-text-none x o is none = cc (sym is ∙ none)
+pub text_place : (text : Text) (place : Option FaultPlace) → ((d : Data) → read text ≡ Some d → value_place d ≡ place) → (read text ≡ None → IsSomeAnd place IsReading) → is_some place ≡ true
+    → IsSomeAnd place (IsTextPlace text)
+text_place text None json bad there = absurd (cc (there))
+text_place text (Some p) json bad there = (json, bad)
 
-told-by : (w : Bool) (text : Bor Text) (e : Error) (place : Option FaultPlace) (g : PlanFault) → g.error ≡ Map e → g.at ≡ option_map (λ p. (text, p)) place → read_map text.now ≡ Err e
-    → ((d : Data) → read text.now ≡ Some d → value_place d ≡ place) → (read text.now ≡ None → IsSomeAnd place IsReading) → is_some place ≡ true
-    → TellsText g × (g.at ≡ None → IsOfNoText w g.error)
-told-by w text e None g error at reads json bad there = absurd (cc (there))
-told-by w text e (Some p) g error at reads json bad there = (
-  subst (λ (o : Option (Bor Text × FaultPlace)). IfSome o (λ at. IsTextFault g.error at.0.now at.1)) (sym at) (e, error, reads, (json, bad)),
-  λ none. absurd (no-text-none (text, p) g.at at none),
-)
+told-by : (w : Bool) (text : Bor Text) (e : Error) (place : Option FaultPlace) → read_map text.now ≡ Err e → IsSomeAnd place (IsTextPlace text.now)
+    → MatchOption {T = Bor Text × FaultPlace} (option_map (λ p. (text, p)) place) (IsOfNoText w (Map e)) (λ x. IsTextFault (text.now ∷ []) (Map e) x.0.now x.1)
+told-by w text e None reads there = absurd there
+told-by w text e (Some p) reads there =
+    subst (λ o. IsSomeAnd o (λ u. (u.text ≡ text.now) × (Map e ≡ Map u.error) × IsTextPlace text.now p)) (sym (unread-here 0 text.now [] e reads)) (refl, refl, there)
 
-pub text_told : (w : Bool) (text : Bor Text) (f : Fault) (g : PlanFault) → g.error ≡ Map f.error → g.at ≡ option_map (λ p. (text, p)) f.place
-    → (f.error ≢ OutOfMemory → read_map text.now ≡ Err f.error) → IsPlacedIn text.now f → IsTold w g
-text_told w text f g error at reads placed = λ other.
+pub text_told : (o : Outcome) (text : Bor Text) (f : Fault) (g : PlanFault) → o.texts ≡ text.now ∷ [] → g.error ≡ Map f.error → g.at ≡ option_map (λ p. (text, p)) f.place
+    → (f.error ≢ OutOfMemory → read_map text.now ≡ Err f.error) → IsPlacedIn text.now f → IsTold o g
+text_told o text f g texts error at reads placed = λ other.
     let not : f.error ≢ OutOfMemory = λ memory. other (error ∙ ap (λ e. Map e) memory) in
     let told = placed not in
-    told-by w text f.error f.place g error at (reads not) told.0 told.1 told.2
+    subst (λ x. MatchOption x (IsOfNoText o.is_within_limits g.error) (λ x. IsTextFault o.texts g.error x.0.now x.1)) (sym at)
+    (subst (λ e. MatchOption {T = Bor Text × FaultPlace} (option_map (λ p. (text, p)) f.place) (IsOfNoText o.is_within_limits e) (λ x. IsTextFault o.texts e x.0.now x.1)) (sym error)
+    (subst (λ texts. MatchOption {T = Bor Text × FaultPlace} (option_map (λ p. (text, p)) f.place) (IsOfNoText o.is_within_limits (Map f.error)) (λ x. IsTextFault texts (Map f.error) x.0.now x.1)) (sym texts)
+    (told-by o.is_within_limits text f.error f.place (reads not) (text_place text.now f.place told.0 told.1 told.2))))
 
 -- ---- a step that fails by itself
 -- what is meant is no error that reading can have
 abbrev MeansNoText : Outcome → Type 0
 MeansNoText o = (e : Error) → o.meaning ≡ Err (Map e) → ¬ (IsOfReading e)
 
-no-text : (o : Outcome) (e : PlanError) → FailsAs e o → MeansNoText o → IsTold o.is_within_limits (record { error = e; at = None })
-no-text o e fails means = λ other. (
-  tt,
-  λ none within x is reads. elim fails [
-    | inl memory ↦ other memory
-    | inr told ↦ elim told [
-      | inl meant ↦ means x (meant ∙ ap (λ y. Err y) is) reads
-      | inr large ↦ both_ways o.is_within_limits large.1 within
-    ]
-  ],
-)
+same-error : (e f : Error) → Map e ≡ Map f → e ≡ f
+same-error e f h = cc
+
+no-text : (o : Outcome) (e : PlanError) → FailsAs e o → MeansNoText o → IsTold o (record { error = e; at = None })
+no-text o e fails means = λ other x is reads. elim fails [
+  | inl memory ↦ absurd (other memory)
+  | inr told ↦ elim told [
+    | inl meant ↦ absurd (means x (meant ∙ ap (λ y. Err y) is) reads)
+    | inr large ↦ (same-error x TooLarge (sym is ∙ large.0), large.1)
+  ]
+]
 
 -- the error of a step by a `?`
 pub step_told : {A : Type 0} (o : Outcome) (r : Result A PlanFault) (e : PlanError) → IsErrAnd r (λ g. g ≡ record { error = e; at = None }) → FailsAs e o → MeansNoText o
-    → IfErr r (IsTold o.is_within_limits)
+    → IfErr r (IsTold o)
 step_told o (Ok x) e is fails means = tt
-step_told o (Err g) e is fails means = subst (IsTold o.is_within_limits) (sym is) (no-text o e fails means)
-
--- want of memory
-pub memory_told : {A : Type 0} (w : Bool) (r : Result A PlanFault) → IsErrAnd r (λ g. g ≡ record { error = Map OutOfMemory; at = None }) → IfErr r (IsTold w)
-memory_told w (Ok x) is = tt
-memory_told w (Err g) is = λ other. absurd (other (ap (λ (f : PlanFault). f.error) is))
+step_told o (Err g) e is fails means = subst (IsTold o) (sym is) (no-text o e fails means)
 
 no-err : (d : DecodedMap) (e : Error) → ◌≡◌ {A = Result DecodedMap PlanError} (Ok d) (Err (Map e)) → ⊥
 no-err d e h = cc (h)

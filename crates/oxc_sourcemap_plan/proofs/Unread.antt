@@ -1,7 +1,7 @@
 -- The first text that cannot be read.
 use Rattle.std.proofs.Common.{◌≡◌, ℕ, suc, ◌+◌, List, [], ◌∷◌, refl, ap, ◌∙◌, subst, Option, Some}
 use Rattle.std.proofs.Common.{Ok, Err, slice_get, arith, None, sym, ◌≢◌, is_some, true, option_map}
-use Rattle.std.proofs.Common.{IsSomeAnd, IfSome, drop, length, get_or, ◌<◌, ◌⊎◌, inl, inr}
+use Rattle.std.proofs.Common.{IsSomeAnd, IfSome, drop, length, get_or, ◌<◌, ◌⊎◌, inl, inr, ◌++◌}
 use Rattle.std.proofs.lemmas.List.{drop_more}
 use Rattle.std.specs.Borrow.{Bor}
 use Rattle.oxc_sourcemap_tokens.specs.Results.{lent_items}
@@ -11,11 +11,15 @@ use Rattle.oxc_sourcemap_tokens.specs.declared.errors.error.Error.{Error}
 use Rattle.oxc_sourcemap_tokens.specs.declared.errors.error.Error.TheVariants.{OutOfMemory}
 use Rattle.oxc_sourcemap_tokens.specs.declared.errors.fault.Fault.{Fault}
 use Rattle.oxc_sourcemap_tokens.specs.declared.errors.fault.FaultPlace.{FaultPlace}
+use Rattle.oxc_sourcemap_tokens.specs.declared.errors.plan_error.PlanError.{PlanError}
+use Rattle.oxc_sourcemap_tokens.specs.declared.errors.plan_error.PlanError.TheVariants.{Map}
 use Rattle.oxc_sourcemap_parts.specs.Record.{Text, MapRecord}
 use Rattle.oxc_sourcemap_json.specs.ReadMap.{read_map}
 use Rattle.oxc_sourcemap_json.specs.ValuePlaces.{value_place, IsReading, IsPlacedIn}
 use Rattle.oxc_sourcemap_plan.specs.PlanPlaces.{Unread, unread_or, unread_from, first_unread}
 use Rattle.oxc_sourcemap_plan.specs.PlanPlaces.{IsPlaceOf, IsNumberPlace, with_number}
+use Rattle.oxc_sourcemap_plan.specs.PlanPlaces.{IsTextPlace, IsTextFault}
+use Rattle.oxc_sourcemap_plan.specs.Realizes.{AreRead}
 
 abbrev some : Unread → Option Unread
 some x = Some x
@@ -31,6 +35,35 @@ unread-more k text texts r e = ap (λ x. unread_or k text x (unread_from (k + 1)
 pub unread-here : (k : ℕ) (text : Text) (texts : List Text) (e : Error) → read_map text ≡ Err e
     → unread_from k (text ∷ texts) ≡ Some (record { number = k; text = text; error = e })
 unread-here k text texts e h = ap (λ x. unread_or k text x (unread_from (k + 1) texts)) h
+
+-- past texts that all can
+pub past-read : (xs more : List Text) → AreRead xs → (k : ℕ) → (n : ℕ) × (unread_from k (xs ++ more) ≡ unread_from n more)
+past-read [] more h k = (k, refl)
+past-read (x ∷ xs) more h k = let f = past-read xs more h.1 (k + 1) in (f.0, unread-more k x (xs ++ more) h.0.0 h.0.1 ∙ f.1)
+
+-- the same text is the first in front of others, and counted from another number
+pub with-more : (xs more : List Text) (j k : ℕ) (u : Unread) → unread_from j xs ≡ Some u → (v : Unread) × (unread_from k (xs ++ more) ≡ Some v) × (v.text ≡ u.text) × (v.error ≡ u.error)
+with-more [] more j k u e = cc
+with-more (x ∷ xs) more j k u e =
+    elim (read_map x) as (λ r. unread_or j x r (unread_from (j + 1) xs) ≡ Some u
+    → (v : Unread) × (unread_or k x r (unread_from (k + 1) (xs ++ more)) ≡ Some v) × (v.text ≡ u.text) × (v.error ≡ u.error)) [
+      | Ok m ↦ (λ q. with-more xs more (j + 1) (k + 1) u q)
+      | Err f ↦ (λ q. let is : record { number = j; text = x; error = f } ≡ u = same-some _ u q in
+          (record { number = k; text = x; error = f }, refl, ap (λ (u : Unread). u.text) is, ap (λ (u : Unread). u.error) is))
+    ] e
+
+-- a text at fault is the first that cannot be read behind texts that can, and in front of others
+pub fault-among : (front texts rest : List Text) (error : PlanError) (text : Text) (place : FaultPlace) → AreRead front → IsTextFault texts error text place
+    → IsTextFault (front ++ (texts ++ rest)) error text place
+fault-among front texts rest error text place read h =
+    elim (first_unread texts) as (λ o. first_unread texts ≡ o → IsSomeAnd o (λ u. (u.text ≡ text) × (error ≡ Map u.error) × IsTextPlace text place)
+    → IsTextFault (front ++ (texts ++ rest)) error text place) [
+      | None ↦ (λ is h. absurd h)
+      | Some u ↦ (λ is h.
+          let p = past-read front (texts ++ rest) read 0 in
+          let v = with-more texts rest 0 p.0 u is in
+          subst (λ o. IsSomeAnd o (λ u. (u.text ≡ text) × (error ≡ Map u.error) × IsTextPlace text place)) (sym (p.1 ∙ v.1)) (v.2 ∙ h.0, h.1 ∙ ap (λ e. Map e) (sym v.3), h.2))
+    ] refl h
 
 -- it is the text with its number, and has its error
 pub unread-is : (k : ℕ) (texts : List Text) (u : Unread) → unread_from k texts ≡ Some u

@@ -36,6 +36,8 @@ pub record Outcome : Type 0 where
   pub meaning : Meaning
   -- the map that the steps make, sorted or not and within the limits or not; none if a text has a fault
   pub map_record : Option MapRecord
+  -- the texts of the plan, in the order in which it is evaluated
+  pub texts : List Text
   -- the names of all texts that are read
   pub names : List Text
   -- how many contents the map has at most: as many as the text that is read, as the join, the remapping or the simplified map has
@@ -66,11 +68,12 @@ abbrev pub contents_of_read : Result MapRecord Error → ℕ
 contents_of_read (Err fault) = 0
 contents_of_read (Ok r) = length r.source_contents
 
--- the outcome of a map that is read by itself
+-- the outcome of a map that is read by itself, from a text that is not known
 abbrev pub plain_outcome : Result MapRecord Error → Outcome
 plain_outcome read = record {
   meaning = read_meaning read;
   map_record = record_read read;
+  texts = [];
   names = names_of_read read;
   contents = contents_of_read read;
   is_within_limits = is_part_within_limits (names_of_read read) (read_meaning read);
@@ -92,16 +95,25 @@ abbrev pub sections_outcome : Option Text → Option Error → List (MapRecord �
 sections_outcome file fault maps = record {
   meaning = indexed_meaning file fault (joined_decoded_maps (decoded_maps_of maps));
   map_record = map_of_sections fault (indexed_record file (joined maps));
+  texts = [];
   names = names_of_sections maps;
   contents = length (joined_decoded_maps (decoded_maps_of maps)).sources;
   is_within_limits = is_join_within_limits (names_of_sections maps) (Ok (decoded_maps_of maps));
   is_rewritten = false;
 }
 
+-- the outcome of the form of a text that is read
+abbrev pub form_outcome : ReadForm → Outcome
+form_outcome (plain answer) = plain_outcome answer
+form_outcome (indexed file found) = sections_outcome file found.fault found.maps
+
+-- an outcome of this one text
+abbrev pub of_text : Text → Outcome → Outcome
+of_text text o = record o { texts = text ∷ [] }
+
 -- the outcome of a text that is read
-abbrev pub read_outcome : ReadForm → Outcome
-read_outcome (plain answer) = plain_outcome answer
-read_outcome (indexed file found) = sections_outcome file found.fault found.maps
+abbrev pub read_outcome : Text → Outcome
+read_outcome text = of_text text (form_outcome (form_of_text text))
 
 -- the outcome of a map that is read by itself and sorted
 abbrev pub sorted_plain_outcome : Result MapRecord Error → Outcome
@@ -118,10 +130,14 @@ sorted_sections_outcome file fault maps = record (sections_outcome file fault ma
   map_record = option_map sorted_map (map_of_sections fault (indexed_record file (joined maps)));
 }
 
+-- the outcome of the form of a text that is read and sorted
+abbrev pub sorted_form_outcome : ReadForm → Outcome
+sorted_form_outcome (plain answer) = sorted_plain_outcome answer
+sorted_form_outcome (indexed file found) = sorted_sections_outcome file found.fault found.maps
+
 -- the outcome of a text that is read and sorted
-abbrev pub sorted_outcome : ReadForm → Outcome
-sorted_outcome (plain answer) = sorted_plain_outcome answer
-sorted_outcome (indexed file found) = sorted_sections_outcome file found.fault found.maps
+abbrev pub sorted_outcome : Text → Outcome
+sorted_outcome text = of_text text (sorted_form_outcome (form_of_text text))
 
 -- the outcome of a rewriting, which means what its part means
 abbrev pub rewrite_outcome : Outcome → Outcome
@@ -156,6 +172,10 @@ abbrev pub all_records : List (Outcome × Position) → Option (List (MapRecord 
 all_records [] = Some []
 all_records (p ∷ parts) = option_and_then (λ m. option_map (λ ms. (m, p.1) ∷ ms) (all_records parts)) p.0.map_record
 
+-- the texts of all parts of a join, in order
+abbrev pub texts_of_all : List (Outcome × Position) → List Text
+texts_of_all parts = flat_map (λ p. p.0.texts) parts
+
 -- the names of all parts of a join, in order
 abbrev pub names_of_all : List (Outcome × Position) → List Text
 names_of_all parts = flat_map (λ p. p.0.names) parts
@@ -173,6 +193,7 @@ abbrev pub join_outcome : List (Outcome × Position) → Outcome
 join_outcome parts = record {
   meaning = join_meaning (all_decoded_maps (meanings parts));
   map_record = option_map joined (all_records parts);
+  texts = texts_of_all parts;
   names = names_of_all parts;
   contents = joined_source_count (all_decoded_maps (meanings parts));
   is_within_limits = are_all_within_limits parts && is_join_within_limits (names_of_all parts) (all_decoded_maps (meanings parts));
@@ -183,6 +204,7 @@ abbrev pub composition_outcome : Outcome → Outcome → Outcome
 composition_outcome first second = record {
   meaning = composition_meaning first.meaning second.meaning;
   map_record = option_and_then (λ a. option_map (composed a) second.map_record) first.map_record;
+  texts = first.texts ++ second.texts;
   names = first.names ++ second.names;
   contents = second.contents;
   is_within_limits = (first.is_within_limits && second.is_within_limits)
@@ -198,6 +220,10 @@ input_meanings inputs = map (λ p. (p.0, p.1.meaning)) inputs
 abbrev pub all_input_records : List (Text × Outcome) → Option (List (Text × MapRecord))
 all_input_records [] = Some []
 all_input_records (p ∷ inputs) = option_and_then (λ m. option_map (λ ms. (p.0, m) ∷ ms) (all_input_records inputs)) p.1.map_record
+
+-- the texts of all inputs, in order
+abbrev pub input_texts : List (Text × Outcome) → List Text
+input_texts inputs = flat_map (λ p. p.1.texts) inputs
 
 -- the names of all inputs, in order
 abbrev pub input_names : List (Text × Outcome) → List Text
@@ -215,6 +241,7 @@ abbrev pub remap_outcome : Outcome → List (Text × Outcome) → Outcome
 remap_outcome first inputs = record {
   meaning = remapped_meaning first inputs;
   map_record = option_and_then (λ a. option_map (remapped a) (all_input_records inputs)) first.map_record;
+  texts = first.texts ++ input_texts inputs;
   names = first.names ++ input_names inputs;
   contents = source_count (remapped_meaning first inputs);
   is_within_limits = (first.is_within_limits && are_inputs_within_limits inputs)
@@ -224,8 +251,8 @@ remap_outcome first inputs = record {
 
 -- the cases of a plan, by the outcomes of its parts
 abbrev pub outcome_step : Plan-F Outcome → Outcome
-outcome_step (Plan-F.Read text) = read_outcome (form_of_text text.now)
-outcome_step (Plan-F.ReadSorted text) = sorted_outcome (form_of_text text.now)
+outcome_step (Plan-F.Read text) = read_outcome text.now
+outcome_step (Plan-F.ReadSorted text) = sorted_outcome text.now
 outcome_step (Plan-F.Rewrite part) = rewrite_outcome part.value
 outcome_step (Plan-F.ApplyRoot part) = root_outcome part.value
 outcome_step (Plan-F.Simplify part) = simplified_outcome part.value
@@ -246,13 +273,21 @@ outcomes parts = map (λ p. (outcome_of p.0, p.1)) parts
 abbrev pub input_outcomes : List (Text × Plan) → List (Text × Outcome)
 input_outcomes inputs = map (λ p. (p.0, outcome_of p.1)) inputs
 
--- the outcome of a plan that is too deep, of which nothing is read
-abbrev pub too_deep : Outcome
-too_deep = record { meaning = Err TooDeep; map_record = None; names = []; contents = 0; is_within_limits = true; is_rewritten = false }
+-- the outcome of a plan of these texts that is too deep, so that none of them is read
+abbrev pub too_deep : List Text → Outcome
+too_deep texts = record {
+  meaning = Err TooDeep;
+  map_record = None;
+  texts = texts;
+  names = [];
+  contents = 0;
+  is_within_limits = true;
+  is_rewritten = false;
+}
 
 -- the outcome of a plan, which is at most 64 deep
 abbrev pub outcome : Plan → Outcome
-outcome plan = if nat_le (depth plan) 64 then outcome_of plan else too_deep
+outcome plan = if nat_le (depth plan) 64 then outcome_of plan else too_deep (outcome_of plan).texts
 
 -- whether a plan is within the limits
 abbrev pub is_within_limits : Plan → Bool

@@ -3,7 +3,6 @@ use Rattle.std.specs.Prelude.{ℕ, zero, suc, Bool, true, false, List, [], ◌�
 use Rattle.std.specs.Prelude.{Option, Some, None, Result, Ok, Err, if◌then◌else◌, ◌==◌}
 use Rattle.std.specs.Str.{bytes_eq}
 use Rattle.oxc_sourcemap_parts.specs.Record.{Text}
-use Rattle.oxc_sourcemap_json.specs.ReadMap.{form_of_text}
 use Rattle.oxc_sourcemap_tokens.specs.declared.position.Position.{Position}
 use Rattle.oxc_sourcemap_join.specs.Joined.{position, at_line}
 use Rattle.oxc_sourcemap_tokens.specs.declared.errors.plan_error.PlanError.TheVariants.{TooDeep}
@@ -50,7 +49,7 @@ parsed_text inputs (byte ∷ digits) = if byte == 64 then text_of_number inputs 
 -- the outcome of reading a text
 abbrev pub read_of_text : Result Text RunError → Result Outcome RunError
 read_of_text (Err fault) = Err fault
-read_of_text (Ok text) = Ok (read_outcome (form_of_text text))
+read_of_text (Ok text) = Ok (read_outcome text)
 
 -- an argument `@K`: read text K
 abbrev pub parsed_input : List Text → Text → Result Outcome RunError
@@ -64,7 +63,7 @@ with_rest (Err fault) arguments = Err fault
 -- the outcome of reading and sorting a text
 abbrev pub sorted_of_text : Result Text RunError → Result Outcome RunError
 sorted_of_text (Err fault) = Err fault
-sorted_of_text (Ok text) = Ok (sorted_outcome (form_of_text text))
+sorted_of_text (Ok text) = Ok (sorted_outcome text)
 
 -- `sort @K`, after its first argument
 abbrev pub parsed_sort : List Text → List Text → Parsed Outcome

@@ -1,12 +1,15 @@
 -- Where a plan has its first fault, if that is one of a text.
 use Rattle.std.specs.Prelude.{◌≡◌, ◌≢◌, ℕ, ◌+◌, List, [], ◌∷◌, ◌++◌, Option, Some, None, Result}
-use Rattle.std.specs.Prelude.{Bool, true, Ok, Err, IfSome, IsSomeAnd, ⊤}
+use Rattle.std.specs.Prelude.{Bool, false, Ok, Err, IfSome, IsSomeAnd, MatchOption, position, ⊤}
+use Rattle.std.specs.Option.{option_map, option_and_then}
 use Rattle.std.specs.List.{flat_map}
+use Rattle.std.specs.Str.{bytes_eq}
 use Rattle.serde_json.specs.Data.{Data}
 use Rattle.serde_json.specs.Read.{read}
 use Rattle.oxc_sourcemap_tokens.specs.declared.errors.error.Error.{Error}
 use Rattle.oxc_sourcemap_tokens.specs.declared.errors.error.Error.TheVariants.{SeveralSources}
 use Rattle.oxc_sourcemap_tokens.specs.declared.errors.error.Error.TheVariants.{OutOfMemory}
+use Rattle.oxc_sourcemap_tokens.specs.declared.errors.error.Error.TheVariants.{TooLarge}
 use Rattle.oxc_sourcemap_tokens.specs.declared.errors.plan_error.PlanError.{PlanError}
 use Rattle.oxc_sourcemap_tokens.specs.declared.errors.plan_error.PlanError.TheVariants.{Map}
 use Rattle.oxc_sourcemap_parts.specs.Record.{Text, MapRecord}
@@ -14,6 +17,7 @@ use Rattle.oxc_sourcemap_json.specs.ReadMap.{read_map}
 use Rattle.oxc_sourcemap_tokens.specs.declared.errors.fault.FaultPlace.{FaultPlace}
 use Rattle.oxc_sourcemap_json.specs.ValuePlaces.{value_place, IsReading}
 use Rattle.oxc_sourcemap_plan.specs.declared.fault.PlanFault.{PlanFault}
+use Rattle.oxc_sourcemap_plan.specs.Outcome.{Outcome}
 use Rattle.oxc_sourcemap_plan.specs.declared.plan.Plan.{Plan}
 use Rattle.oxc_sourcemap_plan.specs.declared.plan.Plan.TheOpen.{Plan-F}
 use Rattle.oxc_sourcemap_plan.specs.declared.plan.Plan.TheFolds.{fold-Plan}
@@ -82,19 +86,37 @@ IsOfReading (SeveralSources n) = ⊥
 IsOfReading e = ⊤
 
 -- ---- the fault of an evaluation
--- this text cannot be read, which is the error, and has its first fault at this place
-abbrev pub IsTextFault : PlanError → Text → FaultPlace → Type 0
-IsTextFault error text place = (e : Error) × (error ≡ Map e) × (read_map text ≡ Err e) × IsTextPlace text place
-
--- the text that a fault tells, if it tells one, has it
-abbrev pub TellsText : PlanFault → Type 0
-TellsText f = IfSome f.at (λ at. IsTextFault f.error at.0.now at.1)
-
--- an error that comes from no text: none that reading can have, unless a part passes a limit
+-- An error that comes from no text: none that reading can have, but for `TooLarge` of a part that passes a limit.
 abbrev pub IsOfNoText : Bool → PlanError → Type 0
-IsOfNoText is_within_limits error = is_within_limits ≡ true → (e : Error) → error ≡ Map e → ¬ (IsOfReading e)
+IsOfNoText is_within_limits error = (e : Error) → error ≡ Map e → IsOfReading e → (e ≡ TooLarge) × (is_within_limits ≡ false)
 
--- A fault, unless it is want of memory, tells a text that cannot be read and has this error, or it comes from no text.
-abbrev pub IsTold : Bool → PlanFault → Type 0
-IsTold is_within_limits f =
-    (f.error ≢ Map OutOfMemory) → TellsText f × (f.at ≡ None → IsOfNoText is_within_limits f.error)
+-- The text is the first of these that cannot be read, which is the error, and its first fault is at this place.
+abbrev pub IsTextFault : List Text → PlanError → Text → FaultPlace → Type 0
+IsTextFault texts error text place = IsSomeAnd (first_unread texts) (λ u. (u.text ≡ text) × (error ≡ Map u.error) × IsTextPlace text place)
+
+-- A fault of a plan with this outcome, unless it is want of memory, tells the first of its texts that cannot be read, or it comes
+-- from no text.
+abbrev pub IsTold : Outcome → PlanFault → Type 0
+IsTold o f = (f.error ≢ Map OutOfMemory) → MatchOption f.at (IsOfNoText o.is_within_limits f.error) (λ at. IsTextFault o.texts f.error at.0.now at.1)
+
+-- ---- the place in an input
+-- the number of the first of these inputs that is this text
+abbrev pub input_number : List Text → Text → Option ℕ
+input_number inputs text = position (bytes_eq text) inputs
+
+-- a place in a text, with the number that the text has in these inputs
+abbrev pub numbered_in : List Text → Text → FaultPlace → Option FaultPlace
+numbered_in inputs text place = option_map (λ k. with_number k place) (input_number inputs text)
+
+-- the place of a fault of a plan in these inputs, with the number of its text
+abbrev pub fault_place_in : List Text → PlanFault → Option FaultPlace
+fault_place_in inputs f = option_and_then (λ at. numbered_in inputs at.0.now at.1) f.at
+
+-- the place in these inputs of an error of a plan of these texts: that of the first text that cannot be read
+abbrev pub IsInputPlace : List Text → List Text → PlanError → FaultPlace → Type 0
+IsInputPlace inputs texts error place =
+    (text : Text) × (p : FaultPlace) × IsTextFault texts error text p × (numbered_in inputs text p ≡ Some place)
+
+-- the place, or none, of an error of a plan with this outcome over these inputs
+abbrev pub IsOutcomePlace : List Text → Outcome → PlanError → Option FaultPlace → Type 0
+IsOutcomePlace inputs o error place = MatchOption place (IsOfNoText o.is_within_limits error) (IsInputPlace inputs o.texts error)

@@ -1,12 +1,13 @@
 -- The results of the private steps of an evaluation, by the outcomes of parts. No public contract cites this.
 use Rattle.std.specs.Prelude.{◌≡◌, ◌≤◌, true, List, length, Ok, Some, None, ◌⊎◌}
-use Rattle.std.specs.List.{AllZip}
+use Rattle.std.specs.List.{AllByRecursion, AllZip}
 use Rattle.oxc_sourcemap_tokens.specs.declared.errors.error.Error.TheVariants.{OutOfMemory}
 use Rattle.oxc_sourcemap_tokens.specs.Token.{AreInBounds}
 use Rattle.oxc_sourcemap_parts.specs.Record.{Text, MapRecord}
 use Rattle.oxc_sourcemap_parts.specs.Views.{record_of_parts}
 use Rattle.oxc_sourcemap_parts.specs.declared.parts.SourceMapParts.{SourceMapParts}
 use Rattle.oxc_sourcemap_parts.specs.DecodedMap.{DecodedMap}
+use Rattle.oxc_sourcemap_json.specs.ReadMap.{read_map}
 use Rattle.oxc_sourcemap_laws.specs.MapLaws.{rewritten}
 use Rattle.oxc_sourcemap_tokens.specs.declared.position.Position.{Position}
 use Rattle.oxc_sourcemap_laws.specs.JoinLaws.{StandsFor}
@@ -14,6 +15,13 @@ use Rattle.oxc_sourcemap_tokens.specs.declared.errors.plan_error.PlanError.{Plan
 use Rattle.oxc_sourcemap_tokens.specs.declared.errors.plan_error.PlanError.TheVariants.{Map}
 use Rattle.oxc_sourcemap_plan.specs.Outcome.{Outcome}
 use Rattle.oxc_sourcemap_plan.specs.Evaluated.{are_among, IsErrorOf}
+
+-- a text that can be read, and texts that all can
+abbrev pub IsRead : Text → Type 0
+IsRead text = (r : MapRecord) × (read_map text ≡ Ok r)
+
+abbrev pub AreRead : List Text → Type 0
+AreRead texts = AllByRecursion IsRead texts
 
 -- A map realizes an outcome, seen from inside the evaluation: it stands for the decoded map that is meant, with no more tokens
 -- and names than the outcome counts.
@@ -23,6 +31,7 @@ pub record Realizes (m : MapRecord) (o : Outcome) : Type 0 where
   pub stands : StandsFor m decoded_map
   pub in_bounds : AreInBounds m.tokens
   pub map_record : o.map_record ≡ Some m
+  pub texts : AreRead o.texts
   pub tokens : length m.tokens ≤ length decoded_map.mappings
   pub names : length m.names ≤ length o.names
   pub contents : length m.source_contents ≤ o.contents

@@ -1,5 +1,4 @@
 -- The words of this crate's clauses, from one place.
-pub use Rattle.oxc_sourcemap_json.specs.ReadMap.{form_of_text}
 pub use Rattle.oxc_sourcemap_join.specs.Joined.{at_lines, at_positions, owned_records}
 pub use Rattle.oxc_sourcemap_parts.specs.Record.{Text}
 pub use Rattle.oxc_sourcemap_steps.specs.Sorting.{sorted_map}
@@ -13,7 +12,7 @@ pub use Rattle.oxc_sourcemap_tokens.specs.declared.errors.plan_error.PlanError.T
 pub use Rattle.oxc_sourcemap_tokens.specs.declared.errors.plan_error.PlanError.TheVariants.{Unsorted}
 pub use Rattle.oxc_sourcemap_tokens.specs.declared.position.Position.{Position}
 pub use Rattle.oxc_sourcemap_plan.specs.Depth.{depth, deepest}
-pub use Rattle.oxc_sourcemap_plan.specs.Evaluated.{IsEvaluated, HasOutcome, IsErrorOf}
+pub use Rattle.oxc_sourcemap_plan.specs.Evaluated.{IsEvaluated, HasOutcome, IsErrorOf, are_among}
 pub use Rattle.oxc_sourcemap_plan.specs.Meaning.{meaning, by_path}
 pub use Rattle.oxc_sourcemap_plan.specs.Numbers.{number_of}
 pub use Rattle.oxc_sourcemap_plan.specs.Outcome.{Outcome, read_outcome, rewrite_outcome}
@@ -28,7 +27,8 @@ pub use Rattle.oxc_sourcemap_plan.specs.PlanArguments.{parsed_remapping, parsed_
 pub use Rattle.oxc_sourcemap_plan.specs.PlanArguments.{parsed_plan}
 pub use Rattle.oxc_sourcemap_plan.specs.PlanInputs.{inputs_of}
 pub use Rattle.oxc_sourcemap_plan.specs.PlanPlaces.{texts_of, IsPlaceOf, IsPlanPlace, IsOfReading}
-pub use Rattle.oxc_sourcemap_plan.specs.PlanPlaces.{IsTold, with_number}
+pub use Rattle.oxc_sourcemap_plan.specs.PlanPlaces.{IsTold, with_number, input_number}
+pub use Rattle.oxc_sourcemap_plan.specs.PlanPlaces.{fault_place_in}
 pub use Rattle.oxc_sourcemap_plan.specs.Realizes.{PartsRealize, FailsAs, AllRealize, InputsRealize}
 pub use Rattle.oxc_sourcemap_plan.specs.RunErrors.{out_of_memory, run_error_text, status_of}
 pub use Rattle.oxc_sourcemap_plan.specs.declared.run_error.RunError.TheVariants.{Plan}

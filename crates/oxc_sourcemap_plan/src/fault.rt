@@ -1,6 +1,7 @@
 //! Errors of plans, with the texts that they come from.
 ghost use Rattle.std.specs.Prelude.{◌≡◌, None, option_map};
-ghost use Rattle.oxc_sourcemap_plan.specs.Words.{Map, OutOfMemory};
+ghost use Rattle.oxc_sourcemap_plan.specs.Words.{Map, OutOfMemory, input_number, fault_place_in};
+ghost use Rattle.oxc_sourcemap_plan.specs.Words.{lent_items};
 
 use oxc_sourcemap_tokens::{Error, Fault, FaultPlace, PlanError};
 use std::alloc::{AllocError, AllocFailed};
@@ -9,11 +10,32 @@ use std::alloc::{AllocError, AllocFailed};
 #[derive(Clone, Copy)]
 pub struct PlanFault<'t> {
     pub error: PlanError,
-    /// The text that cannot be read, and where its fault is. None if the error comes from no text, and for want of memory.
+    /// The first text that cannot be read, and where its fault is. None if the error comes from no text.
     pub at: Option<(&'t str, FaultPlace)>,
 }
 
+/// The number of the first of these inputs that is this text.
+fn input_number(inputs: &[&str], text: &str) -> Option<usize>
+    ensures { result ≡ input_number (lent_items inputs.now) text.now }
+{
+    for k in 0..inputs.len() {
+        if inputs[k] == text {
+            return Some(k);
+        }
+    }
+    None
+}
+
 impl<'t> PlanFault<'t> {
+    /// The place of the fault, with the number of the first of these inputs that is the text at fault. None if the error comes from
+    /// no text, or from one that is none of these.
+    pub fn place_in(&self, inputs: &[&str]) -> Option<FaultPlace>
+        ensures { result ≡ fault_place_in (lent_items inputs.now) self.now }
+    {
+        let (text, place) = self.at?;
+        Some(place.in_text(input_number(inputs, text)?))
+    }
+
     /// The fault of a text.
     pub(crate) fn of_text(text: &'t str, fault: Fault) -> Self
         ensures error { result.error ≡ Map fault.error }

@@ -10,9 +10,9 @@ ghost use Rattle.oxc_sourcemap_plan.specs.Words.{at_lines, at_positions, meaning
 ghost use Rattle.oxc_sourcemap_plan.specs.Words.{is_within_limits, InputsRealize};
 ghost use Rattle.oxc_sourcemap_plan.specs.Words.{owned_input_records, IsEvaluated, HasOutcome};
 ghost use Rattle.oxc_sourcemap_plan.specs.Words.{IsErrorOf, PartsRealize, FailsAs, AllRealize};
-ghost use Rattle.oxc_sourcemap_plan.specs.Words.{OutOfMemory, form_of_text, are_tokens_sorted, Map};
+ghost use Rattle.oxc_sourcemap_plan.specs.Words.{OutOfMemory, are_tokens_sorted, Map};
 ghost use Rattle.oxc_sourcemap_plan.specs.Words.{Unsorted, record_of_parts, owned_records, IsTold};
-ghost use Rattle.oxc_sourcemap_plan.specs.Words.{sorted_map};
+ghost use Rattle.oxc_sourcemap_plan.specs.Words.{sorted_map, texts_of};
 
 use crate::fault::PlanFault;
 use oxc_sourcemap_join::join_owned_parts;
@@ -134,9 +134,9 @@ fn sort(alloc: Global, map: SourceMapParts<'static>) -> Memory<SourceMapParts<'s
 /// The map of a JSON text, if it is sorted.
 #[inline(never)]
 fn read<'t>(alloc: Global, text: &'t str) -> Result<SourceMapParts<'static>, PlanFault<'t>>
-    ensures map { IfOk result (λ map. PartsRealize map (read_outcome (form_of_text text.now))) }
-    ensures error { IfErr result (λ f. FailsAs f.error (read_outcome (form_of_text text.now))) }
-    ensures told { IfErr result (IsTold (read_outcome (form_of_text text.now)).is_within_limits) }
+    ensures map { IfOk result (λ map. PartsRealize map (read_outcome text.now)) }
+    ensures error { IfErr result (λ f. FailsAs f.error (read_outcome text.now)) }
+    ensures told { IfErr result (IsTold (read_outcome text.now)) }
 {
     canonical_unique();
     dropping_harmless();
@@ -149,9 +149,9 @@ fn read<'t>(alloc: Global, text: &'t str) -> Result<SourceMapParts<'static>, Pla
 /// The map of a JSON text, sorted.
 #[inline(never)]
 fn read_sorted<'t>(alloc: Global, text: &'t str) -> Result<SourceMapParts<'static>, PlanFault<'t>>
-    ensures map { IfOk result (λ map. PartsRealize map (sorted_outcome (form_of_text text.now))) }
-    ensures error { IfErr result (λ f. FailsAs f.error (sorted_outcome (form_of_text text.now))) }
-    ensures told { IfErr result (IsTold (sorted_outcome (form_of_text text.now)).is_within_limits) }
+    ensures map { IfOk result (λ map. PartsRealize map (sorted_outcome text.now)) }
+    ensures error { IfErr result (λ f. FailsAs f.error (sorted_outcome text.now)) }
+    ensures told { IfErr result (IsTold (sorted_outcome text.now)) }
 {
     dropping_harmless();
     match read_parts_from_string(alloc, text) {
@@ -270,7 +270,7 @@ fn evaluate_part<'t>(
 ) -> Result<SourceMapParts<'static>, PlanFault<'t>>
     ensures map { IfOk result (λ map. PartsRealize map (outcome_of plan.now)) }
     ensures error { IfErr result (λ f. FailsAs f.error (outcome_of plan.now)) }
-    ensures told { IfErr result (IsTold (outcome_of plan.now).is_within_limits) }
+    ensures told { IfErr result (IsTold (outcome_of plan.now)) }
 {
     match plan {
         Plan::Read(text) => read(alloc, text),
@@ -294,7 +294,7 @@ fn evaluate_rewrite<'t>(
 ) -> Result<SourceMapParts<'static>, PlanFault<'t>>
     ensures map { IfOk result (λ map. PartsRealize map (rewrite_outcome (outcome_of part.now))) }
     ensures error { IfErr result (λ f. FailsAs f.error (rewrite_outcome (outcome_of part.now))) }
-    ensures told { IfErr result (IsTold (rewrite_outcome (outcome_of part.now)).is_within_limits) }
+    ensures told { IfErr result (IsTold (rewrite_outcome (outcome_of part.now))) }
 {
     let map = evaluate_part(alloc, part)?;
     Ok(rewrite(alloc, map)?)
@@ -309,7 +309,7 @@ fn evaluate_root<'t>(
 ) -> Result<SourceMapParts<'static>, PlanFault<'t>>
     ensures map { IfOk result (λ map. PartsRealize map (root_outcome (outcome_of part.now))) }
     ensures error { IfErr result (λ f. FailsAs f.error (root_outcome (outcome_of part.now))) }
-    ensures told { IfErr result (IsTold (root_outcome (outcome_of part.now)).is_within_limits) }
+    ensures told { IfErr result (IsTold (root_outcome (outcome_of part.now))) }
 {
     let map = evaluate_part(alloc, part)?;
     Ok(put_root(alloc, map)?)
@@ -325,8 +325,7 @@ fn evaluate_simplification<'t>(
     ensures map { IfOk result (λ map. PartsRealize map
         (simplified_outcome (outcome_of part.now))) }
     ensures error { IfErr result (λ f. FailsAs f.error (simplified_outcome (outcome_of part.now))) }
-    ensures told { IfErr result (IsTold
-        (simplified_outcome (outcome_of part.now)).is_within_limits) }
+    ensures told { IfErr result (IsTold (simplified_outcome (outcome_of part.now))) }
 {
     let map = evaluate_part(alloc, part)?;
     Ok(simplify(alloc, map)?)
@@ -343,8 +342,7 @@ fn evaluate_join<'t>(
         (join_outcome (outcomes (at_lines parts.now)))) }
     ensures error { IfErr result (λ f. FailsAs f.error
         (join_outcome (outcomes (at_lines parts.now)))) }
-    ensures told { IfErr result (IsTold
-        (join_outcome (outcomes (at_lines parts.now))).is_within_limits) }
+    ensures told { IfErr result (IsTold (join_outcome (outcomes (at_lines parts.now)))) }
 {
     let mut maps = Vec::new(alloc);
     for (part, line) in parts {
@@ -369,8 +367,7 @@ fn evaluate_join_at<'t>(
         (join_outcome (outcomes (at_positions parts.now)))) }
     ensures error { IfErr result (λ f. FailsAs f.error
         (join_outcome (outcomes (at_positions parts.now)))) }
-    ensures told { IfErr result (IsTold
-        (join_outcome (outcomes (at_positions parts.now))).is_within_limits) }
+    ensures told { IfErr result (IsTold (join_outcome (outcomes (at_positions parts.now)))) }
 {
     let mut maps = Vec::new(alloc);
     for (part, line, column) in parts {
@@ -397,7 +394,7 @@ fn evaluate_composition<'t>(
     ensures error { IfErr result (λ f. FailsAs f.error
         (composition_outcome (outcome_of first.now) (outcome_of second.now))) }
     ensures told { IfErr result (IsTold
-        (composition_outcome (outcome_of first.now) (outcome_of second.now)).is_within_limits) }
+        (composition_outcome (outcome_of first.now) (outcome_of second.now))) }
 {
     let first = evaluate_part(alloc, first)?;
     let second = evaluate_part(alloc, second)?;
@@ -416,9 +413,8 @@ fn evaluate_remapping<'t>(
         (remap_outcome (outcome_of first.now) (input_outcomes (by_path inputs.now)))) }
     ensures error { IfErr result (λ f. FailsAs f.error
         (remap_outcome (outcome_of first.now) (input_outcomes (by_path inputs.now)))) }
-    ensures told { IfErr result (IsTold
-        (remap_outcome (outcome_of first.now)
-        (input_outcomes (by_path inputs.now))).is_within_limits) }
+    ensures told { IfErr result (IsTold (remap_outcome (outcome_of first.now)
+        (input_outcomes (by_path inputs.now)))) }
 {
     let map = evaluate_part(alloc, first)?;
     let mut maps = Vec::new(alloc);
@@ -429,7 +425,7 @@ fn evaluate_remapping<'t>(
     Ok(remap(alloc, map, maps)?)
 }
 
-/// Evaluates a plan, as parts, and tells the text that cannot be read, if the error is that of one. `evaluate` of the crate
+/// Evaluates a plan, as parts, and tells the first text that cannot be read, if the error is that of one. `evaluate` of the crate
 /// `oxc_sourcemap` makes a map of these parts, and has the rules.
 pub fn evaluate_where<'t>(
     alloc: Global,
@@ -438,9 +434,10 @@ pub fn evaluate_where<'t>(
     ensures map { IfOk result (λ map. IsEvaluated (record_of_parts map) (meaning plan.now)) }
     ensures error { IfErr result (λ f. (f.error ≡ Map OutOfMemory)
         ⊎ IsErrorOf (meaning plan.now) (is_within_limits plan.now) f.error) }
-    ensures told { IfErr result (IsTold (is_within_limits plan.now)) }
+    ensures told { IfErr result (IsTold (outcome plan.now)) }
     ensures outcome { IfOk result (λ map. HasOutcome (record_of_parts map) (outcome plan.now)) }
     ensures same_meaning { (outcome plan.now).meaning ≡ meaning plan.now }
+    ensures same_texts { (outcome plan.now).texts ≡ texts_of plan.now }
 {
     dropping_harmless();
     canonical_unique();

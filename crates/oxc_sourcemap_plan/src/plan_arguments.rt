@@ -1,14 +1,14 @@
 //! Plans as arguments, and the texts in an input.
 ghost use Rattle.std.specs.Prelude.{◌≡◌, ◌≢◌, ◌≤◌, ◌<◌, ◌+◌, ◌∷◌, [], false, length, map};
 ghost use Rattle.std.specs.Prelude.{string_bytes, Ok, Err, slice_get, MatchOption, IfOk, IfErr};
-ghost use Rattle.std.specs.Prelude.{IfSome};
+ghost use Rattle.std.specs.Prelude.{IfSome, true};
 ghost use Rattle.oxc_sourcemap_plan.specs.Words.{out_of_memory, depth, deepest, outcome_of};
 ghost use Rattle.oxc_sourcemap_plan.specs.Words.{outcome, inputs_of, parsed_number, by_path};
 ghost use Rattle.oxc_sourcemap_plan.specs.Words.{input_outcomes, parsed_beginning, parsed_input};
 ghost use Rattle.oxc_sourcemap_plan.specs.Words.{parsed_join, parsed_path, parsed_list};
 ghost use Rattle.oxc_sourcemap_plan.specs.Words.{parsed_input_part, parsed_remapping, parsed_part};
 ghost use Rattle.oxc_sourcemap_plan.specs.Words.{parsed_plan, Gives, lent_items, lent_item};
-ghost use Rattle.oxc_sourcemap_plan.specs.Words.{parsed_text, parsed_sort};
+ghost use Rattle.oxc_sourcemap_plan.specs.Words.{parsed_text, parsed_sort, are_among};
 
 use crate::numbers::read_number;
 use crate::plan::Plan;
@@ -295,6 +295,8 @@ pub fn read_plan<'t>(
 ) -> Result<Plan<'t>, RunError>
     ensures plan { IfOk result (λ plan. parsed_plan (lent_items inputs.now)
         (map string_bytes arguments.now) ≡ Ok (outcome plan)) }
+    ensures texts { IfOk result (λ plan.
+        are_among (lent_items inputs.now) (outcome plan).texts ≡ true) }
     ensures error { IfErr result (λ e. (e ≢ out_of_memory)
         → parsed_plan (lent_items inputs.now) (map string_bytes arguments.now) ≡ Err e) }
 {

@@ -23,8 +23,8 @@ pub use Rattle.smap_run.specs.Flags.{read_flag, write_flag}
 pub use Rattle.smap_run.specs.Request.{request_of}
 pub use Rattle.smap_run.specs.Traced.{number_part, name_part, original_text, trace_text, traced_of}
 pub use Rattle.smap_run.specs.Traced.{traced}
-pub use Rattle.smap_run.specs.ErrorPlaces.{IsMappingsPlace, IsInputPlace, IsPlaceFor, IsPlaceIn}
-pub use Rattle.smap_run.specs.ErrorPlaces.{IsPlacedBy}
-pub use Rattle.oxc_sourcemap_plan.specs.PlanPlaces.{IsTextPlace, TellsText}
+pub use Rattle.smap_run.specs.ErrorPlaces.{IsReadPlace, IsPlanPlaceIn, IsPlaceIn, IsPlacedBy}
+pub use Rattle.oxc_sourcemap_mappings.specs.SegmentPlaces.{mappings_place}
+pub use Rattle.oxc_sourcemap_plan.specs.PlanPlaces.{fault_place_in}
 pub use Rattle.oxc_sourcemap_plan.specs.declared.run_error.RunError.TheVariants.{Plan}
 pub use Rattle.oxc_sourcemap_tokens.specs.declared.errors.error.Error.{Error}

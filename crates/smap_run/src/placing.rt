@@ -1,8 +1,8 @@
 //! Running a command that tells where its input has a fault, and what is really wrong there.
-ghost use Rattle.std.specs.Prelude.{◌≡◌, ◌≢◌, ◌++◌, ◌∷◌, [], ℕ, List, IfSome, IfErr, OnOk};
+ghost use Rattle.std.specs.Prelude.{◌≡◌, ◌≢◌, ◌++◌, ◌∷◌, [], ℕ, List, IfErr, OnOk};
 ghost use Rattle.std.specs.Prelude.{IsUtf8, true, false};
 ghost use Rattle.std.specs.Io.KnownBytes.{Appends, Keeps};
-ghost use Rattle.smap_run.specs.Words.{request_of, out_of_memory, IsPlaceFor};
+ghost use Rattle.smap_run.specs.Words.{request_of, out_of_memory, IsPlaceIn};
 ghost use Rattle.smap_run.specs.Words.{IsInput, IsAnswer, FailsWith};
 
 use crate::arguments::Command;
@@ -56,9 +56,10 @@ fn place_reason(
     }
 }
 
-/// Runs a command as `run` does, and tells where the input has the fault if that fails, and what is really wrong there. Of a plan it is
-/// a place in a text, whose number is the K of `@K`: that of the first text of the input with these bytes. There is no place if the error
-/// comes from no text, and for want of memory. The input is kept to the end, so that the memory for it is taken twice.
+/// Runs a command as `run` does, and tells where the input has the fault if that fails, and what is really wrong there. There is a
+/// place exactly if the error is that of reading a text, unless it is `TooLarge` of a plan that passes a limit. Of a plan it is in the
+/// first of its texts that cannot be read, whose number is the K of `@K`: that of the first text of the input with these bytes. The
+/// input is kept to the end, so that the memory for it is taken twice.
 pub fn run_where<R: Read, W: Write>(
     alloc: Global,
     command: &Command<'_>,
@@ -73,7 +74,7 @@ pub fn run_where<R: Read, W: Write>(
         → (f.error ≢ RunError.Write) → (input : List ℕ)
         × IsInput (R.remaining reader.old.inner) input
         × FailsWith (request_of command.now) input f.error
-        × IfSome f.place (IsPlaceFor (request_of command.now) input f.error)) }
+        × IsPlaceIn (request_of command.now) input f.error f.place) }
     ensures nothing_written { IfErr result (λ f. (f.error ≢ RunError.Write)
         → Keeps (W.contents writer.old.inner) (W.contents writer.new.inner)) }
     ensures write { writer.old.failed ≡ false → IfErr result (λ f. f.error ≡ RunError.Write

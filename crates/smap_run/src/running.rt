@@ -1,16 +1,16 @@
 //! Running a command over a reader and a writer.
 ghost use Rattle.std.specs.Prelude.{◌≡◌, ◌≢◌, ◌≤◌, ◌<◌, ◌++◌, ◌∷◌, [], ℕ, take, true, false, ◌↔◌};
-ghost use Rattle.std.specs.Prelude.{IfOk, OnOk, OnErr, IfErr, IfSome, List, None, Some, Ok, Err};
-ghost use Rattle.std.specs.Prelude.{◌⊎◌, IsErrOf, IsUtf8, string_bytes, map, slice_get};
+ghost use Rattle.std.specs.Prelude.{IfOk, OnOk, OnErr, IfErr, IfSome, List, None, Ok, Err};
+ghost use Rattle.std.specs.Prelude.{◌⊎◌, IsErrOf, IsUtf8, string_bytes, map};
 ghost use Rattle.std.specs.Vec.{vec_len};
 ghost use Rattle.std.specs.Io.KnownBytes.{Appends, Keeps};
-ghost use Rattle.smap_run.specs.Words.{out_of_memory, without_line_feed, OutOfMemory, Map, Error};
+ghost use Rattle.smap_run.specs.Words.{out_of_memory, without_line_feed};
 ghost use Rattle.smap_run.specs.Words.{mappings_answer, normalised, normalised_url, IsPlanAnswer};
 ghost use Rattle.smap_run.specs.Words.{IsPlanError, IsAnswer, FailsWith, AppendsBeginning};
 ghost use Rattle.smap_run.specs.Words.{reading, inputs_of, IsInput, of_map, of_plan, traced};
 ghost use Rattle.smap_run.specs.Words.{parsed_plan, request_of, Answers, map_text, lent_items};
-ghost use Rattle.smap_run.specs.Words.{record_of_parts, IsPlacedBy, IsMappingsPlace, IsTextPlace};
-ghost use Rattle.smap_run.specs.Words.{IsInputPlace, IsPlaceIn, TellsText, Plan};
+ghost use Rattle.smap_run.specs.Words.{record_of_parts, IsPlacedBy, IsReadPlace, IsPlanPlaceIn};
+ghost use Rattle.smap_run.specs.Words.{IsPlaceIn, mappings_place, fault_place_in, Plan};
 
 use crate::arguments::Command;
 use crate::failure::Failure;
@@ -21,7 +21,7 @@ use oxc_sourcemap_laws::canonical_unique;
 use oxc_sourcemap_mappings::{encode_mappings, read_mappings};
 use oxc_sourcemap_parts::SourceMapParts;
 use oxc_sourcemap_plan::{PlanFault, RunError, evaluate_where, inputs_of, read_plan};
-use oxc_sourcemap_tokens::{Error, FaultPlace};
+use oxc_sourcemap_tokens::Error;
 use std::alloc::{AllocError, Global};
 use std::io::{Read, Write};
 
@@ -98,7 +98,8 @@ fn rewrite_mappings(alloc: Global, text: &str, names: u32, sources: u32) -> Resu
         ≡ Ok (string_bytes out)) }
     ensures error { IfErr result (λ f. (f.error ≢ out_of_memory)
         → mappings_answer (reading text.now names sources) ≡ Err f.error) }
-    ensures place { IfErr result (IsPlacedBy (λ _. IsMappingsPlace text.now names sources)) }
+    ensures place { IfErr result (IsPlacedBy (λ _ place.
+        place ≡ mappings_place text.now names sources)) }
 {
     let tokens = read_mappings(alloc, text, names as usize, sources as usize)?;
     let mut out = String::new(alloc);
@@ -120,7 +121,7 @@ fn normalise(alloc: Global, text: String) -> Result<String, Failure>
     ensures text { IfOk result (λ out. normalised (string_bytes text) ≡ Ok (string_bytes out)) }
     ensures error { IfErr result (λ f. (f.error ≢ out_of_memory)
         → of_map (normalised (string_bytes text)) ≡ Err f.error) }
-    ensures place { IfErr result (IsPlacedBy (λ _. IsTextPlace (string_bytes text))) }
+    ensures place { IfErr result (IsPlacedBy (λ _. IsReadPlace (string_bytes text))) }
 {
     let map = read_parts_from_string(alloc, text.as_str())?;
     Ok(write_over(text, &map)?)
@@ -131,7 +132,7 @@ fn data_url(alloc: Global, text: &str) -> Result<String, Failure>
     ensures text { IfOk result (λ out. normalised_url text.now ≡ Ok (string_bytes out)) }
     ensures error { IfErr result (λ f. (f.error ≢ out_of_memory)
         → of_map (normalised_url text.now) ≡ Err f.error) }
-    ensures place { IfErr result (IsPlacedBy (λ _. IsTextPlace text.now)) }
+    ensures place { IfErr result (IsPlacedBy (λ _. IsReadPlace text.now)) }
 {
     let map = read_parts_from_string(alloc, text)?;
     Ok(encode_parts_to_data_url(alloc, &map)?)
@@ -142,42 +143,20 @@ fn trace_text(alloc: Global, text: &str, line: u32, col: u32) -> Result<String, 
     ensures text { IfOk result (λ out. traced text.now line col ≡ Ok (string_bytes out)) }
     ensures error { IfErr result (λ f. (f.error ≢ out_of_memory)
         → of_plan (traced text.now line col) ≡ Err f.error) }
-    ensures place { IfErr result (IsPlacedBy (λ _. IsTextPlace text.now)) }
+    ensures place { IfErr result (IsPlacedBy (λ _. IsReadPlace text.now)) }
 {
     let map = read_parts_from_string(alloc, text)?;
     Ok(trace_in(alloc, &map, line, col)?)
 }
 
-/// The number of the first input with this text.
-fn input_number(inputs: &[&str], text: &str) -> Option<usize>
-    ensures { IfSome result (λ k. slice_get (lent_items inputs.now) k ≡ Some text.now) }
-{
-    for k in 0..inputs.len() {
-        if inputs[k] == text {
-            return Some(k);
-        }
-    }
-    None
-}
-
-/// The place in an input of the fault of a plan. None if it comes from no text.
-fn input_place(inputs: &[&str], fault: &PlanFault<'_>) -> Option<FaultPlace>
-    ensures { TellsText fault.now → IfSome result (λ place. (e : Error)
-        × (fault.now.error ≡ Map e) × IsInputPlace (lent_items inputs.now) e place) }
-{
-    let (text, place) = fault.at?;
-    Some(place.in_text(input_number(inputs, text)?))
-}
-
 /// Why the plan over these inputs fails.
 fn plan_failure(inputs: &[&str], fault: &PlanFault<'_>) -> Failure
-    requires told { (fault.now.error ≢ Map OutOfMemory) → TellsText fault.now }
     ensures error { result.error ≡ Plan fault.now.error }
-    ensures place { IsPlacedBy (IsInputPlace (lent_items inputs.now)) result }
+    ensures place { result.place ≡ fault_place_in (lent_items inputs.now) fault.now }
 {
     Failure {
         error: RunError::Plan(fault.error),
-        place: input_place(inputs, fault),
+        place: fault.place_in(inputs),
         reason: None,
     }
 }
@@ -191,7 +170,9 @@ fn plan_text(alloc: Global, input: String, arguments: &[String]) -> Result<Strin
     ensures error { let texts = inputs_of (string_bytes input) in
         IfErr result (λ f. (f.error ≢ out_of_memory)
         → IsPlanError (parsed_plan texts (map string_bytes arguments.now)) f.error) }
-    ensures place { IfErr result (IsPlacedBy (IsInputPlace (inputs_of (string_bytes input)))) }
+    ensures place { let texts = inputs_of (string_bytes input) in
+        IfErr result (IsPlacedBy
+        (IsPlanPlaceIn texts (parsed_plan texts (map string_bytes arguments.now)))) }
 {
     canonical_unique();
     let map = {

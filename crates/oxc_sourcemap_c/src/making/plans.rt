@@ -1,11 +1,10 @@
 //! Plans of words over texts.
-ghost use Rattle.std.specs.Prelude.{◌≡◌, ◌≢◌, map, string_bytes, Some, None, slice_get, IfOk};
-ghost use Rattle.std.specs.Prelude.{IfErr, IfSome, Ok, Err};
+ghost use Rattle.std.specs.Prelude.{◌≡◌, ◌≢◌, map, string_bytes, IfOk, IfErr, Ok, true};
 ghost use Rattle.oxc_sourcemap_c.specs.Words.{call_error_of_run, parsed_plan, IsPlanMap};
 ghost use Rattle.oxc_sourcemap_c.specs.Words.{IsEvaluationErrorAt, IsPlanErrorAt, IsFailure};
-ghost use Rattle.oxc_sourcemap_c.specs.Words.{TellsText, lent_items, outcome, out_of_memory};
-ghost use Rattle.oxc_sourcemap_c.specs.Words.{IsPlaceOfPlan, IsOutcomeErrorAt, of_plan, no_fault};
-ghost use Rattle.oxc_sourcemap_c.specs.Words.{HoldsMap, IsErrorAt, reading};
+ghost use Rattle.oxc_sourcemap_c.specs.Words.{IsOutcomeErrorAt, lent_items, outcome, of_plan};
+ghost use Rattle.oxc_sourcemap_c.specs.Words.{HoldsMap, IsErrorAt, no_fault, are_among};
+ghost use Rattle.oxc_sourcemap_c.specs.Words.{fault_place_in};
 
 use crate::making::failure::Failure;
 use crate::making::reading_texts::put_read;
@@ -37,41 +36,20 @@ fn call_error_of(error: RunError) -> CallError
     }
 }
 
-/// The number of the first of these texts that is equal to one.
-fn text_number(texts: &[&str], text: &str) -> Option<usize>
-    ensures { IfSome result (λ k. slice_get (lent_items texts.now) k ≡ Some text.now) }
-{
-    for k in 0..texts.len() {
-        if texts[k] == text {
-            return Some(k);
-        }
-    }
-    None
-}
-
 /// Why a plan over these texts fails: the error, with the place of the fault if that is one of a text.
 fn plan_failure(inputs: &[&str], fault: &PlanFault<'_>) -> Failure
-    requires { of_plan fault.now.error ≢ out_of_memory }
-    ensures { TellsText fault.now → IsFailure (λ r place. (r ≡ of_plan fault.now.error)
-        × IfSome place (IsPlaceOfPlan (lent_items inputs.now) r)
-        × (place ≡ None → fault.now.at ≡ None)) result }
+    ensures error { result.error ≡ of_plan fault.now.error }
+    ensures place { result.place ≡ fault_place_in (lent_items inputs.now) fault.now }
 {
-    let error = CallError::Plan(fault.error);
-    let Some((text, place)) = fault.at else {
-        return Failure::of(error);
-    };
-    match text_number(inputs, text) {
-        Some(k) => Failure {
-            error,
-            place: Some(place.in_text(k)),
-        },
-        // (the text is that of an input, but that is not proved)
-        None => Failure::memory(),
+    Failure {
+        error: CallError::Plan(fault.error),
+        place: fault.place_in(inputs),
     }
 }
 
-/// The map of a plan over these texts.
+/// The map of a plan over these texts, among which its own are.
 fn evaluate_plan(alloc: Global, inputs: &[&str], plan: &Plan<'_>) -> Result<OwnedSourceMap, Failure>
+    requires texts { are_among (lent_items inputs.now) (outcome plan.now).texts ≡ true }
     ensures map { IfOk result (IsPlanMap (Ok (outcome plan.now))) }
     ensures error { IfErr result (IsFailure (IsOutcomeErrorAt (lent_items inputs.now)
         (Ok (outcome plan.now)))) }

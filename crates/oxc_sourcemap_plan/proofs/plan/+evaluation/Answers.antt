@@ -21,8 +21,9 @@ use Rattle.oxc_sourcemap_plan.proofs.Remapping.{remapped_fails}
 use Rattle.oxc_sourcemap_plan.proofs.Simplifying.{simplified_fails}
 use Rattle.oxc_sourcemap_plan.proofs.Parts.{from_err, more_owned, part_error, part_below_deepest}
 use Rattle.oxc_sourcemap_plan.proofs.Parts.{at_its_line, at_its_position, more_inputs, input_error}
-use Rattle.oxc_sourcemap_plan.proofs.Told.{told_on, step_told, of_part, of_input, of_first}
-use Rattle.oxc_sourcemap_plan.proofs.Told.{of_second, of_remapped, of_simplified, rewritten_means}
+use Rattle.oxc_sourcemap_plan.proofs.Told.{told_on, step_told, only_part, joined_part}
+use Rattle.oxc_sourcemap_plan.proofs.Told.{input_part, first_part, second_part, remapped_part}
+use Rattle.oxc_sourcemap_plan.proofs.Told.{simplified_part, rewritten_means}
 use Rattle.oxc_sourcemap_plan.proofs.Told.{rooted_means, simplified_means, composed_means}
 use Rattle.oxc_sourcemap_plan.proofs.Told.{joined_means, remapped_means}
 use Rattle.oxc_sourcemap_plan.proofs.plan.+evaluation.Goals as goal
@@ -136,22 +137,23 @@ evaluate_remapping-loop-path-preserved t c =
 pub evaluate_part-returns-in-Join-clause-told : goal.evaluate_part-returns-in-Join-clause-told
 evaluate_part-returns-in-Join-clause-told t c =
     let o = outcome_parts c.args.plan.now c.in-Join.parts c.as_slice.result.now c.in-Join.is c.as_slice.ensures.value in
-    IfErr-weaker c.evaluate_join.result _ _ (λ f g. subst (λ (o : Outcome). IsTold o.is_within_limits f) (sym o) g) c.evaluate_join.ensures.told
+    IfErr-weaker c.evaluate_join.result _ _ (λ f g. subst (λ (o : Outcome). IsTold o f) (sym o) g) c.evaluate_join.ensures.told
 
 pub evaluate_part-returns-in-JoinAt-clause-told : goal.evaluate_part-returns-in-JoinAt-clause-told
 evaluate_part-returns-in-JoinAt-clause-told t c =
     let o = outcome_parts_at c.args.plan.now c.in-JoinAt.parts c.as_slice-in-JoinAt.result.now c.in-JoinAt.is c.as_slice-in-JoinAt.ensures.value in
-    IfErr-weaker c.evaluate_join_at.result _ _ (λ f g. subst (λ (o : Outcome). IsTold o.is_within_limits f) (sym o) g) c.evaluate_join_at.ensures.told
+    IfErr-weaker c.evaluate_join_at.result _ _ (λ f g. subst (λ (o : Outcome). IsTold o f) (sym o) g) c.evaluate_join_at.ensures.told
 
 pub evaluate_part-returns-in-Remap-clause-told : goal.evaluate_part-returns-in-Remap-clause-told
 evaluate_part-returns-in-Remap-clause-told t c =
     let first : c.deref-in-Remap.result.now ≡ c.in-Remap.first.value = search rules in
     let o = outcome_inputs c.args.plan.now c.deref-in-Remap.result.now c.in-Remap.first c.in-Remap.inputs c.as_slice-in-Remap.result.now c.in-Remap.is first c.as_slice-in-Remap.ensures.value in
-    IfErr-weaker c.evaluate_remapping.result _ _ (λ f g. subst (λ (o : Outcome). IsTold o.is_within_limits f) (sym o) g) c.evaluate_remapping.ensures.told
+    IfErr-weaker c.evaluate_remapping.result _ _ (λ f g. subst (λ (o : Outcome). IsTold o f) (sym o) g) c.evaluate_remapping.ensures.told
 
 pub evaluate_rewrite-returns-in_err-map-clause-told : goal.evaluate_rewrite-returns-in_err-map-clause-told
 evaluate_rewrite-returns-in_err-map-clause-told t c =
-    told_on (rewrite_outcome (outcome_of c.args.part.now)).is_within_limits (outcome_of c.args.part.now).is_within_limits c.from_residual.result c.in_err-map.field-0.0 c.from_residual.ensures.1 (λ w. w) c.in_err-map.ensures.told
+    let part = outcome_of c.args.part.now in
+    told_on part (rewrite_outcome part) c.from_residual.result c.in_err-map.field-0.0 c.from_residual.ensures.1 (only_part part (rewrite_outcome part) refl (λ w. w)) c.in_err-map.ensures.told
 
 pub evaluate_rewrite-returns-in_err-rewrite-clause-error : goal.evaluate_rewrite-returns-in_err-rewrite-clause-error
 evaluate_rewrite-returns-in_err-rewrite-clause-error t c =
@@ -165,7 +167,8 @@ evaluate_rewrite-returns-in_err-rewrite-clause-told t c =
 
 pub evaluate_root-returns-in_err-map-clause-told : goal.evaluate_root-returns-in_err-map-clause-told
 evaluate_root-returns-in_err-map-clause-told t c =
-    told_on (root_outcome (outcome_of c.args.part.now)).is_within_limits (outcome_of c.args.part.now).is_within_limits c.from_residual.result c.in_err-map.field-0.0 c.from_residual.ensures.1 (λ w. w) c.in_err-map.ensures.told
+    let part = outcome_of c.args.part.now in
+    told_on part (root_outcome part) c.from_residual.result c.in_err-map.field-0.0 c.from_residual.ensures.1 (only_part part (root_outcome part) refl (λ w. w)) c.in_err-map.ensures.told
 
 pub evaluate_root-returns-in_err-put_root-clause-error : goal.evaluate_root-returns-in_err-put_root-clause-error
 evaluate_root-returns-in_err-put_root-clause-error t c =
@@ -179,7 +182,8 @@ evaluate_root-returns-in_err-put_root-clause-told t c =
 
 pub evaluate_simplification-returns-in_err-map-clause-told : goal.evaluate_simplification-returns-in_err-map-clause-told
 evaluate_simplification-returns-in_err-map-clause-told t c =
-    told_on (simplified_outcome (outcome_of c.args.part.now)).is_within_limits (outcome_of c.args.part.now).is_within_limits c.from_residual.result c.in_err-map.field-0.0 c.from_residual.ensures.1 (of_simplified (outcome_of c.args.part.now)) c.in_err-map.ensures.told
+    let part = outcome_of c.args.part.now in
+    told_on part (simplified_outcome part) c.from_residual.result c.in_err-map.field-0.0 c.from_residual.ensures.1 (simplified_part part) c.in_err-map.ensures.told
 
 pub evaluate_simplification-returns-in_err-simplify-clause-error : goal.evaluate_simplification-returns-in_err-simplify-clause-error
 evaluate_simplification-returns-in_err-simplify-clause-error t c =
@@ -194,8 +198,8 @@ evaluate_simplification-returns-in_err-simplify-clause-told t c =
 pub evaluate_join-returns-in_err-map-clause-told : goal.evaluate_join-returns-in_err-map-clause-told
 evaluate_join-returns-in_err-map-clause-told t c =
     let parts = c.args.parts.now in
-    told_on (join_outcome (outcomes (at_lines parts))).is_within_limits (outcome_of c.loop-part-item.result.0).is_within_limits c.from_residual.result c.in_err-map.field-0.0 c.from_residual.ensures.1
-    (of_part at_its_line parts c.loop-part.part-index c.loop-part-item.result c.loop-part-test.true c.loop-part-item.is) c.in_err-map.ensures.told
+    told_on (outcome_of c.loop-part-item.result.0) (join_outcome (outcomes (at_lines parts))) c.from_residual.result c.in_err-map.field-0.0 c.from_residual.ensures.1
+    (joined_part at_its_line (owned_records c.loop-part.maps.items) parts c.loop-part.part-index c.loop-part-item.result c.loop-part-test.true c.loop-part-item.is c.loop-part.invariant) c.in_err-map.ensures.told
 
 pub evaluate_join-returns-in_err-join-clause-error : goal.evaluate_join-returns-in_err-join-clause-error
 evaluate_join-returns-in_err-join-clause-error t c =
@@ -215,8 +219,8 @@ evaluate_join-returns-in_err-join-clause-told t c =
 pub evaluate_join_at-returns-in_err-map-clause-told : goal.evaluate_join_at-returns-in_err-map-clause-told
 evaluate_join_at-returns-in_err-map-clause-told t c =
     let parts = c.args.parts.now in
-    told_on (join_outcome (outcomes (at_positions parts))).is_within_limits (outcome_of c.loop-part-item.result.0).is_within_limits c.from_residual.result c.in_err-map.field-0.0 c.from_residual.ensures.1
-    (of_part at_its_position parts c.loop-part.part-index c.loop-part-item.result c.loop-part-test.true c.loop-part-item.is) c.in_err-map.ensures.told
+    told_on (outcome_of c.loop-part-item.result.0) (join_outcome (outcomes (at_positions parts))) c.from_residual.result c.in_err-map.field-0.0 c.from_residual.ensures.1
+    (joined_part at_its_position (owned_records c.loop-part.maps.items) parts c.loop-part.part-index c.loop-part-item.result c.loop-part-test.true c.loop-part-item.is c.loop-part.invariant) c.in_err-map.ensures.told
 
 pub evaluate_join_at-returns-in_err-join-clause-error : goal.evaluate_join_at-returns-in_err-join-clause-error
 evaluate_join_at-returns-in_err-join-clause-error t c =
@@ -237,8 +241,7 @@ pub evaluate_composition-returns-in_err-first-clause-told : goal.evaluate_compos
 evaluate_composition-returns-in_err-first-clause-told t c =
     let first = outcome_of c.args.first.now in
     let second = outcome_of c.args.second.now in
-    told_on (composition_outcome first second).is_within_limits first.is_within_limits c.from_residual.result c.in_err-first.field-0.0 c.from_residual.ensures.1
-    (of_first first second) c.in_err-first.ensures.told
+    told_on first (composition_outcome first second) c.from_residual.result c.in_err-first.field-0.0 c.from_residual.ensures.1 (first_part first second) c.in_err-first.ensures.told
 
 pub evaluate_composition-returns-in_err-second-clause-error : goal.evaluate_composition-returns-in_err-second-clause-error
 evaluate_composition-returns-in_err-second-clause-error t c =
@@ -252,8 +255,8 @@ pub evaluate_composition-returns-in_err-second-clause-told : goal.evaluate_compo
 evaluate_composition-returns-in_err-second-clause-told t c =
     let first = outcome_of c.args.first.now in
     let second = outcome_of c.args.second.now in
-    told_on (composition_outcome first second).is_within_limits second.is_within_limits c.from_residual-in_err-second.result c.in_err-second.field-0.0 c.from_residual-in_err-second.ensures.1
-    (of_second first second) c.in_err-second.ensures.told
+    told_on second (composition_outcome first second) c.from_residual-in_err-second.result c.in_err-second.field-0.0 c.from_residual-in_err-second.ensures.1
+    (second_part (record_of_parts c.in_ok-first.first) first second c.in_ok-first.ensures.map) c.in_err-second.ensures.told
 
 pub evaluate_composition-returns-in_err-compose-clause-error : goal.evaluate_composition-returns-in_err-compose-clause-error
 evaluate_composition-returns-in_err-compose-clause-error t c =
@@ -274,14 +277,15 @@ pub evaluate_remapping-returns-in_err-map-clause-told : goal.evaluate_remapping-
 evaluate_remapping-returns-in_err-map-clause-told t c =
     let first = outcome_of c.args.first.now in
     let os = input_outcomes (by_path c.args.inputs.now) in
-    told_on (remap_outcome first os).is_within_limits first.is_within_limits c.from_residual.result c.in_err-map.field-0.0 c.from_residual.ensures.1 (of_remapped first os) c.in_err-map.ensures.told
+    told_on first (remap_outcome first os) c.from_residual.result c.in_err-map.field-0.0 c.from_residual.ensures.1 (remapped_part first os) c.in_err-map.ensures.told
 
 pub evaluate_remapping-returns-in_err-input-clause-told : goal.evaluate_remapping-returns-in_err-input-clause-told
 evaluate_remapping-returns-in_err-input-clause-told t c =
     let first = outcome_of c.args.first.now in
     let inputs = c.args.inputs.now in
-    told_on (remap_outcome first (input_outcomes (by_path inputs))).is_within_limits (outcome_of c.loop-path-item.result.1).is_within_limits c.from_residual-in_err-input.result c.in_err-input.field-0.0
-    c.from_residual-in_err-input.ensures.1 (of_input first inputs c.loop-path.path-index c.loop-path-item.result c.loop-path-test.true c.loop-path-item.is) c.in_err-input.ensures.told
+    told_on (outcome_of c.loop-path-item.result.1) (remap_outcome first (input_outcomes (by_path inputs))) c.from_residual-in_err-input.result c.in_err-input.field-0.0 c.from_residual-in_err-input.ensures.1
+    (input_part first (record_of_parts c.in_ok-map.map) (owned_input_records c.loop-path.maps.items) inputs c.loop-path.path-index c.loop-path-item.result c.loop-path-test.true c.loop-path-item.is
+    c.in_ok-map.ensures.map c.loop-path.invariant) c.in_err-input.ensures.told
 
 pub evaluate_remapping-returns-clause-map : goal.evaluate_remapping-returns-clause-map
 evaluate_remapping-returns-clause-map t c =

@@ -3,6 +3,7 @@ use Rattle.std.proofs.lemmas.Result.{IfOk-weaker, IfErr-weaker}
 use Rattle.oxc_sourcemap_parts.specs.Views.{record_of_parts}
 use Rattle.oxc_sourcemap_plan.proofs.Answering.{evaluated, with_outcome, failed, told}
 use Rattle.oxc_sourcemap_plan.proofs.Meanings.{same_meaning}
+use Rattle.oxc_sourcemap_plan.proofs.SameTexts.{same_texts}
 use Rattle.oxc_sourcemap_plan.proofs.plan.evaluate_where.Goals as goal
 
 pub returns-clause-map : goal.returns-clause-map
@@ -27,3 +28,9 @@ returns-clause-same_meaning c = same_meaning c.args.plan.now
 pub returns-clause-told : goal.returns-clause-told
 returns-clause-told c =
     IfErr-weaker c.evaluate_part.result _ _ (λ f h. told c.args.plan.now f (c.is_within_depth.ensures.0 c.if-not-is_within_depth.false) h) c.evaluate_part.ensures.told
+
+pub returns-clause-same_texts : goal.returns-clause-same_texts
+returns-clause-same_texts c = same_texts c.args.plan.now
+
+pub returns-then-not-is_within_depth-clause-same_texts : goal.returns-then-not-is_within_depth-clause-same_texts
+returns-then-not-is_within_depth-clause-same_texts c = same_texts c.args.plan.now

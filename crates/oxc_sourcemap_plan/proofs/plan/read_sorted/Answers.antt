@@ -1,6 +1,5 @@
-use Rattle.std.proofs.Common.{subst, sym}
+use Rattle.std.proofs.Common.{subst, sym, refl}
 use Rattle.oxc_sourcemap_parts.specs.Views.{record_of_parts}
-use Rattle.oxc_sourcemap_json.specs.ReadMap.{form_of_text}
 use Rattle.oxc_sourcemap_plan.specs.Outcome.{sorted_outcome}
 use Rattle.oxc_sourcemap_plan.specs.Realizes.{Realizes, FailsAs}
 use Rattle.oxc_sourcemap_plan.proofs.Realizing.{join_laws}
@@ -12,12 +11,12 @@ pub returns-in-Err-clause-error : goal.returns-in-Err-clause-error
 returns-in-Err-clause-error c =
     let law = c.dropping_harmless.ensures in
     let laws = join_laws law.tests_agree law.joins_up_to_repeats law.decoded_map_of_join law.in_range law.stands_for law.names law.tokens in
-    subst (λ x. FailsAs x (sorted_outcome (form_of_text c.args.text.now))) (sym c.of_text.ensures.error)
+    subst (λ x. FailsAs x (sorted_outcome c.args.text.now)) (sym c.of_text.ensures.error)
     (sorted_error laws c.args.text.now c.in-Err.fault.error c.in-Err.ensures.map.1)
 
 pub returns-in-Err-clause-told : goal.returns-in-Err-clause-told
 returns-in-Err-clause-told c =
-    text_told (sorted_outcome (form_of_text c.args.text.now)).is_within_limits c.args.text c.in-Err.fault c.of_text.result c.of_text.ensures.error c.of_text.ensures.at c.in-Err.ensures.map.1
+    text_told (sorted_outcome c.args.text.now) c.args.text c.in-Err.fault c.of_text.result refl c.of_text.ensures.error c.of_text.ensures.at c.in-Err.ensures.map.1
     c.in-Err.ensures.place.1
 
 pub returns-in_ok-sort-in-Ok-clause-map : goal.returns-in_ok-sort-in-Ok-clause-map
@@ -25,4 +24,4 @@ returns-in_ok-sort-in-Ok-clause-map c =
     let text = c.args.text.now in
     let law = c.dropping_harmless.ensures in
     let laws = join_laws law.tests_agree law.joins_up_to_repeats law.decoded_map_of_join law.in_range law.stands_for law.names law.tokens in
-    subst (λ m. Realizes m (sorted_outcome (form_of_text text))) (sym c.in_ok-sort-in-Ok.ensures) (sorted_gives laws text (record_of_parts c.in-Ok.map) c.in-Ok.ensures.map.0)
+    subst (λ m. Realizes m (sorted_outcome text)) (sym c.in_ok-sort-in-Ok.ensures) (sorted_gives laws text (record_of_parts c.in-Ok.map) c.in-Ok.ensures.map.0)

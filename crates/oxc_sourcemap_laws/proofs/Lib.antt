@@ -28,6 +28,10 @@ pub mod TracesRising
 pub mod TracesJoined
 pub mod TracesSimplified
 pub mod SimplifiedMaps
+pub mod SimplifiedWhole
+pub mod Differences
+pub mod RemapInputs
+pub mod FaultSegments
 mod TracesWorked
 mod WorkedRemaps
 mod Worked

@@ -29,6 +29,7 @@ pub mod TracesJoined
 pub mod TracesSimplified
 pub mod SimplifiedMaps
 pub mod SimplifiedWhole
+pub mod SimplifiedNeeded
 pub mod Differences
 pub mod RemapInputs
 pub mod FaultSegments

@@ -160,7 +160,7 @@ none-by test k (x ∷ xs) e =
       | false ↦ (λ e. none-by test (k + 1) xs e)
     ] e
 
-by-none : {A : Type 0} (test : A → Bool) (k : ℕ) (xs : List A) → position_from test k xs ≡ None → list_any test xs ≡ false
+pub by-none : {A : Type 0} (test : A → Bool) (k : ℕ) (xs : List A) → position_from test k xs ≡ None → list_any test xs ≡ false
 by-none test k [] e = refl
 by-none test k (x ∷ xs) e =
     elim (test x) as (λ b. cond b (Some k) (position_from test (k + 1) xs) ≡ None → (b || list_any test xs) ≡ false) [

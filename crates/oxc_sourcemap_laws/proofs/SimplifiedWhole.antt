@@ -123,11 +123,11 @@ module _ (r : MapRecord) where
   kept-needs add twice l =
       kept-run token_line (are_alike_in r) token_at_next_column (is_after_repeat token_line token_column (are_alike_in r)) (original_in r) (λ t. refl) same-original add twice l [] (found_tokens r) tt
 
-  needs-names : with_texts [] (filter_map name_in (map (original_in r) (simple_tokens r))) ≡ simple_names r
+  pub needs-names : with_texts [] (filter_map name_in (map (original_in r) (simple_tokens r))) ≡ simple_names r
   needs-names =
       sym (run-names [] (map (original_in r) (simple_tokens r))) ∙ kept-needs add_name (λ names o. inherited-twice names (name_in o)) [] ∙ run-names [] (found_originals r)
 
-  needs-sources : needed_sources (map (original_in r) (simple_tokens r)) ≡ needed_sources (found_originals r)
+  pub needs-sources : needed_sources (map (original_in r) (simple_tokens r)) ≡ needed_sources (found_originals r)
   needs-sources =
       sym (run-sources [] (map (original_in r) (simple_tokens r))) ∙ kept-needs add_source source-twice [] ∙ run-sources [] (found_originals r)
 
@@ -159,7 +159,7 @@ member-back marked q (x ∷ xs) e =
     ]
 
 -- the listings of a source by whether it is listed as not ignored and as ignored
-abbrev listings_by : Bool → Bool → DecodedSource → List (DecodedSource × Bool)
+abbrev pub listings_by : Bool → Bool → DecodedSource → List (DecodedSource × Bool)
 listings_by c d x = cond c ((x, false) ∷ cond d ((x, true) ∷ []) []) (cond d ((x, true) ∷ []) [])
 
 module _ (marked : List (DecodedSource × Bool)) (needed : List DecodedSource) where
@@ -191,7 +191,7 @@ or-right : (a b : Bool) → b ≡ true → (a || b) ≡ true
 or-right true b e = refl
 or-right false b e = e
 
-weaker : {A : Type 0} (P Q : A → Type 0) → ((x : A) → P x → Q x) → (xs : List A) → AllByRecursion P xs → AllByRecursion Q xs
+pub weaker : {A : Type 0} (P Q : A → Type 0) → ((x : A) → P x → Q x) → (xs : List A) → AllByRecursion P xs → AllByRecursion Q xs
 weaker P Q f [] h = tt
 weaker P Q f (x ∷ xs) h = (f x h.0, weaker P Q f xs h.1)
 
@@ -201,7 +201,7 @@ members (y ∷ ys) =
     (or-left (is_same_source y y) _ ((decides_source y y).1 refl), weaker (λ x. list_any (is_same_source x) ys ≡ true) (λ x. list_any (is_same_source x) (y ∷ ys) ≡ true) (λ x e. or-right (is_same_source x y) _ e) ys (members ys))
 
 -- sources that are kept are kept again
-kept-again : (marked : List (DecodedSource × Bool)) (needed : List DecodedSource) → flat_map (listings (flat_map (listings marked) needed)) needed ≡ flat_map (listings marked) needed
+pub kept-again : (marked : List (DecodedSource × Bool)) (needed : List DecodedSource) → flat_map (listings (flat_map (listings marked) needed)) needed ≡ flat_map (listings marked) needed
 kept-again marked needed = all-same marked needed needed (members needed)
 
 -- ---- tokens
@@ -224,7 +224,7 @@ module _ (r : MapRecord) where
   among : TokenRecord → Option (DecodedSource × Bool) → TokenRecord
   among t q = token_among sources names (name_of r.names t) t q
 
-  marked-among : (t : TokenRecord) (q : Option (DecodedSource × Bool)) → Placed r (name_of r.names t) q → marked_source_of m (token_among sources names (name_of r.names t) t q) ≡ q
+  pub marked-among : (t : TokenRecord) (q : Option (DecodedSource × Bool)) → Placed r (name_of r.names t) q → marked_source_of m (token_among sources names (name_of r.names t) t q) ≡ q
   marked-among t None h = refl
   marked-among t (Some x) h =
       ap (λ ms. option_and_then (slice_get ms) (index_of_marked x sources)) marked-new ∙ ap (option_and_then (slice_get sources)) h.0.is ∙ h.0.there

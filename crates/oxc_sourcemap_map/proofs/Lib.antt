@@ -8,6 +8,7 @@ pub mod Searched
 pub mod Lines
 pub mod Passing
 pub mod LeadBack
+pub mod RoundTrips
 mod ReverseWorked
 pub mod GivenIds
 pub mod NameIds

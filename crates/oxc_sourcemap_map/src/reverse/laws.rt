@@ -1,6 +1,7 @@
 //! Laws of reverse lookups.
 ghost use Rattle.oxc_sourcemap_map.specs.Words.{LookupLeadsBack, FoundAtPlace, FoundOnLine};
 ghost use Rattle.oxc_sourcemap_map.specs.Words.{FoundBefore, FoundAfter, AllFoundOnLine};
+ghost use Rattle.oxc_sourcemap_map.specs.Words.{FoundTracesBack, FirstTracesBack, TracedIsFound};
 
 /// What reverse lookups find points to what was asked for, and leads back, in any list of tokens.
 /// - The lookup (`token_for`) of the generated position of a token finds a token at that very position (`leads_back`); the
@@ -15,4 +16,10 @@ pub fn reverse_lookups()
     ensures before { FoundBefore }
     ensures after { FoundAfter }
     ensures all_on_line { AllFoundOnLine }
+{}
+
+pub fn reverse_round_trip()
+    ensures found { FoundTracesBack }
+    ensures first { FirstTracesBack }
+    ensures traced { TracedIsFound }
 {}

@@ -1,14 +1,13 @@
 -- Where maps and simplified maps differ.
-use Rattle.std.proofs.Common.{◌≡◌, ◌↔◌, refl, sym, ap, ◌∙◌, ℕ, ◌+◌, ◌<◌, ◌≤◌, Bool, true, false, cond, ◌==◌}
-use Rattle.std.proofs.Common.{List, [], ◌∷◌, map, length, nat_le, nat_lt, Option, Some, None, Ok, Err, arith}
+use Rattle.std.proofs.Common.{◌≡◌, refl, sym, ap, ◌∙◌, ℕ, ◌<◌, ◌≤◌, Bool, true, false, cond, ◌==◌}
+use Rattle.std.proofs.Common.{List, [], ◌∷◌, map, length, nat_le, nat_lt, Option, Some, None, arith}
 use Rattle.std.proofs.Common.{if◌then◌else◌, subst, IsNone}
 use Rattle.std.proofs.lemmas.Bool.Decides.{nat_tests}
 use Rattle.std.proofs.lemmas.List.{length-map}
 use Rattle.std.specs.List.{filter, AllByRecursion}
 use Rattle.std.specs.Option.{option_map}
-use Rattle.oxc_sourcemap_tokens.specs.declared.position.Position.{Position}
 use Rattle.oxc_sourcemap_tokens.specs.Token.{TokenRecord, last}
-use Rattle.oxc_sourcemap_parts.specs.DecodedMap.{DecodedMapping, DecodedMap, DecodedSource, sources_of}
+use Rattle.oxc_sourcemap_parts.specs.DecodedMap.{DecodedSource, sources_of}
 use Rattle.oxc_sourcemap_parts.specs.DecodedMap.{mapping_of, decoded_map_of, mapping_line}
 use Rattle.oxc_sourcemap_parts.specs.DecodedMap.{mapping_column}
 use Rattle.oxc_sourcemap_parts.specs.Record.{Text, MapRecord}
@@ -16,7 +15,7 @@ use Rattle.oxc_sourcemap_parts.specs.Sorted.{are_tokens_sorted}
 use Rattle.oxc_sourcemap_lookup.specs.Lookup.{greatest, not_past, in_column, at, on_line, first}
 use Rattle.oxc_sourcemap_lookup.specs.Trace.{trace}
 use Rattle.oxc_sourcemap_queries.specs.Differences.{HaveSameTraceEverywhere}
-use Rattle.oxc_sourcemap_steps.specs.Simplified.{simplified_decoded_map, simplified, simplification}
+use Rattle.oxc_sourcemap_steps.specs.Simplified.{simplified_decoded_map, simplified}
 use Rattle.oxc_sourcemap_steps.specs.SimplifyLaws.{IsSortedMap}
 use Rattle.oxc_sourcemap_steps.proofs.Means.{decoded_map_simplified}
 use Rattle.oxc_sourcemap_steps.proofs.Sound.{simplified-sorted, sorted-mappings}

@@ -1,7 +1,7 @@
 -- Which inputs a remapping needs, and in which order.
-use Rattle.std.proofs.Common.{◌≡◌, ◌≢◌, refl, sym, ap, ◌∙◌, ℕ, zero, suc, ◌+◌, Bool, true, false, cond, ◌||◌}
+use Rattle.std.proofs.Common.{◌≡◌, refl, sym, ap, ◌∙◌, ℕ, zero, suc, ◌+◌, Bool, true, false, cond, ◌||◌}
 use Rattle.std.proofs.Common.{List, [], ◌∷◌, ◌++◌, map, filter, length, take, Option, Some, None, Ok, Err, arith, if◌then◌else◌}
-use Rattle.std.specs.List.{slice_get, filter_map, flat_map, list_any, position_from, AllByRecursion, IsDistinct, Contains}
+use Rattle.std.specs.List.{slice_get, flat_map, list_any, position_from, AllByRecursion, Contains}
 use Rattle.std.specs.List.Sorted.{IsPermutation}
 use Rattle.std.specs.Option.{IfSome, option_map, option_and_then}
 use Rattle.std.specs.Str.{bytes_eq}
@@ -14,7 +14,7 @@ use Rattle.std.proofs.lemmas.Map.Keys.{IsDistinct-IsPermutation, IsDistinct-head
 use Rattle.oxc_sourcemap_tokens.specs.declared.errors.error.Error.TheVariants.{TooLarge}
 use Rattle.oxc_sourcemap_tokens.specs.Errors.{unless}
 use Rattle.oxc_sourcemap_tokens.specs.Token.{TokenRecord}
-use Rattle.oxc_sourcemap_parts.specs.DecodedMap.{DecodedSource, DecodedMap, sources_of, decoded_map_of}
+use Rattle.oxc_sourcemap_parts.specs.DecodedMap.{DecodedSource, sources_of, decoded_map_of}
 use Rattle.oxc_sourcemap_parts.specs.Record.{Text, MapRecord}
 use Rattle.oxc_sourcemap_steps.specs.Blocks.{sources_by, sources_for, remapped_sources, marked_from}
 use Rattle.oxc_sourcemap_steps.specs.Blocks.{marked_sources, marked_by, marked_for, ignored_ids}
@@ -23,14 +23,14 @@ use Rattle.oxc_sourcemap_steps.specs.Composed.{Target, NoColumnGoesBack}
 use Rattle.oxc_sourcemap_steps.specs.Inputs.{input_for, decoded_inputs, goes_back, inputs_fault}
 use Rattle.oxc_sourcemap_steps.specs.Inputs.{NoInputColumnGoesBack}
 use Rattle.oxc_sourcemap_steps.specs.Remapped.{listed_sources, source_of, input_of, target_by}
-use Rattle.oxc_sourcemap_steps.specs.Remapped.{remap_targets, Original, original_by, block_start}
+use Rattle.oxc_sourcemap_steps.specs.Remapped.{remap_targets, original_by, block_start}
 use Rattle.oxc_sourcemap_steps.specs.Remapped.{original_at, original, needed_names, token_to}
 use Rattle.oxc_sourcemap_steps.specs.Remapped.{remapped_token, remapped_names, remapped_by, remapped}
 use Rattle.oxc_sourcemap_steps.specs.Remapped.{has_few, remapping}
 use Rattle.oxc_sourcemap_steps.proofs.InputPlaces.{input_for-map}
 use Rattle.oxc_sourcemap_steps.proofs.Means.{unmapped}
 use Rattle.oxc_sourcemap_laws.specs.InputLaws.{input_paths, AreForDistinctPaths, is_for_source}
-use Rattle.oxc_sourcemap_laws.specs.InputLaws.{inputs_for_sources, HaveSameFirstInputs, RemapAlike}
+use Rattle.oxc_sourcemap_laws.specs.InputLaws.{inputs_for_sources, HaveSameFirstInputs}
 use Rattle.oxc_sourcemap_laws.specs.InputLaws.{FirstInputsCount, InputsMayBePermuted}
 use Rattle.oxc_sourcemap_laws.specs.InputLaws.{InputsMayBeLeftOut}
 

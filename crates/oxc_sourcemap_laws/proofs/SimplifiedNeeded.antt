@@ -1,6 +1,6 @@
 -- What is left of the names and the sources of a simplified map is needed.
-use Rattle.std.proofs.Common.{◌≡◌, ◌⊎◌, inl, inr, refl, sym, ap, ◌∙◌, subst, ℕ, Bool, true, false, cond, not}
-use Rattle.std.proofs.Common.{◌&&◌, List, [], ◌∷◌, ◌++◌, map, Option, Some, None, if◌then◌else◌}
+use Rattle.std.proofs.Common.{◌≡◌, ◌⊎◌, inl, inr, refl, sym, ap, ◌∙◌, subst, ℕ, Bool, true, false, cond}
+use Rattle.std.proofs.Common.{◌&&◌, List, [], ◌∷◌, ◌++◌, map, Option, Some, None}
 use Rattle.std.specs.Bool.{beq, Decides}
 use Rattle.std.specs.Cmp.{IsEquivalence}
 use Rattle.std.specs.Cmp.Lexicographic.{bytes_decides}
@@ -13,8 +13,8 @@ use Rattle.std.proofs.lemmas.Map.Keys.{IsDistinct-push, IsDistinct-head, IsDisti
 use Rattle.std.proofs.lemmas.Map.Keys.{IsDistinct-cons}
 use Rattle.std.proofs.lemmas.Option.{slice_get-map}
 use Rattle.oxc_sourcemap_tokens.specs.Token.{TokenRecord}
-use Rattle.oxc_sourcemap_parts.specs.DecodedMap.{DecodedSource, OriginalPosition, sources_of}
-use Rattle.oxc_sourcemap_parts.specs.DecodedMap.{name_of, original_at, decoded_map_of}
+use Rattle.oxc_sourcemap_parts.specs.DecodedMap.{DecodedSource, sources_of}
+use Rattle.oxc_sourcemap_parts.specs.DecodedMap.{name_of, original_at}
 use Rattle.oxc_sourcemap_parts.specs.Record.{Text, MapRecord}
 use Rattle.oxc_sourcemap_parts.specs.Texts.{index_of, with_text_at, with_text, with_texts}
 use Rattle.oxc_sourcemap_lookup.specs.Trace.{original_in}
@@ -28,7 +28,6 @@ use Rattle.oxc_sourcemap_steps.specs.Simplified.{simplified}
 use Rattle.oxc_sourcemap_steps.proofs.Flags.{marked-unmarked}
 use Rattle.oxc_sourcemap_steps.proofs.Means.{IsReady, Placed, all-ready}
 use Rattle.oxc_sourcemap_steps.proofs.NeededNames.{name-back}
-use Rattle.oxc_sourcemap_steps.proofs.NeededPlaces.{decides_marked}
 use Rattle.oxc_sourcemap_steps.proofs.Same.{decides_source}
 use Rattle.oxc_sourcemap_laws.proofs.RemapInputs.{by-none}
 use Rattle.oxc_sourcemap_laws.proofs.SimplifiedWhole.{needs-names, needs-sources, kept-again}

@@ -1,45 +1,35 @@
 -- Simplified maps as wholes.
-use Rattle.std.proofs.Common.{◌≡◌, ◌⊎◌, inl, inr, refl, sym, ap, ◌∙◌, subst, ℕ, zero, suc, ◌+◌, ◌≤◌, ◌==◌}
-use Rattle.std.proofs.Common.{Bool, true, false, cond, not, ◌&&◌, ◌||◌, List, [], ◌∷◌, ◌++◌, map, filter, length}
+use Rattle.std.proofs.Common.{◌≡◌, ◌⊎◌, inl, inr, refl, sym, ap, ◌∙◌, subst, ℕ, ◌==◌}
+use Rattle.std.proofs.Common.{Bool, true, false, cond, ◌||◌, List, [], ◌∷◌, ◌++◌, map, filter, length}
 use Rattle.std.proofs.Common.{Option, Some, None, Ok, Err, arith, if◌then◌else◌}
-use Rattle.std.specs.Bool.{beq, Decides}
-use Rattle.std.specs.Cmp.{IsEquivalence}
-use Rattle.std.specs.Cmp.Lexicographic.{bytes_decides}
-use Rattle.std.specs.List.{slice_get, filter_map, flat_map, list_any, position_from, AllByRecursion}
-use Rattle.std.specs.List.{Contains, IsDistinct, cons_option}
-use Rattle.std.specs.Option.{option_map, option_and_then}
-use Rattle.std.specs.Str.{bytes_eq}
+use Rattle.std.specs.List.{slice_get, filter_map, flat_map, list_any, AllByRecursion}
+use Rattle.std.specs.Option.{option_and_then}
 use Rattle.std.proofs.lemmas.Bool.{and_parts}
 use Rattle.std.proofs.lemmas.List.{length-map}
-use Rattle.std.proofs.lemmas.List.Elements.{recursion_from_All, All-contains_itself}
 use Rattle.std.proofs.lemmas.List.Folds.{list_any-append}
-use Rattle.std.proofs.lemmas.Map.Keys.{IsDistinct-push, IsDistinct-head, IsDistinct-tail}
-use Rattle.std.proofs.lemmas.Map.Keys.{IsDistinct-cons}
-use Rattle.std.proofs.lemmas.Option.{slice_get-map}
 use Rattle.oxc_sourcemap_tokens.specs.declared.errors.error.Error.TheVariants.{TooLarge}
 use Rattle.oxc_sourcemap_tokens.specs.declared.errors.plan_error.PlanError.TheVariants.{Map, Unsorted}
 use Rattle.oxc_sourcemap_tokens.specs.Token.{TokenRecord}
 use Rattle.oxc_sourcemap_parts.specs.DecodedMap.{DecodedSource, OriginalPosition, DecodedMapping}
-use Rattle.oxc_sourcemap_parts.specs.DecodedMap.{sources_of, name_of, original_at, mapping_of}
+use Rattle.oxc_sourcemap_parts.specs.DecodedMap.{sources_of, name_of, mapping_of}
 use Rattle.oxc_sourcemap_parts.specs.DecodedMap.{decoded_map_of}
 use Rattle.oxc_sourcemap_parts.specs.Record.{Text, MapRecord}
 use Rattle.oxc_sourcemap_parts.specs.Sorted.{are_tokens_sorted, token_line, token_column}
-use Rattle.oxc_sourcemap_parts.specs.Texts.{index_of, with_text_at, with_text, with_texts}
+use Rattle.oxc_sourcemap_parts.specs.Texts.{with_text_at, with_text, with_texts}
 use Rattle.oxc_sourcemap_parts.proofs.Places.{index-with}
 use Rattle.oxc_sourcemap_lookup.specs.Trace.{original_in}
 use Rattle.oxc_sourcemap_join.proofs.SameToken.{decides_option}
-use Rattle.oxc_sourcemap_steps.specs.Blocks.{marked_from, marked_sources, ignored_ids}
+use Rattle.oxc_sourcemap_steps.specs.Blocks.{marked_from, ignored_ids}
 use Rattle.oxc_sourcemap_steps.specs.InheritedNames.{with_inherited}
 use Rattle.oxc_sourcemap_steps.specs.Same.{is_same_source, is_same_original}
 use Rattle.oxc_sourcemap_steps.specs.Simple.{is_repeat, is_after_repeat, kept_after}
 use Rattle.oxc_sourcemap_steps.specs.Simplified.{simple_mappings, is_same_marked, index_of_marked}
 use Rattle.oxc_sourcemap_steps.specs.Simplified.{listings, with_source, with_sources, source_in}
-use Rattle.oxc_sourcemap_steps.specs.Simplified.{needed_sources, simple_sources, found_tokens}
+use Rattle.oxc_sourcemap_steps.specs.Simplified.{needed_sources, found_tokens}
 use Rattle.oxc_sourcemap_steps.specs.Simplified.{found_originals, are_alike_in, name_in}
 use Rattle.oxc_sourcemap_steps.specs.Simplified.{token_at_next_column, simple_tokens, simple_names}
 use Rattle.oxc_sourcemap_steps.specs.Simplified.{simple_sources_of, marked_source_of, token_among}
 use Rattle.oxc_sourcemap_steps.specs.Simplified.{renumbered, simplified, fits, simplification}
-use Rattle.oxc_sourcemap_steps.proofs.Flags.{marked-unmarked}
 use Rattle.oxc_sourcemap_steps.proofs.Means.{decoded_map_simplified, means-simple, IsReady, Placed}
 use Rattle.oxc_sourcemap_steps.proofs.Means.{all-ready, sources-again, map-as, map-after}
 use Rattle.oxc_sourcemap_steps.proofs.NeededNames.{name-back}
@@ -51,10 +41,7 @@ use Rattle.oxc_sourcemap_steps.proofs.Sound.{simplified-sorted, sorted-mappings}
 use Rattle.oxc_sourcemap_steps.proofs.Traces.{mappings-stay}
 use Rattle.oxc_sourcemap_laws.proofs.IgnoredSources.{marked-again}
 use Rattle.oxc_sourcemap_laws.specs.SimplifiedWhole.{SimplifyingAgain, SimplificationAgain}
-use Rattle.oxc_sourcemap_laws.specs.SimplifiedWhole.{IsNameOfToken, names_of_tokens, AreNamesNeeded}
-use Rattle.oxc_sourcemap_laws.specs.SimplifiedWhole.{SimplifiedNamesNeeded, marked_in, twin}
-use Rattle.oxc_sourcemap_laws.specs.SimplifiedWhole.{IsSourceOfToken, first_needed, AreSourcesNeeded}
-use Rattle.oxc_sourcemap_laws.specs.SimplifiedWhole.{SimplifiedSourcesNeeded}
+use Rattle.oxc_sourcemap_laws.specs.SimplifiedWhole.{marked_in}
 
 -- ---- what is kept needs what is found
 -- values that are added to something, one after the other

@@ -1,5 +1,5 @@
 -- Reverse lookups and traces lead back to one another.
-use Rattle.std.proofs.Common.{◌≡◌, ◌≢◌, refl, sym, ap, ◌∙◌, subst, ℕ, zero, suc, Bool, true, false, cond, ◌&&◌}
+use Rattle.std.proofs.Common.{◌≡◌, ◌≢◌, refl, sym, ap, ◌∙◌, subst, ℕ, zero, suc, Bool, true, false, cond}
 use Rattle.std.proofs.Common.{◌==◌, nat_le, List, [], ◌∷◌, Option, Some, None, IfSome, if◌then◌else◌, arith}
 use Rattle.std.proofs.lemmas.Bool.Decides.{nat_tests}
 use Rattle.std.proofs.lemmas.List.Elements.{All-contains, All-from_recursion, recursion_from_All}
@@ -8,18 +8,18 @@ use Rattle.std.proofs.lemmas.Map.Keys.{IsDistinct-head, IsDistinct-tail}
 use Rattle.std.specs.List.{filter, slice_get, AllByRecursion, Contains, IsDistinct}
 use Rattle.std.specs.Option.{option_map, option_and_then, option_or}
 use Rattle.oxc_sourcemap_tokens.specs.Token.{TokenRecord, last}
-use Rattle.oxc_sourcemap_parts.specs.DecodedMap.{name_of, original_at, sources_of, decoded_map_of}
+use Rattle.oxc_sourcemap_parts.specs.DecodedMap.{name_of, original_at, sources_of}
 use Rattle.oxc_sourcemap_parts.specs.Record.{MapRecord}
 use Rattle.oxc_sourcemap_parts.specs.Sorted.{token_line, token_column}
 use Rattle.oxc_sourcemap_lookup.specs.Lookup.{first, greatest, least, in_column, not_past}
 use Rattle.oxc_sourcemap_lookup.specs.Lookup.{not_before, at, at_or_after, pick, clamped_at}
 use Rattle.oxc_sourcemap_lookup.specs.Lookup.{on_line as lookup_line}
-use Rattle.oxc_sourcemap_lookup.specs.Trace.{trace, original_in}
+use Rattle.oxc_sourcemap_lookup.specs.Trace.{original_in}
 use Rattle.oxc_sourcemap_lookup.proofs.Traces.{token_traced}
 use Rattle.oxc_sourcemap_steps.specs.Simple.{are_together}
 use Rattle.oxc_sourcemap_map.specs.Reverse.{is_source, is_into, is_at, source_column, generated_at}
 use Rattle.oxc_sourcemap_map.specs.Reverse.{generated_for, generated_from, all_beside, pointing_to}
-use Rattle.oxc_sourcemap_map.specs.RoundTrips.{HaveDistinctPositions, tokens_at, IsFirstThere}
+use Rattle.oxc_sourcemap_map.specs.RoundTrips.{tokens_at, IsFirstThere}
 use Rattle.oxc_sourcemap_map.specs.RoundTrips.{position_in_source, TracesBack, HoldsOfFound}
 use Rattle.oxc_sourcemap_map.specs.RoundTrips.{FoundTracesBack, FirstTracesBack, IsFoundAgain}
 use Rattle.oxc_sourcemap_map.specs.RoundTrips.{TracedIsFound}
@@ -121,7 +121,10 @@ points-there r source line t e =
 
 first-back : (r : MapRecord) (source line : ℕ) (t : TokenRecord) → is_into source line t ≡ true → IsFirstThere r.tokens t → TracesBack r source line t.src_col t
 first-back r source line t e h =
-    sym (token_traced r t.dst_line t.dst_col) ∙ ap (option_map (original_in r)) (first-picked r.tokens t h) ∙ ap (λ o. Some o) (points-there r source line t e)
+    let found = first-picked r.tokens t h in record {
+      found = found;
+      traced = sym (token_traced r t.dst_line t.dst_col) ∙ ap (option_map (original_in r)) found ∙ ap (λ o. Some o) (points-there r source line t e);
+    }
 
 pub first_traces_back : FirstTracesBack
 first_traces_back r source line =

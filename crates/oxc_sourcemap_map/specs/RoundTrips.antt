@@ -29,9 +29,11 @@ abbrev pub position_in_source : MapRecord → ℕ → ℕ → ℕ → Option Tex
 position_in_source r source line col name =
     option_map (λ s. record { source = s; src_line = line; src_col = col; name = name }) (slice_get (decoded_map_of r).sources source)
 
--- The trace at the generated position of a token is this line and column of the source with this id, with the name of the token.
-abbrev pub TracesBack : MapRecord → ℕ → ℕ → ℕ → TokenRecord → Type 0
-TracesBack r source line col t = trace (decoded_map_of r) t.dst_line t.dst_col ≡ Some (position_in_source r source line col (name_of r.names t))
+-- The lookup of the generated position of a token finds this token, and the trace there is this line and column of the source with
+-- this id, with the name of the token.
+pub record TracesBack (r : MapRecord) (source line col : ℕ) (t : TokenRecord) : Type 0 where
+  pub found : token_for r.tokens t.dst_line t.dst_col ≡ Some t
+  pub traced : trace (decoded_map_of r) t.dst_line t.dst_col ≡ Some (position_in_source r source line col (name_of r.names t))
 
 -- A statement on a source column and a token holds of each token that a reverse lookup of a line finds, and the column where it
 -- finds it: the one that was asked (`at`), or the nearest one that has a token.
@@ -43,8 +45,7 @@ pub record HoldsOfFound (tokens : List TokenRecord) (source line : ℕ) (Holds :
   pub all_after : (col : ℕ) → AllByRecursion (λ t. Holds t.src_col t) (all_generated_from source line col tokens)
   pub on_line : AllByRecursion (λ t. Holds t.src_col t) (pointing_to source line tokens)
 
--- Where generated positions are distinct, the trace at the generated position of each token that is found leads back to where it
--- was found.
+-- Where generated positions are distinct, each token that is found traces back to where it was found.
 abbrev pub FoundTracesBack : Type 0
 FoundTracesBack = (r : MapRecord) (source line : ℕ) → HaveDistinctPositions r.tokens
     → HoldsOfFound r.tokens source line (λ col t. TracesBack r source line col t)

@@ -1,6 +1,8 @@
 -- Which inputs a remapping needs, and in which order.
-use Rattle.std.proofs.Common.{◌≡◌, refl, sym, ap, ◌∙◌, ℕ, zero, suc, ◌+◌, Bool, true, false, cond, ◌||◌}
-use Rattle.std.proofs.Common.{List, [], ◌∷◌, ◌++◌, map, filter, length, take, Option, Some, None, Ok, Err, arith, if◌then◌else◌}
+use Rattle.std.proofs.Common.{◌≡◌, refl, sym, ap, ◌∙◌, ℕ, zero, suc, ◌+◌, Bool, true, false, cond}
+use Rattle.std.proofs.Common.{◌||◌}
+use Rattle.std.proofs.Common.{List, [], ◌∷◌, ◌++◌, map, filter, length, take, Option, Some, None}
+use Rattle.std.proofs.Common.{Ok, Err, arith, if◌then◌else◌}
 use Rattle.std.specs.List.{slice_get, flat_map, list_any, position_from, AllByRecursion, Contains}
 use Rattle.std.specs.List.Sorted.{IsPermutation}
 use Rattle.std.specs.Option.{IfSome, option_map, option_and_then}
@@ -8,7 +10,8 @@ use Rattle.std.specs.Str.{bytes_eq}
 use Rattle.std.proofs.lemmas.Slice.Eq.{bytes_eq-Decides}
 use Rattle.std.proofs.lemmas.List.Elements.{recursion_from_All, All-from_recursion}
 use Rattle.std.proofs.lemmas.List.Elements.{All-contains}
-use Rattle.std.proofs.lemmas.List.Sorted.{IsPermutation-map, IsPermutation-sym, Contains-permutation}
+use Rattle.std.proofs.lemmas.List.Sorted.{IsPermutation-map, IsPermutation-sym}
+use Rattle.std.proofs.lemmas.List.Sorted.{Contains-permutation}
 use Rattle.std.proofs.lemmas.List.Sorted.{All-permutation, list_any-IsPermutation}
 use Rattle.std.proofs.lemmas.Map.Keys.{IsDistinct-IsPermutation, IsDistinct-head, IsDistinct-tail}
 use Rattle.oxc_sourcemap_tokens.specs.declared.errors.error.Error.TheVariants.{TooLarge}
@@ -25,7 +28,8 @@ use Rattle.oxc_sourcemap_steps.specs.Inputs.{NoInputColumnGoesBack}
 use Rattle.oxc_sourcemap_steps.specs.Remapped.{listed_sources, source_of, input_of, target_by}
 use Rattle.oxc_sourcemap_steps.specs.Remapped.{remap_targets, original_by, block_start}
 use Rattle.oxc_sourcemap_steps.specs.Remapped.{original_at, original, needed_names, token_to}
-use Rattle.oxc_sourcemap_steps.specs.Remapped.{remapped_token, remapped_names, remapped_by, remapped}
+use Rattle.oxc_sourcemap_steps.specs.Remapped.{remapped_token, remapped_names, remapped_by}
+use Rattle.oxc_sourcemap_steps.specs.Remapped.{remapped}
 use Rattle.oxc_sourcemap_steps.specs.Remapped.{has_few, remapping}
 use Rattle.oxc_sourcemap_steps.proofs.InputPlaces.{input_for-map}
 use Rattle.oxc_sourcemap_steps.proofs.Means.{unmapped}

@@ -1,5 +1,6 @@
 -- What is left of the names and the sources of a simplified map is needed.
-use Rattle.std.proofs.Common.{◌≡◌, ◌⊎◌, inl, inr, refl, sym, ap, ◌∙◌, subst, ℕ, Bool, true, false, cond}
+use Rattle.std.proofs.Common.{◌≡◌, ◌⊎◌, inl, inr, refl, sym, ap, ◌∙◌, subst, ℕ, Bool, true, false}
+use Rattle.std.proofs.Common.{cond}
 use Rattle.std.proofs.Common.{◌&&◌, List, [], ◌∷◌, ◌++◌, map, Option, Some, None}
 use Rattle.std.specs.Bool.{beq, Decides}
 use Rattle.std.specs.Cmp.{IsEquivalence}
@@ -20,8 +21,10 @@ use Rattle.oxc_sourcemap_parts.specs.Texts.{index_of, with_text_at, with_text, w
 use Rattle.oxc_sourcemap_lookup.specs.Trace.{original_in}
 use Rattle.oxc_sourcemap_steps.specs.Blocks.{marked_from}
 use Rattle.oxc_sourcemap_steps.specs.Same.{is_same_source}
-use Rattle.oxc_sourcemap_steps.specs.Simplified.{is_same_marked, listings, with_source, with_sources}
-use Rattle.oxc_sourcemap_steps.specs.Simplified.{source_in, needed_sources, found_originals, name_in}
+use Rattle.oxc_sourcemap_steps.specs.Simplified.{is_same_marked, listings, with_source}
+use Rattle.oxc_sourcemap_steps.specs.Simplified.{with_sources}
+use Rattle.oxc_sourcemap_steps.specs.Simplified.{source_in, needed_sources, found_originals}
+use Rattle.oxc_sourcemap_steps.specs.Simplified.{name_in}
 use Rattle.oxc_sourcemap_steps.specs.Simplified.{simple_tokens, simple_names, simple_sources_of}
 use Rattle.oxc_sourcemap_steps.specs.Simplified.{marked_source_of, token_among, renumbered}
 use Rattle.oxc_sourcemap_steps.specs.Simplified.{simplified}
@@ -34,7 +37,8 @@ use Rattle.oxc_sourcemap_laws.proofs.SimplifiedWhole.{needs-names, needs-sources
 use Rattle.oxc_sourcemap_laws.proofs.SimplifiedWhole.{marked-new, points, listings_by}
 use Rattle.oxc_sourcemap_laws.specs.SimplifiedWhole.{IsNameOfToken, names_of_tokens, AreNamesNeeded}
 use Rattle.oxc_sourcemap_laws.specs.SimplifiedWhole.{SimplifiedNamesNeeded, marked_in, twin}
-use Rattle.oxc_sourcemap_laws.specs.SimplifiedWhole.{IsSourceOfToken, first_needed, AreSourcesNeeded}
+use Rattle.oxc_sourcemap_laws.specs.SimplifiedWhole.{IsSourceOfToken, first_needed}
+use Rattle.oxc_sourcemap_laws.specs.SimplifiedWhole.{AreSourcesNeeded}
 use Rattle.oxc_sourcemap_laws.specs.SimplifiedWhole.{SimplifiedSourcesNeeded}
 
 -- ---- lists without repeats

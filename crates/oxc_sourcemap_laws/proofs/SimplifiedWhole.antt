@@ -1,6 +1,7 @@
 -- Simplified maps as wholes.
 use Rattle.std.proofs.Common.{◌≡◌, ◌⊎◌, inl, inr, refl, sym, ap, ◌∙◌, subst, ℕ, ◌==◌}
-use Rattle.std.proofs.Common.{Bool, true, false, cond, ◌||◌, List, [], ◌∷◌, ◌++◌, map, filter, length}
+use Rattle.std.proofs.Common.{Bool, true, false, cond, ◌||◌, List, [], ◌∷◌, ◌++◌, map, filter}
+use Rattle.std.proofs.Common.{length}
 use Rattle.std.proofs.Common.{Option, Some, None, Ok, Err, arith, if◌then◌else◌}
 use Rattle.std.specs.List.{slice_get, filter_map, flat_map, list_any, AllByRecursion}
 use Rattle.std.specs.Option.{option_and_then}
@@ -8,7 +9,8 @@ use Rattle.std.proofs.lemmas.Bool.{and_parts}
 use Rattle.std.proofs.lemmas.List.{length-map}
 use Rattle.std.proofs.lemmas.List.Folds.{list_any-append}
 use Rattle.oxc_sourcemap_tokens.specs.declared.errors.error.Error.TheVariants.{TooLarge}
-use Rattle.oxc_sourcemap_tokens.specs.declared.errors.plan_error.PlanError.TheVariants.{Map, Unsorted}
+use Rattle.oxc_sourcemap_tokens.specs.declared.errors.plan_error.PlanError.TheVariants.{Map}
+use Rattle.oxc_sourcemap_tokens.specs.declared.errors.plan_error.PlanError.TheVariants.{Unsorted}
 use Rattle.oxc_sourcemap_tokens.specs.Token.{TokenRecord}
 use Rattle.oxc_sourcemap_parts.specs.DecodedMap.{DecodedSource, OriginalPosition, DecodedMapping}
 use Rattle.oxc_sourcemap_parts.specs.DecodedMap.{sources_of, name_of, mapping_of}
@@ -33,7 +35,8 @@ use Rattle.oxc_sourcemap_steps.specs.Simplified.{renumbered, simplified, fits, s
 use Rattle.oxc_sourcemap_steps.proofs.Means.{decoded_map_simplified, means-simple, IsReady, Placed}
 use Rattle.oxc_sourcemap_steps.proofs.Means.{all-ready, sources-again, map-as, map-after}
 use Rattle.oxc_sourcemap_steps.proofs.NeededNames.{name-back}
-use Rattle.oxc_sourcemap_steps.proofs.NeededPlaces.{named-cons-of, with-source-has, is-listed, at-in}
+use Rattle.oxc_sourcemap_steps.proofs.NeededPlaces.{named-cons-of, with-source-has, is-listed}
+use Rattle.oxc_sourcemap_steps.proofs.NeededPlaces.{at-in}
 use Rattle.oxc_sourcemap_steps.proofs.NeededPlaces.{decides_marked}
 use Rattle.oxc_sourcemap_steps.proofs.Order.{found-length, found-all, keep-length, keep-all}
 use Rattle.oxc_sourcemap_steps.proofs.Same.{decides_origin, decides_source}

@@ -10,7 +10,8 @@ use Rattle.oxc_sourcemap_parts.specs.Sorted.{are_tokens_sorted}
 use Rattle.oxc_sourcemap_parts.specs.Texts.{with_texts}
 use Rattle.oxc_sourcemap_lookup.specs.Trace.{original_in}
 use Rattle.oxc_sourcemap_steps.specs.Blocks.{marked_sources}
-use Rattle.oxc_sourcemap_steps.specs.Simplified.{is_same_marked, listings, needed_sources, simplified}
+use Rattle.oxc_sourcemap_steps.specs.Simplified.{is_same_marked, listings, needed_sources}
+use Rattle.oxc_sourcemap_steps.specs.Simplified.{simplified}
 use Rattle.oxc_sourcemap_steps.specs.Simplified.{marked_source_of, simplification}
 
 -- ---- again

@@ -1,6 +1,8 @@
 -- Reverse lookups and traces lead back to one another.
-use Rattle.std.proofs.Common.{◌≡◌, ◌≢◌, refl, sym, ap, ◌∙◌, subst, ℕ, zero, suc, Bool, true, false, cond}
-use Rattle.std.proofs.Common.{◌==◌, nat_le, List, [], ◌∷◌, Option, Some, None, IfSome, if◌then◌else◌, arith}
+use Rattle.std.proofs.Common.{◌≡◌, ◌≢◌, refl, sym, ap, ◌∙◌, subst, ℕ, zero, suc, Bool, true, false}
+use Rattle.std.proofs.Common.{cond}
+use Rattle.std.proofs.Common.{◌==◌, nat_le, List, [], ◌∷◌, Option, Some, None, IfSome}
+use Rattle.std.proofs.Common.{if◌then◌else◌, arith}
 use Rattle.std.proofs.lemmas.Bool.Decides.{nat_tests}
 use Rattle.std.proofs.lemmas.List.Elements.{All-contains, All-from_recursion, recursion_from_All}
 use Rattle.std.proofs.lemmas.List.Elements.{All-contains_itself}

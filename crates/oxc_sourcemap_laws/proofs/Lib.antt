@@ -37,3 +37,4 @@ mod TracesWorked
 mod WorkedRemaps
 mod Worked
 mod WorkedTexts
+mod WorkedWholes

@@ -2,7 +2,7 @@
 use Rattle.std.proofs.Common.{◌≡◌, refl, sym, ap, ◌∙◌, ℕ, zero, suc, ◌+◌, Bool, true, false, cond}
 use Rattle.std.proofs.Common.{◌||◌}
 use Rattle.std.proofs.Common.{List, [], ◌∷◌, ◌++◌, map, filter, length, take, Option, Some, None}
-use Rattle.std.proofs.Common.{Ok, Err, arith, if◌then◌else◌}
+use Rattle.std.proofs.Common.{Result, Ok, Err, arith, if◌then◌else◌}
 use Rattle.std.specs.List.{slice_get, flat_map, list_any, position_from, AllByRecursion, Contains}
 use Rattle.std.specs.List.Sorted.{IsPermutation}
 use Rattle.std.specs.Option.{IfSome, option_map, option_and_then}
@@ -15,6 +15,7 @@ use Rattle.std.proofs.lemmas.List.Sorted.{Contains-permutation}
 use Rattle.std.proofs.lemmas.List.Sorted.{All-permutation, list_any-IsPermutation}
 use Rattle.std.proofs.lemmas.Map.Keys.{IsDistinct-IsPermutation, IsDistinct-head, IsDistinct-tail}
 use Rattle.oxc_sourcemap_tokens.specs.declared.errors.error.Error.TheVariants.{TooLarge}
+use Rattle.oxc_sourcemap_tokens.specs.declared.errors.error.Error.{Error}
 use Rattle.oxc_sourcemap_tokens.specs.Errors.{unless}
 use Rattle.oxc_sourcemap_tokens.specs.Token.{TokenRecord}
 use Rattle.oxc_sourcemap_parts.specs.DecodedMap.{DecodedSource, sources_of, decoded_map_of}
@@ -33,6 +34,7 @@ use Rattle.oxc_sourcemap_steps.specs.Remapped.{remapped}
 use Rattle.oxc_sourcemap_steps.specs.Remapped.{has_few, remapping}
 use Rattle.oxc_sourcemap_steps.proofs.InputPlaces.{input_for-map}
 use Rattle.oxc_sourcemap_steps.proofs.Means.{unmapped}
+use Rattle.oxc_sourcemap_laws.specs.InputLaws.{RemapsAlike}
 use Rattle.oxc_sourcemap_laws.specs.InputLaws.{input_paths, AreForDistinctPaths, is_for_source}
 use Rattle.oxc_sourcemap_laws.specs.InputLaws.{inputs_for_sources, HaveSameFirstInputs}
 use Rattle.oxc_sourcemap_laws.specs.InputLaws.{FirstInputsCount, InputsMayBePermuted}
@@ -187,6 +189,22 @@ results a bs cs e f g =
     let whole : MapRecord → _ = λ m. if has_few m then Ok m else Err TooLarge in
     ap (λ o. unless o (whole (remapped a bs))) f ∙ ap whole e ∙ sym (ap (λ o. unless o (whole (remapped a cs))) g)
 
+-- a result that is a map tells that no input has a fault
+made-by : (o : Option Error) (q : Result MapRecord Error) (m : MapRecord) → unless o q ≡ Ok m → o ≡ None
+made-by None q m e = refl
+made-by (Some fault) q m e = absurd (cc (e))
+
+alike : (a : MapRecord) (bs cs : List (Text × MapRecord)) → HaveSameFirstInputs a bs cs → (inputs_fault bs ≡ None → inputs_fault cs ≡ None) → (NoInputColumnGoesBack bs → NoInputColumnGoesBack cs) → RemapsAlike a bs cs
+alike a bs cs h fault on =
+    let same = first_inputs_count a bs cs h in
+    let result : inputs_fault bs ≡ None → remapping a bs ≡ remapping a cs = λ f. results a bs cs same f (fault f) in record {
+      map = same;
+      fault = fault;
+      result = result;
+      made = λ m e. sym (result (made-by (inputs_fault bs) _ m e)) ∙ e;
+      goes_on = on;
+    }
+
 -- ---- permutations
 exact : (x y : Text) → bytes_eq x y ≡ true → x ≡ y
 exact x y e = (bytes_eq-Decides x y).0 e
@@ -260,12 +278,15 @@ goes-on bs cs p h =
     let P : Text × MapRecord → Type 0 = λ input. NoColumnGoesBack input.1.tokens in
     recursion_from_All P cs (All-permutation P bs cs p (All-from_recursion P bs h))
 
+alike-by : (a : MapRecord) (bs cs : List (Text × MapRecord)) → HaveSameFirstInputs a bs cs → list_any goes_back bs ≡ list_any goes_back cs → IsPermutation bs cs → RemapsAlike a bs cs
+alike-by a bs cs h e p = alike a bs cs h (λ f. no-fault cs (sym e ∙ from-fault bs f)) (goes-on bs cs p)
+
 pub inputs_may_be_permuted : InputsMayBePermuted
 inputs_may_be_permuted a bs cs d p =
-    let same = first_inputs_count a bs cs (all-of _ (same-input bs cs p d) a.sources) in
-    let there : inputs_fault bs ≡ None → inputs_fault cs ≡ None = λ f. no-fault cs (sym (same-fault bs cs p d) ∙ from-fault bs f) in
-    let here : inputs_fault cs ≡ None → inputs_fault bs ≡ None = λ f. no-fault bs (same-fault bs cs p d ∙ from-fault cs f) in
-    (record { map = same; result = λ f. results a bs cs same f (there f) }, (there, here), (goes-on bs cs p, goes-on cs bs (IsPermutation-sym bs cs p)))
+    let e = same-fault bs cs p d in (
+      alike-by a bs cs (all-of _ (same-input bs cs p d) a.sources) e p,
+      alike-by a cs bs (all-of _ (λ path. sym (same-input bs cs p d path)) a.sources) (sym e) (IsPermutation-sym bs cs p),
+    )
 
 -- ---- inputs for no source
 kept-input : (test : Text × MapRecord → Bool) (path : Text) → ((i : Text × MapRecord) → bytes_eq path i.0 ≡ true → test i ≡ true) → (inputs : List (Text × MapRecord)) → input_for inputs path ≡ input_for (filter test inputs) path
@@ -308,9 +329,17 @@ none-kept p test (x ∷ xs) e =
       ])
     ] refl e
 
+kept-go-on : (test : Text × MapRecord → Bool) (inputs : List (Text × MapRecord)) → NoInputColumnGoesBack inputs → NoInputColumnGoesBack (filter test inputs)
+kept-go-on test [] h = tt
+kept-go-on test (i ∷ is) h =
+    let more = kept-go-on test is h.1 in
+    elim (test i) as (λ b. NoInputColumnGoesBack (cond b (i ∷ filter test is) (filter test is))) [
+      | true ↦ (h.0, more)
+      | false ↦ more
+    ]
+
 pub inputs_may_be_left_out : InputsMayBeLeftOut
 inputs_may_be_left_out a inputs =
     let few = inputs_for_sources a inputs in
     let h : HaveSameFirstInputs a inputs few = all-weaker (IsAmong a.sources) _ (λ path among. kept-input (is_for_source a) path (λ i e. among i.0 e) inputs) a.sources (all-among a.sources) in
-    let same = first_inputs_count a inputs few h in
-    record { map = same; result = λ f. results a inputs few same f (no-fault few (none-kept goes_back (is_for_source a) inputs (from-fault inputs f))) }
+    alike a inputs few h (λ f. no-fault few (none-kept goes_back (is_for_source a) inputs (from-fault inputs f))) (kept-go-on (is_for_source a) inputs)

@@ -40,6 +40,8 @@ use Rattle.oxc_sourcemap_laws.specs.SimplifiedWhole.{SimplifiedNamesNeeded, mark
 use Rattle.oxc_sourcemap_laws.specs.SimplifiedWhole.{IsSourceOfToken, first_needed}
 use Rattle.oxc_sourcemap_laws.specs.SimplifiedWhole.{AreSourcesNeeded}
 use Rattle.oxc_sourcemap_laws.specs.SimplifiedWhole.{SimplifiedSourcesNeeded}
+use Rattle.oxc_sourcemap_laws.specs.SimplifiedWhole.{SimplificationNeeded}
+use Rattle.oxc_sourcemap_laws.proofs.SimplifiedWhole.{simplified-by}
 
 -- ---- lists without repeats
 none-distinct : {A : Type 0} (same : A → A → Bool) → IsDistinct same []
@@ -260,3 +262,6 @@ module _ (r : MapRecord) where
 
 pub simplified_sources_needed : SimplifiedSourcesNeeded
 simplified_sources_needed r = sources-needed r
+
+pub simplification_needed : SimplificationNeeded
+simplification_needed r m e = subst (λ m. AreNamesNeeded m × AreSourcesNeeded m) (simplified-by r m e).2 (names-needed r, sources-needed r)

@@ -69,3 +69,7 @@ pub record AreSourcesNeeded (m : MapRecord) : Type 0 where
 -- The sources of a simplified map are needed, whether or not the map is sorted.
 abbrev pub SimplifiedSourcesNeeded : Type 0
 SimplifiedSourcesNeeded = (r : MapRecord) → AreSourcesNeeded (simplified r)
+
+-- So are those of each map that simplifying makes.
+abbrev pub SimplificationNeeded : Type 0
+SimplificationNeeded = (r m : MapRecord) → simplification r ≡ Ok m → AreNamesNeeded m × AreSourcesNeeded m

@@ -50,6 +50,7 @@ pub use Rattle.oxc_sourcemap_laws.specs.InputLaws.{FirstInputsCount, InputsMayBe
 pub use Rattle.oxc_sourcemap_laws.specs.InputLaws.{InputsMayBeLeftOut}
 pub use Rattle.oxc_sourcemap_laws.specs.SimplifiedWhole.{SimplifyingAgain, SimplificationAgain}
 pub use Rattle.oxc_sourcemap_laws.specs.SimplifiedWhole.{SimplifiedNamesNeeded}
+pub use Rattle.oxc_sourcemap_laws.specs.SimplifiedWhole.{SimplificationNeeded}
 pub use Rattle.oxc_sourcemap_laws.specs.SimplifiedWhole.{SimplifiedSourcesNeeded}
 pub use Rattle.oxc_sourcemap_laws.specs.DifferenceLaws.{SimplifiedTracesSame}
 pub use Rattle.oxc_sourcemap_laws.specs.DifferenceLaws.{SimplifiedDoesNotDiffer, SimplifiedToAsMany}

@@ -4,9 +4,9 @@ ghost use Rattle.oxc_sourcemap_laws.specs.Words.{InputsMayBeLeftOut};
 
 /// The inputs of a remapping count by their paths alone.
 /// - Of inputs only the first for the path of each source counts (`first`).
-/// - So inputs for distinct paths may be permuted: the remapped map is the same in every field, and so is the result if no input
-///   has a fault. In either order one has a fault, or in neither (`permuted`).
-/// - Inputs for no source may be left out in the same way (`left_out`). But a fault of one of them is reported.
+/// - So inputs for distinct paths may be permuted: the remapped map is the same in every field, and if no input has a fault, so is
+///   the result of `remap`. In either order one has a fault, or in neither (`permuted`).
+/// - In the same way inputs that are for no source may be left out (`left_out`). But a fault of one of them is reported.
 ///
 /// ```rust
 /// use oxc_sourcemap::SourceMap;

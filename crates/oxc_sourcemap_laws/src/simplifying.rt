@@ -2,7 +2,7 @@
 ghost use Rattle.oxc_sourcemap_laws.specs.Words.{SimplifyingAgain, SimplificationAgain};
 ghost use Rattle.oxc_sourcemap_laws.specs.Words.{SimplifiedNamesNeeded, SimplifiedSourcesNeeded};
 ghost use Rattle.oxc_sourcemap_laws.specs.Words.{SimplifiedTracesSame, SimplifiedDoesNotDiffer};
-ghost use Rattle.oxc_sourcemap_laws.specs.Words.{SimplifiedToAsMany};
+ghost use Rattle.oxc_sourcemap_laws.specs.Words.{SimplifiedToAsMany, SimplificationNeeded};
 
 /// Simplifying a second time changes nothing.
 /// - A sorted map that was simplified stays the same in every field (`again`).
@@ -28,6 +28,7 @@ pub fn simplifying_idempotent()
 /// - The sources differ in path, content or in whether they are ignored. Each is that of a token, or its twin is: the source of
 ///   the same path and content of which one is ignored and the other not. They are in the order in which tokens need them
 ///   first; of twins the one that is not ignored stands first, and right behind it the other (`sources`).
+/// - Both hold whether or not the map is sorted, and so of what `simplify` makes (`result`).
 ///
 /// ```rust
 /// use oxc_sourcemap::SourceMap;
@@ -42,6 +43,7 @@ pub fn simplifying_idempotent()
 pub fn simplified_needed()
     ensures names { SimplifiedNamesNeeded }
     ensures sources { SimplifiedSourcesNeeded }
+    ensures result { SimplificationNeeded }
 {}
 
 /// No trace tells a map from the simplified one.

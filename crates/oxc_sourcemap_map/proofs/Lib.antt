@@ -10,6 +10,7 @@ pub mod Passing
 pub mod LeadBack
 pub mod RoundTrips
 mod ReverseWorked
+mod RoundTripsWorked
 pub mod GivenIds
 pub mod NameIds
 mod BuildersWorked

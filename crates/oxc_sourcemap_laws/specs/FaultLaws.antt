@@ -10,7 +10,7 @@ use Rattle.oxc_sourcemap_mappings.specs.Faults.{counts_of}
 use Rattle.oxc_sourcemap_mappings.specs.Reading.{text_results, reading}
 use Rattle.oxc_sourcemap_mappings.specs.SegmentPlaces.{text_start, places_from, fault_place}
 
--- what each segment of a text gives, in order: its token or its error
+-- what each segment of a text gives, in order: its token or its error; the `;` that begins line 4294967296 counts as one
 abbrev pub segment_results : List ℕ → ℕ → ℕ → List (Result TokenRecord Error)
 segment_results text names sources = text_results (counts_of names sources) 0 nothing_before (lines text)
 

@@ -2,7 +2,8 @@
 ghost use Rattle.oxc_sourcemap_laws.specs.Words.{FaultIsThere};
 
 /// The place that `mappings_fault_at` tells is that of the segment whose error `decode_mappings` returns: the segment that
-/// begins there gives this error, and each segment before it gives a token.
+/// begins there gives this error, and each segment before it gives a token. (`TooLarge` has no segment, but the `;` that begins
+/// line 4294967296.)
 ///
 /// ```rust
 /// use oxc_sourcemap::{Error, decode_mappings, mappings_fault_at};

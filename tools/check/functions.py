@@ -99,7 +99,7 @@ def types_of(folder):
 
 def has_body(lines, at):
     """Whether the function that begins at a line has a body. One that a trait declares has none, and ends in a semicolon."""
-    return next((line.endswith("{") for line in lines[at:] if line.endswith(("{", ";"))), True)
+    return next((not line.endswith(";") for line in lines[at:] if line.endswith(("{", "{}", ";"))), True)
 
 
 def functions(path, text, types):

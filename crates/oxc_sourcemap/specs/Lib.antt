@@ -69,6 +69,7 @@ pub use Rattle.oxc_sourcemap_map.specs.Changes
 pub use Rattle.oxc_sourcemap_map.specs.Composing
 pub use Rattle.oxc_sourcemap_map.specs.Reverse
 pub use Rattle.oxc_sourcemap_map.specs.ReverseLaws
+pub use Rattle.oxc_sourcemap_map.specs.RoundTrips
 pub use Rattle.oxc_sourcemap_map.specs.Built
 pub use Rattle.oxc_sourcemap_map.specs.Building
 pub use Rattle.oxc_sourcemap_map.specs.NameLaws
@@ -106,6 +107,10 @@ pub use Rattle.oxc_sourcemap_laws.specs.RootLaws
 pub use Rattle.oxc_sourcemap_laws.specs.TraceLaws
 pub use Rattle.oxc_sourcemap_laws.specs.SimplifyTraces
 pub use Rattle.oxc_sourcemap_laws.specs.SimplifiedMaps
+pub use Rattle.oxc_sourcemap_laws.specs.SimplifiedWhole
+pub use Rattle.oxc_sourcemap_laws.specs.DifferenceLaws
+pub use Rattle.oxc_sourcemap_laws.specs.InputLaws
+pub use Rattle.oxc_sourcemap_laws.specs.FaultLaws
 pub use Rattle.oxc_sourcemap_tokens.specs.PlanMessages
 pub use Rattle.oxc_sourcemap_plan.specs.Depth
 pub use Rattle.oxc_sourcemap_plan.specs.Meaning

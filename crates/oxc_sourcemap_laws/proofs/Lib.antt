@@ -28,7 +28,13 @@ pub mod TracesRising
 pub mod TracesJoined
 pub mod TracesSimplified
 pub mod SimplifiedMaps
+pub mod SimplifiedWhole
+pub mod SimplifiedNeeded
+pub mod Differences
+pub mod RemapInputs
+pub mod FaultSegments
 mod TracesWorked
 mod WorkedRemaps
 mod Worked
 mod WorkedTexts
+mod WorkedWholes

@@ -13,4 +13,8 @@ pub mod RootLaws
 pub mod TraceLaws
 pub mod SimplifyTraces
 pub mod SimplifiedMaps
+pub mod SimplifiedWhole
+pub mod DifferenceLaws
+pub mod InputLaws
+pub mod FaultLaws
 pub mod Words

@@ -46,3 +46,12 @@ pub use Rattle.oxc_sourcemap_laws.specs.RootLaws.{RootedDecodedMapsKeep, TracesO
 pub use Rattle.oxc_sourcemap_laws.specs.RootLaws.{RootingKeepsEqualUpToRepeats, RootingIsSound}
 pub use Rattle.oxc_sourcemap_laws.specs.RootLaws.{RootingStandsFor}
 pub use Rattle.oxc_sourcemap_laws.specs.DataUrlLaws.{TextsReadBack, MapsReadBack}
+pub use Rattle.oxc_sourcemap_laws.specs.InputLaws.{FirstInputsCount, InputsMayBePermuted}
+pub use Rattle.oxc_sourcemap_laws.specs.InputLaws.{InputsMayBeLeftOut}
+pub use Rattle.oxc_sourcemap_laws.specs.SimplifiedWhole.{SimplifyingAgain, SimplificationAgain}
+pub use Rattle.oxc_sourcemap_laws.specs.SimplifiedWhole.{SimplifiedNamesNeeded}
+pub use Rattle.oxc_sourcemap_laws.specs.SimplifiedWhole.{SimplificationNeeded}
+pub use Rattle.oxc_sourcemap_laws.specs.SimplifiedWhole.{SimplifiedSourcesNeeded}
+pub use Rattle.oxc_sourcemap_laws.specs.DifferenceLaws.{SimplifiedTracesSame}
+pub use Rattle.oxc_sourcemap_laws.specs.DifferenceLaws.{SimplifiedDoesNotDiffer, SimplifiedToAsMany}
+pub use Rattle.oxc_sourcemap_laws.specs.FaultLaws.{FaultIsThere}

@@ -5,6 +5,9 @@
 #![tactic(auto)]
 
 mod data_urls;
+mod faults;
+mod inputs;
+mod simplifying;
 
 ghost use Rattle.oxc_sourcemap_laws.specs.Words.{CanonicalUnique, ReadsBack, ReadsAgain, InPieces};
 ghost use Rattle.oxc_sourcemap_laws.specs.Words.{ChunkTextsAreAscii, SoundIsWritten};
@@ -51,7 +54,10 @@ ghost use Rattle.oxc_sourcemap_laws.specs.Words.{RootingKeepsEqualUpToRepeats, R
 ghost use Rattle.oxc_sourcemap_laws.specs.Words.{RootingStandsFor};
 
 pub use data_urls::data_urls_read_back;
+pub use faults::mappings_fault_is_first;
+pub use inputs::remap_inputs_by_path;
 pub use oxc_sourcemap_tokens::tokens_in_bounds;
+pub use simplifying::{simplified_differs_nowhere, simplified_needed, simplifying_idempotent};
 
 /// The `mappings` text of a list is unique, and reading undoes writing. Lists are *equal as written* if they differ only in
 /// what texts leave out: the source position and name of unmapped tokens.

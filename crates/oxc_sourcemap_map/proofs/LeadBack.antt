@@ -26,12 +26,12 @@ module _ {A : Type 0} (P : A → Type 0) (p : A → Bool) where
   passing h [] = tt
   passing h (x ∷ xs) = kept-by (p x) x (filter p xs) refl (h x) (passing h xs)
 
-  still : (xs : List A) → AllByRecursion P xs → AllByRecursion P (filter p xs)
+  pub still : (xs : List A) → AllByRecursion P xs → AllByRecursion P (filter p xs)
   still [] all = tt
   still (x ∷ xs) all = kept-by (p x) x (filter p xs) refl (λ e. all.0) (still xs all.1)
 
 module _ {A : Type 0} (P : A → Type 0) where
-  of_first : (xs : List A) → AllByRecursion P xs → IfSome (first xs) P
+  pub of_first : (xs : List A) → AllByRecursion P xs → IfSome (first xs) P
   of_first [] all = tt
   of_first (x ∷ xs) all = all.0
 
@@ -39,10 +39,10 @@ module _ {A : Type 0} (P : A → Type 0) where
   of_last-or o [] h all = h
   of_last-or o (x ∷ xs) h all = of_last-or (Some x) xs all.0 all.1
 
-  of_last : (xs : List A) → AllByRecursion P xs → IfSome (last xs) P
+  pub of_last : (xs : List A) → AllByRecursion P xs → IfSome (last xs) P
   of_last xs all = of_last-or None xs tt all
 
-  of_either : (b : Bool) (o u : Option A) → IfSome o P → IfSome u P → IfSome (if b then o else u) P
+  pub of_either : (b : Bool) (o u : Option A) → IfSome o P → IfSome u P → IfSome (if b then o else u) P
   of_either true o u h k = h
   of_either false o u h k = k
 
@@ -53,14 +53,14 @@ module _ {A : Type 0} (P : A → Type 0) where
 le_from_test : (m n : ℕ) → nat_le m n ≡ true → m ≤ n
 le_from_test m n e = grind (arith, nat_tests, e)
 
-eq_from_test : (m n : ℕ) → (m == n) ≡ true → m ≡ n
+pub eq_from_test : (m n : ℕ) → (m == n) ≡ true → m ≡ n
 eq_from_test m n e = grind (arith, nat_tests, e)
 
-and_first : (b c : Bool) → (b && c) ≡ true → b ≡ true
+pub and_first : (b c : Bool) → (b && c) ≡ true → b ≡ true
 and_first true c e = refl
 and_first false c e = e
 
-and_second : (b c : Bool) → (b && c) ≡ true → c ≡ true
+pub and_second : (b c : Bool) → (b && c) ≡ true → c ≡ true
 and_second true c e = e
 and_second false c e = cc (e)
 

@@ -8,7 +8,9 @@ pub mod Searched
 pub mod Lines
 pub mod Passing
 pub mod LeadBack
+pub mod RoundTrips
 mod ReverseWorked
+mod RoundTripsWorked
 pub mod GivenIds
 pub mod NameIds
 mod BuildersWorked

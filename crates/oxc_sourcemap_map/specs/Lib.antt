@@ -6,6 +6,7 @@ pub mod Reverse
 pub mod Places
 pub mod Orders
 pub mod ReverseLaws
+pub mod RoundTrips
 pub mod Built
 pub mod Building
 pub mod NameLaws

@@ -67,3 +67,4 @@ pub use Rattle.oxc_sourcemap_map.specs.Places.{original_number, token_original, 
 pub use Rattle.oxc_sourcemap_map.specs.Places.{no_token, listed, IsOrderOf, AreBetween}
 pub use Rattle.oxc_sourcemap_map.specs.ReverseLaws.{LookupLeadsBack, FoundAtPlace, FoundOnLine}
 pub use Rattle.oxc_sourcemap_map.specs.ReverseLaws.{FoundBefore, FoundAfter, AllFoundOnLine}
+pub use Rattle.oxc_sourcemap_map.specs.RoundTrips.{FoundTracesBack, FirstTracesBack, TracedIsFound}

@@ -8,5 +8,5 @@ mod sourcemap_visualizer;
 
 pub use builders::{ConcatSourceMapBuilder, SourceMapBuilder, name_ids_unique};
 pub use maps::{OwnedSourceMap, SourceMap, SourceViewToken, ViewTokens, parts_of};
-pub use reverse::{IndexTokens, SourceIndex, SourceOrder, reverse_lookups};
+pub use reverse::{IndexTokens, SourceIndex, SourceOrder, reverse_lookups, reverse_round_trip};
 pub use sourcemap_visualizer::SourcemapVisualizer;

@@ -8,6 +8,6 @@ mod source_index;
 mod source_order;
 
 pub use index_tokens::IndexTokens;
-pub use laws::reverse_lookups;
+pub use laws::{reverse_lookups, reverse_round_trip};
 pub use source_index::SourceIndex;
 pub use source_order::SourceOrder;

@@ -50,7 +50,7 @@ pub enum Plan<'t> {
     Rewrite(Box<Plan<'t>>),
     /// Put the source root of the map of a part before each of its sources; the map has none then.
     ApplyRoot(Box<Plan<'t>>),
-    /// Simplify the map of a part: its traces stay, and tokens, names and sources go that they do not need.
+    /// Simplify the map of a part, as `SourceMap::simplify` does: its traces stay, and what they do not need goes.
     Simplify(Box<Plan<'t>>),
     /// Join the maps of parts, each at the line of the joined code where its code begins, at column 0. Source roots are dropped.
     Join(Vec<(Plan<'t>, u32)>),

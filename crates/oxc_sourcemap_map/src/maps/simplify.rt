@@ -9,8 +9,8 @@ use oxc_sourcemap_tokens::PlanError;
 use std::alloc::Global;
 
 impl<'a> SourceMap<'a> {
-    /// Simplifies this map: all its traces stay, exact and clamped, and tokens, names and sources go that they do not need
-    /// (docs/FORMAT.md, "Simplifying"). Its tokens have to be sorted (`sort`).
+    /// Simplifies this map: all its traces stay, exact and clamped, and tokens, names and sources go that they do not need, but
+    /// for a source that is listed both ignored and not (docs/FORMAT.md, "Simplifying"). Its tokens have to be sorted (`sort`).
     ///
     /// ```rust
     /// use oxc_sourcemap::SourceMap;

@@ -97,7 +97,7 @@ no-text-none : (x : Bor Text × FaultPlace) (o : Option (Bor Text × FaultPlace)
 no-text-none x o is none = cc (sym is ∙ none)
 
 told-by : (w : Bool) (text : Bor Text) (e : Error) (place : Option FaultPlace) (g : PlanFault) → g.error ≡ Map e → g.at ≡ option_map (λ p. (text, p)) place → read_map text.now ≡ Err e
-    → ((d : Data) → read text.now ≡ Some d → value_place d ≡ place) → (read text.now ≡ None → IsSomeAnd place IsReading) → is_some place ≡ true
+    → ((d : Data) → read text.now ≡ Some d → value_place d ≡ place) → (read text.now ≡ None → IsSomeAnd place (IsReading text.now)) → is_some place ≡ true
     → TellsText g × (g.at ≡ None → IsOfNoText w g.error)
 told-by w text e None g error at reads json bad there = absurd (cc (there))
 told-by w text e (Some p) g error at reads json bad there = (

@@ -12,4 +12,5 @@ mod Blocks
 mod LineCuts
 mod Spaces
 mod Placed
+mod Appended
 mod UrlWorked

@@ -22,3 +22,4 @@ pub use Rattle.oxc_sourcemap_text.specs.MappingUrls.{mapping_url, url_known, len
 pub use Rattle.oxc_sourcemap_text.specs.MappingUrls.{IsMappingComment}
 pub use Rattle.oxc_sourcemap_text.specs.Comments.{IsCommentAt, IsKnownAfter, IsPlaced, url_of}
 pub use Rattle.oxc_sourcemap_text.specs.Comments.{second_of}
+pub use Rattle.oxc_sourcemap_text.specs.CommentLaws.{AppendedIsFound}

@@ -17,7 +17,7 @@ use Rattle.oxc_sourcemap_text.specs.declared.url.language.Language.TheVariants.{
 use Rattle.oxc_sourcemap_text.specs.MappingUrls.{pieces, Piece, known_after, url_known, mapping_url, has_line_comments}
 use Rattle.oxc_sourcemap_text.specs.MappingUrls.{around_block_end, begins_with, may_end_another, named_url, is_quote}
 use Rattle.oxc_sourcemap_text.specs.CommentLaws.{with_comment, CanBeNamed}
-use Rattle.oxc_sourcemap_text.proofs.LineCuts.{lines-end, lines-no_end}
+use Rattle.oxc_sourcemap_text.proofs.Cuts.{lines-end, lines-no_end}
 use Rattle.oxc_sourcemap_text.proofs.Pieces.{pieces-nil, pieces-line, pieces-block}
 
 -- ---- lines
@@ -104,7 +104,7 @@ onto-more : (c : ℕ) (front : List ℕ) (parts : Option (List ℕ × List ℕ))
 onto-more c front None = refl
 onto-more c front (Some p) = refl
 
-none-of : (c : ℕ) (parts : Option (List ℕ × List ℕ)) → is_some (option_map (λ p. (c ∷ p.0, p.1)) parts) ≡ false → is_some parts ≡ false
+none-of : (c : ℕ) (parts : Option (List ℕ × List ℕ)) → is_some {T = List ℕ × List ℕ} (option_map (λ p. (c ∷ p.0, p.1)) parts) ≡ false → is_some parts ≡ false
 none-of c None h = refl
 none-of c (Some p) h = cc
 

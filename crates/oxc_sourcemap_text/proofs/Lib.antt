@@ -13,4 +13,5 @@ mod LineCuts
 mod Spaces
 mod Placed
 mod Appended
+mod Last
 mod UrlWorked

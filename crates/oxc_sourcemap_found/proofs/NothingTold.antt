@@ -34,6 +34,7 @@ use Rattle.oxc_sourcemap_found.specs.declared.mending.mend.MendKind.TheVariants.
 use Rattle.oxc_sourcemap_found.specs.declared.mending.mend.MendKind.TheVariants.{ByteOrderMark, JsonPrefix}
 use Rattle.oxc_sourcemap_found.specs.declared.mending.mend.MendKind.TheVariants.{Version, NoSources}
 use Rattle.oxc_sourcemap_found.specs.declared.mending.mend.MendKind.TheVariants.{NullNames}
+use Rattle.oxc_sourcemap_found.specs.declared.mending.mend.MendKind.TheVariants.{SourceIds, NameIds}
 use Rattle.oxc_sourcemap_found.specs.declared.mending.members.Entries.{Entries}
 use Rattle.oxc_sourcemap_found.specs.declared.mending.members.Entries.TheVariants.{Sources}
 use Rattle.oxc_sourcemap_found.specs.declared.mending.members.Entries.TheVariants.{Contents, Ids}
@@ -103,7 +104,7 @@ prefix-none o =
       | false ↦ (λ e. refl)
     ]
 
-url-none : (o : Opened) (data : Option Text) → (behind_url o data).kinds ≡ [] → behind_url o data ≡ o
+url-none : (o : Opened) (inner : Option Text) → (behind_url o inner).kinds ≡ [] → behind_url o inner ≡ o
 url-none o None e = refl
 url-none o (Some text) e = absurd (not-more o.kinds DataUrl e)
 
@@ -216,8 +217,8 @@ exact-ids : (r : MapRecord) → source_kinds r ≡ [] → name_kinds r ≡ [] �
 exact-ids r e f =
     let names = length r.names in
     let sources = length r.sources in
-    let bad_sources = none-counted _ (count_by (has_bad_source sources) r.tokens) e in
-    let bad_names = none-counted _ (count_by (has_bad_name names sources) r.tokens) f in
+    let bad_sources = none-counted SourceIds (count_by (has_bad_source sources) r.tokens) e in
+    let bad_names = none-counted NameIds (count_by (has_bad_name names sources) r.tokens) f in
     record {
       same = ap (λ ts. record r { tokens = ts }) (none-bad names sources r.tokens bad_sources bad_names);
       within = none-past names sources r.tokens bad_sources bad_names;
@@ -273,10 +274,10 @@ put-by : (b : Bool) (p place : Position) (e : Error) → cond b (Ok p) (Err e) �
 put-by true p place e h = (refl, same-ok p place h)
 put-by false p place e h = cc
 
-put : (before : Option Position) (number : ℕ) (d : Data) (place : Position) → offset_from before number d ≡ Ok place → IsPut before d place
-put before number d place e =
-    let p = step (offset_in d) (in_order_after before number) place e in
-    let b = put-by (may_follow before p.value) p.value place (SectionOrder number) p.later in
+put : (before : Option Position) (k : ℕ) (d : Data) (place : Position) → offset_from before k d ≡ Ok place → IsPut before d place
+put before k d place e =
+    let p = step (offset_in d) (in_order_after before k) place e in
+    let b = put-by (may_follow before p.value) p.value place (SectionOrder k) p.later in
     record { is = p.first ∙ ap (λ q. Ok q) b.1; follows = subst (λ q. may_follow before q ≡ true) b.1 b.0 }
 
 -- a section that was read
@@ -284,27 +285,27 @@ record IsTaken (before : Option Position) (d : Data) (s : MendedSection) : Type 
   at : IsPut before d s.1
   map : map_from d ≡ Ok s.0
 
-taken : (before : Option Position) (number : ℕ) (d : Data) (s : MendedSection) → section_from before number d ≡ Ok s → IsTaken before d s
-taken before number d s e =
-    let p = step (offset_from before number d) (λ place. map_from d >>= (λ m. Ok (m, place))) s e in
+taken : (before : Option Position) (k : ℕ) (d : Data) (s : MendedSection) → section_from before k d ≡ Ok s → IsTaken before d s
+taken before k d s e =
+    let p = step (offset_from before k d) (λ place. map_from d >>= (λ m. Ok (m, place))) s e in
     let m = step (map_from d) (λ m. Ok (m, p.value)) s p.later in
     let is : (m.value, p.value) ≡ s = same-ok (m.value, p.value) s m.later in
-    subst (λ (q : MendedSection). IsTaken before d q) is (record { at = put before number d p.value p.first; map = m.first })
+    subst (λ (q : MendedSection). IsTaken before d q) is (record { at = put before k d p.value p.first; map = m.first })
 
 -- the first section and the others
-record IsFirst (before : Option Position) (number : ℕ) (d : Data) (ds : Items) (ss : List MendedSection) : Type 0 where
+record IsFirst (before : Option Position) (k : ℕ) (d : Data) (ds : Items) (ss : List MendedSection) : Type 0 where
   one : MendedSection
   rest : List MendedSection
   is : one ∷ rest ≡ ss
   first : IsTaken before d one
-  more : sections_from (Some one.1) (number + 1) ds ≡ Ok rest
+  more : sections_from (Some one.1) (k + 1) ds ≡ Ok rest
 
-first-of : (before : Option Position) (number : ℕ) (d : Data) (ds : Items) (ss : List MendedSection) → sections_from before number (item d ds) ≡ Ok ss
-    → IsFirst before number d ds ss
-first-of before number d ds ss e =
-    let s = step (section_from before number d) (λ s. sections_from (Some s.1) (number + 1) ds >>= (λ ss. Ok (s ∷ ss))) ss e in
-    let more = step (sections_from (Some s.value.1) (number + 1) ds) (λ ss. Ok (s.value ∷ ss)) ss s.later in
-    record { one = s.value; rest = more.value; is = same-ok (s.value ∷ more.value) ss more.later; first = taken before number d s.value s.first; more = more.first }
+first-of : (before : Option Position) (k : ℕ) (d : Data) (ds : Items) (ss : List MendedSection) → sections_from before k (item d ds) ≡ Ok ss
+    → IsFirst before k d ds ss
+first-of before k d ds ss e =
+    let s = step (section_from before k d) (λ s. sections_from (Some s.1) (k + 1) ds >>= (λ ss. Ok (s ∷ ss))) ss e in
+    let more = step (sections_from (Some s.value.1) (k + 1) ds) (λ ss. Ok (s.value ∷ ss)) ss s.later in
+    record { one = s.value; rest = more.value; is = same-ok (s.value ∷ more.value) ss more.later; first = taken before k d s.value s.first; more = more.first }
 
 -- ---- a section may begin behind the tokens in front of it
 
@@ -360,12 +361,12 @@ uncut (Some next) s e =
       | false ↦ (λ h. record { map = rw h refl; whole = λ place is. let same : next ≡ place = cc in subst (λ p. reaches_into p s.1 s.0.map.tokens ≡ false) same h })
     ] refl
 
-next-in_front : (front : List Placed) (s : MendedSection) (ds : Items) (number : ℕ) (ss : List MendedSection) → sections_from (Some s.1) number ds ≡ Ok ss
+next-in_front : (front : List Placed) (s : MendedSection) (ds : Items) (k : ℕ) (ss : List MendedSection) → sections_from (Some s.1) k ds ≡ Ok ss
     → may_follow (last (token_positions front)) s.1 ≡ true → IsUncut (next_place ss) s → AreInFront (front ++ (s.0.map, s.1) ∷ []) ss
-next-in_front front s ds number [] e h u = tt
-next-in_front front s no_items number (t ∷ ss) e h u = let no : [] ≡ t ∷ ss = same-ok _ _ e in cc
-next-in_front front s (item d ds) number (t ∷ ss) e h u =
-    let f = first-of (Some s.1) number d ds (t ∷ ss) e in
+next-in_front front s ds k [] e h u = tt
+next-in_front front s no_items k (t ∷ ss) e h u = let no : [] ≡ t ∷ ss = same-ok _ _ e in cc
+next-in_front front s (item d ds) k (t ∷ ss) e h u =
+    let f = first-of (Some s.1) k d ds (t ∷ ss) e in
     let same : f.one ≡ t = cc in
     let follows : may_follow (Some s.1) t.1 ≡ true = subst (λ (q : MendedSection). may_follow (Some s.1) q.1 ≡ true) same f.first.at.follows in
     ap (λ o. may_follow o t.1) (last-positions front (s.0.map, s.1))
@@ -389,29 +390,29 @@ after-by : (front : List Placed) (d : Data) (place : Position) (m : MapRecord) �
     → may_follow (last (token_positions front)) place ≡ true → section_map d ≡ Ok m → section_after front d ≡ Ok (m, place)
 after-by front d place m at follows behind map = rw (at, follows, behind, map) refl
 
-sections-exact : (front : List Placed) (before : Option Position) (number : ℕ) (items : Items) (ss : List MendedSection) → sections_from before number items ≡ Ok ss
-    → section_mends number ss ≡ [] → before ≡ option_map (λ s. s.1) (last front) → AreInFront front ss → AreExact front items ss
-sections-exact front before number no_items ss e none b fits =
+sections-exact : (front : List Placed) (before : Option Position) (k : ℕ) (items : Items) (ss : List MendedSection) → sections_from before k items ≡ Ok ss
+    → section_mends k ss ≡ [] → before ≡ option_map (λ s. s.1) (last front) → AreInFront front ss → AreExact front items ss
+sections-exact front before k no_items ss e none b fits =
     let is : [] ≡ ss = same-ok [] ss e in
     subst (λ ss. AreExact front no_items ss) is (record { read = ap (λ maps. fault_free maps) (sym (append-nil front)) })
-sections-exact front before number (item d ds) [] e none b fits =
-    let f = first-of before number d ds [] e in
+sections-exact front before k (item d ds) [] e none b fits =
+    let f = first-of before k d ds [] e in
     let no = f.is in cc
-sections-exact front before number (item d ds) (t ∷ ss) e none b fits =
-    let f = first-of before number d ds (t ∷ ss) e in
+sections-exact front before k (item d ds) (t ∷ ss) e none b fits =
+    let f = first-of before k d ds (t ∷ ss) e in
     let here : f.one ≡ t = cc in
     let later : f.rest ≡ ss = cc in
     let first : IsTaken before d t = subst (λ (q : MendedSection). IsTaken before d q) here f.first in
-    let rest : sections_from (Some t.1) (number + 1) ds ≡ Ok ss =
-    subst (λ (q : List MendedSection). sections_from (Some t.1) (number + 1) ds ≡ Ok q) later (subst (λ (q : MendedSection). sections_from (Some q.1) (number + 1) ds ≡ Ok f.rest) here f.more) in
-    let told = nothing-in (mends_in (Some number) (t.0.kinds ++ cut_kinds (next_place ss) t.1 t.0.map)) (section_mends (number + 1) ss) none in
-    let kinds = nothing-in t.0.kinds (cut_kinds (next_place ss) t.1 t.0.map) (no-kinds (Some number) _ told.0) in
+    let rest : sections_from (Some t.1) (k + 1) ds ≡ Ok ss =
+    subst (λ (q : List MendedSection). sections_from (Some t.1) (k + 1) ds ≡ Ok q) later (subst (λ (q : MendedSection). sections_from (Some q.1) (k + 1) ds ≡ Ok f.rest) here f.more) in
+    let told = nothing-in (mends_in (Some k) (t.0.kinds ++ cut_kinds (next_place ss) t.1 t.0.map)) (section_mends (k + 1) ss) none in
+    let kinds = nothing-in t.0.kinds (cut_kinds (next_place ss) t.1 t.0.map) (no-kinds (Some k) _ told.0) in
     let u = uncut (next_place ss) t kinds.1 in
     let map = map-exact d t.0 first.map kinds.0 in
     let after = after-by front d t.1 t.0.map first.at.is (ap (λ o. may_follow o t.1) (sym b) ∙ first.at.follows) fits map in
     exact-more front d ds (t.0.map, t.1) ss t after (ap (λ (r : MapRecord). (r, t.1)) u.map)
-    (sections-exact (front ++ (t.0.map, t.1) ∷ []) (Some t.1) (number + 1) ds ss rest told.1 (ap (λ (o : Option Placed). option_map (λ s. s.1) o) (sym (last-more front (t.0.map, t.1))))
-    (next-in_front front t ds (number + 1) ss rest fits u))
+    (sections-exact (front ++ (t.0.map, t.1) ∷ []) (Some t.1) (k + 1) ds ss rest told.1 (ap (λ (o : Option Placed). option_map (λ s. s.1) o) (sym (last-more front (t.0.map, t.1))))
+    (next-in_front front t ds (k + 1) ss rest fits u))
 
 -- ---- values
 

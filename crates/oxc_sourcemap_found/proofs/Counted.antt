@@ -1,5 +1,6 @@
 -- Where places of a text that was opened are counted.
-use Rattle.std.proofs.Common.{◌≡◌, ◌≤◌, ◌+◌, ◌<◌, ◌-◌, ℕ, Bool, true, false, codes, length, drop, arith, sym, ap, subst, ◌==◌}
+use Rattle.std.proofs.Common.{◌≡◌, ◌≤◌, ◌+◌, ◌<◌, ◌-◌, ℕ, Bool, true, false, codes, length, drop}
+use Rattle.std.proofs.Common.{arith, sym, ap, subst, ◌==◌}
 use Rattle.std.proofs.Common.{Some, None, if◌then◌else◌, nat_eq, ◌∙◌}
 use Rattle.std.specs.List.{starts_with, after_first, position_or_len}
 use Rattle.std.specs.Cow.{cow_str_bytes}
@@ -10,7 +11,8 @@ use Rattle.oxc_sourcemap_tokens.specs.declared.errors.fault.FaultSpot.TheVariant
 use Rattle.oxc_sourcemap_tokens.specs.declared.errors.fault.FaultSpot.TheVariants.{Entry, Reading}
 use Rattle.oxc_sourcemap_parts.specs.Record.{Text}
 use Rattle.oxc_sourcemap_json.specs.ValuePlaces.{IsReadingFrom, IsReadingSpot}
-use Rattle.oxc_sourcemap_found.specs.Opening.{Opened, as_given, byte_order_mark, past_mark, found_by}
+use Rattle.oxc_sourcemap_found.specs.Opening.{Opened, as_given, byte_order_mark, past_mark}
+use Rattle.oxc_sourcemap_found.specs.Opening.{found_by}
 use Rattle.oxc_sourcemap_found.specs.Opening.{without_mark, without_prefix, past_front, opened}
 use Rattle.oxc_sourcemap_found.specs.Opening.{counted_text}
 use Rattle.oxc_sourcemap_found.specs.declared.mending.mend.MendKind.TheVariants.{JsonPrefix}

@@ -1,6 +1,8 @@
 -- A text in which nothing is mended is one that the exact reader reads as the same map.
-use Rattle.std.proofs.Common.{◌≡◌, ℕ, ◌+◌, Bool, true, false, cond, not, ◌==◌, ◌&&◌, List, [], ◌∷◌, ◌++◌, map, length}
-use Rattle.std.proofs.Common.{codes, refl, sym, ap, ◌∙◌, subst, append_assoc, Option, Some, None, option_map}
+use Rattle.std.proofs.Common.{◌≡◌, ℕ, ◌+◌, Bool, true, false, cond, not, ◌==◌, ◌&&◌, List, [], ◌∷◌}
+use Rattle.std.proofs.Common.{◌++◌, map, length}
+use Rattle.std.proofs.Common.{codes, refl, sym, ap, ◌∙◌, subst, append_assoc, Option, Some, None}
+use Rattle.std.proofs.Common.{option_map}
 use Rattle.std.proofs.Common.{Result, Ok, Err, if◌then◌else◌, nat_eq, drop, arith}
 use Rattle.std.specs.List.{starts_with, after_first, last_or, count_by, AllByRecursion}
 use Rattle.std.specs.Option.{option_map_or, option_and_then, is_some}
@@ -8,7 +10,8 @@ use Rattle.std.proofs.lemmas.Bool.{and_parts, eqb-true}
 use Rattle.std.proofs.lemmas.Bool.Decides.{nat_tests}
 use Rattle.std.proofs.lemmas.List.{append-nil, length-append}
 use Rattle.std.proofs.lemmas.Grind.{flat_map-append}
-use Rattle.serde_json.specs.Data.{Data, null, boolean, number, string, array, object, Members, Items}
+use Rattle.serde_json.specs.Data.{Data, null, boolean, number, string, array, object, Members}
+use Rattle.serde_json.specs.Data.{Items}
 use Rattle.serde_json.specs.Data.{no_items, item}
 use Rattle.serde_json.specs.Find.{as_object, as_array, get_member}
 use Rattle.serde_json.specs.Read.{read}
@@ -25,13 +28,15 @@ use Rattle.oxc_sourcemap_json.specs.Decoded.{decoded, json_fault, with_tokens, d
 use Rattle.oxc_sourcemap_json.specs.Section.{is_indexed, offset_in, map_in}
 use Rattle.oxc_sourcemap_json.specs.Sections.{Sections, may_follow, moved_position, token_positions}
 use Rattle.oxc_sourcemap_json.specs.Sections.{may_begin, in_order, offset_after, section_map}
-use Rattle.oxc_sourcemap_json.specs.Sections.{section_after, onto_section, sections_after, all_sections, joined_sections}
+use Rattle.oxc_sourcemap_json.specs.Sections.{section_after, onto_section, sections_after}
+use Rattle.oxc_sourcemap_json.specs.Sections.{all_sections, joined_sections}
 use Rattle.oxc_sourcemap_json.specs.ReadMap.{sections_in, indexed_form, indexed_record, map_of_form}
 use Rattle.oxc_sourcemap_json.specs.ReadMap.{read_value, read_map}
 use Rattle.oxc_sourcemap_found.specs.declared.mending.mend.Mend.{Mend}
 use Rattle.oxc_sourcemap_found.specs.declared.mending.mend.MendKind.{MendKind}
 use Rattle.oxc_sourcemap_found.specs.declared.mending.mend.MendKind.TheVariants.{Unsorted, DataUrl}
-use Rattle.oxc_sourcemap_found.specs.declared.mending.mend.MendKind.TheVariants.{ByteOrderMark, JsonPrefix}
+use Rattle.oxc_sourcemap_found.specs.declared.mending.mend.MendKind.TheVariants.{ByteOrderMark}
+use Rattle.oxc_sourcemap_found.specs.declared.mending.mend.MendKind.TheVariants.{JsonPrefix}
 use Rattle.oxc_sourcemap_found.specs.declared.mending.mend.MendKind.TheVariants.{Version, NoSources}
 use Rattle.oxc_sourcemap_found.specs.declared.mending.mend.MendKind.TheVariants.{NullNames}
 use Rattle.oxc_sourcemap_found.specs.declared.mending.mend.MendKind.TheVariants.{SourceIds, NameIds}
@@ -42,23 +47,32 @@ use Rattle.oxc_sourcemap_found.specs.declared.mending.members.Entries.TheVariant
 use Rattle.oxc_sourcemap_found.specs.InRange.{counted, map_in_range, source_kinds, name_kinds}
 use Rattle.oxc_sourcemap_found.specs.InRange.{has_bad_source, has_bad_name, token_in_range}
 use Rattle.oxc_sourcemap_found.specs.Mended.{Change, MendedMembers, changed, as_found, with_version}
-use Rattle.oxc_sourcemap_found.specs.Mended.{with_sources, with_contents, with_names, with_ignore_list}
-use Rattle.oxc_sourcemap_found.specs.Mended.{with_google_ignore_list, mended_members, version_change}
+use Rattle.oxc_sourcemap_found.specs.Mended.{with_sources, with_contents, with_names}
+use Rattle.oxc_sourcemap_found.specs.Mended.{with_ignore_list}
+use Rattle.oxc_sourcemap_found.specs.Mended.{with_google_ignore_list, mended_members}
+use Rattle.oxc_sourcemap_found.specs.Mended.{version_change}
 use Rattle.oxc_sourcemap_found.specs.Mended.{sources_change, optional_list_change, names_change}
-use Rattle.oxc_sourcemap_found.specs.Mended.{list_change, list_or_null_change, replaced, replaced_if}
-use Rattle.oxc_sourcemap_found.specs.Mended.{is_other_three, is_null, source_count, kinds_from, entries}
-use Rattle.oxc_sourcemap_found.specs.MendedMaps.{MendedMap, mends_in, plain_map, decoded_with_any_ids}
+use Rattle.oxc_sourcemap_found.specs.Mended.{list_change, list_or_null_change, replaced}
+use Rattle.oxc_sourcemap_found.specs.Mended.{replaced_if}
+use Rattle.oxc_sourcemap_found.specs.Mended.{is_other_three, is_null, source_count, kinds_from}
+use Rattle.oxc_sourcemap_found.specs.Mended.{entries}
+use Rattle.oxc_sourcemap_found.specs.MendedMaps.{MendedMap, mends_in, plain_map}
+use Rattle.oxc_sourcemap_found.specs.MendedMaps.{decoded_with_any_ids}
 use Rattle.oxc_sourcemap_found.specs.MendedMaps.{mended_map}
-use Rattle.oxc_sourcemap_found.specs.MendedSections.{MendedSection, in_order_after, offset_from, map_from}
+use Rattle.oxc_sourcemap_found.specs.MendedSections.{MendedSection, in_order_after, offset_from}
+use Rattle.oxc_sourcemap_found.specs.MendedSections.{map_from}
 use Rattle.oxc_sourcemap_found.specs.MendedSections.{section_from, sections_from, is_behind}
 use Rattle.oxc_sourcemap_found.specs.MendedSections.{reaches_into, next_place, cut_map, cut_kinds}
 use Rattle.oxc_sourcemap_found.specs.MendedSections.{cut_maps, section_mends}
 use Rattle.oxc_sourcemap_found.specs.FoundMaps.{FoundRecord, found_record, found_plain, joined_map}
-use Rattle.oxc_sourcemap_found.specs.FoundMaps.{found_sections, found_object, found_value, found_opened}
+use Rattle.oxc_sourcemap_found.specs.FoundMaps.{found_sections, found_object, found_value}
+use Rattle.oxc_sourcemap_found.specs.FoundMaps.{found_opened}
 use Rattle.oxc_sourcemap_found.specs.FoundMaps.{or_not_json, order_mends, found}
 use Rattle.oxc_sourcemap_found.specs.FoundMaps.{in_order as in_token_order}
-use Rattle.oxc_sourcemap_found.specs.Opening.{Opened, opened, as_given, found_by, past_mark, behind_url}
-use Rattle.oxc_sourcemap_found.specs.Opening.{without_mark, without_prefix, with_data, data_in, byte_order_mark}
+use Rattle.oxc_sourcemap_found.specs.Opening.{Opened, opened, as_given, found_by, past_mark}
+use Rattle.oxc_sourcemap_found.specs.Opening.{behind_url}
+use Rattle.oxc_sourcemap_found.specs.Opening.{without_mark, without_prefix, with_data, data_in}
+use Rattle.oxc_sourcemap_found.specs.Opening.{byte_order_mark}
 use Rattle.oxc_sourcemap_found.proofs.AnyIds.{IsWithin, reading-within}
 use Rattle.oxc_sourcemap_found.proofs.NoneBad.{none-bad, none-past}
 use Rattle.oxc_sourcemap_found.proofs.Kept.{step}
@@ -442,12 +456,13 @@ indexed-exact mends ms f e none =
     let file_is : file_of (object ms) ≡ Ok file.value = ap (λ (q : MendedMembers). file_of (object q.members)) (sym same) ∙ file.first in
     let items_are : sections_in (object ms) ≡ Ok items.value = ap (λ (q : MendedMembers). sections_in (object q.members)) (sym same) ∙ items.first in
     let exact = sections-exact [] None 0 items.value ss.value ss.first outer.1 refl (first-in_front ss.value) in
-    let all : all_sections items.value ≡ fault_free (cut_maps ss.value) = exact.read in
-    (inner.0,
+    let all : all_sections items.value ≡ fault_free (cut_maps ss.value) = exact.read in (
+      inner.0,
       ap (λ (x : Result (Option Text) Error). map_of_form (indexed_form x (sections_in (object ms)))) file_is
-      ∙ ap (λ (x : Result Items Error). map_of_form (indexed_form (Ok file.value) x)) items_are
-      ∙ ap (λ (s : Sections). joined_sections s >>= (λ r. Ok (indexed_record file.value r))) all
-      ∙ r.first ∙ ap (λ (q : FoundRecord). fine q.map) is)
+          ∙ ap (λ (x : Result Items Error). map_of_form (indexed_form (Ok file.value) x)) items_are
+          ∙ ap (λ (s : Sections). joined_sections s >>= (λ r. Ok (indexed_record file.value r))) all
+          ∙ r.first ∙ ap (λ (q : FoundRecord). fine q.map) is,
+    )
 
 object-exact : (b : Bool) (mends : List Mend) (ms : Members) (f : FoundRecord) → is_indexed (object ms) ≡ b → found_object mends ms ≡ Ok f → f.mends ≡ []
     → IsReadAs mends (object ms) f

@@ -1,5 +1,6 @@
 -- Where a text as it is found has the fault for which it is refused.
-use Rattle.std.specs.Prelude.{◌≡◌, ◌≢◌, ℕ, ◌+◌, ◌-◌, length, codes, Option, Some, None, Result, Ok, Err}
+use Rattle.std.specs.Prelude.{◌≡◌, ◌≢◌, ℕ, ◌+◌, ◌-◌, length, codes, Option, Some, None, Result, Ok}
+use Rattle.std.specs.Prelude.{Err}
 use Rattle.std.specs.Prelude.{MatchOption, IsSomeAnd, IfOk, IfErr, ⊤, if◌then◌else◌}
 use Rattle.std.specs.Option.{option_map, option_and_then, option_or}
 use Rattle.serde_json.specs.Data.{Data, Items, no_items, item, Members, object}
@@ -24,7 +25,8 @@ use Rattle.oxc_sourcemap_tokens.specs.declared.errors.fault.FaultPlace.{FaultPla
 use Rattle.oxc_sourcemap_tokens.specs.declared.errors.fault.FaultSpot.{FaultSpot}
 use Rattle.oxc_sourcemap_tokens.specs.declared.errors.fault.FaultSpot.TheVariants.{Segment, Member}
 use Rattle.oxc_sourcemap_json.specs.ShapeSpots.{shape_spot, ignored_field}
-use Rattle.oxc_sourcemap_json.specs.ValuePlaces.{ignored_spot, offset_place, or_place, IsReadingFrom}
+use Rattle.oxc_sourcemap_json.specs.ValuePlaces.{ignored_spot, offset_place, or_place}
+use Rattle.oxc_sourcemap_json.specs.ValuePlaces.{IsReadingFrom}
 use Rattle.oxc_sourcemap_tokens.specs.Places.{place_in}
 use Rattle.oxc_sourcemap_found.specs.FoundMaps.{FoundRecord}
 use Rattle.oxc_sourcemap_found.specs.Mended.{mended_members, with_version, as_found}

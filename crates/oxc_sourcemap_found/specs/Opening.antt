@@ -1,6 +1,7 @@
 -- What is passed over and opened before a JSON text is read: a byte order mark, a line that keeps the text from being run as a
 -- script, and a data URL.
-use Rattle.std.specs.Prelude.{◌≡◌, ◌≤◌, string_bytes, List, [], ◌∷◌, ◌++◌, length, drop, codes, Option, Some, None, Result}
+use Rattle.std.specs.Prelude.{◌≡◌, ◌≤◌, string_bytes, List, [], ◌∷◌, ◌++◌, length, drop, codes}
+use Rattle.std.specs.Prelude.{Option, Some, None, Result}
 use Rattle.std.specs.Prelude.{Ok, Err, if◌then◌else◌, ◌==◌, nat_eq}
 use Rattle.std.specs.List.{starts_with, after_first}
 use Rattle.std.specs.Option.{unwrap_or}

@@ -1,6 +1,8 @@
 -- A comment behind a code is the one that counts.
-use Rattle.std.proofs.Common.{◌≡◌, ℕ, Bool, true, false, List, [], ◌∷◌, ◌++◌, ◌==◌, ◌&&◌, ◌||◌, refl, sym}
-use Rattle.std.proofs.Common.{ap, ◌∙◌, subst, append_assoc, Option, Some, None, if◌then◌else◌, fold, flat_map, codes, length, arith, not}
+use Rattle.std.proofs.Common.{◌≡◌, ℕ, Bool, true, false, List, [], ◌∷◌, ◌++◌, ◌==◌, ◌&&◌, ◌||◌}
+use Rattle.std.proofs.Common.{refl, sym}
+use Rattle.std.proofs.Common.{ap, ◌∙◌, subst, append_assoc, Option, Some, None, if◌then◌else◌, fold}
+use Rattle.std.proofs.Common.{flat_map, codes, length, arith, not}
 use Rattle.std.specs.Prelude.{nat_eq, is_some}
 use Rattle.std.specs.Option.{option_map, option_or}
 use Rattle.std.specs.List.{list_any, starts_with}
@@ -11,11 +13,14 @@ use Rattle.std.proofs.lemmas.Bool.Decides.{nat_tests}
 use Rattle.std.proofs.lemmas.List.Folds.{list_any-append}
 use Rattle.std.proofs.lemmas.List.Sums.{fold-append}
 use Rattle.std.proofs.lemmas.Grind.{flat_map-append}
-use Rattle.oxc_sourcemap_text.specs.TextLines.{ends_line, lines_of, begins_with_line_feed, onto_first}
+use Rattle.oxc_sourcemap_text.specs.TextLines.{ends_line, lines_of, begins_with_line_feed}
+use Rattle.oxc_sourcemap_text.specs.TextLines.{onto_first}
 use Rattle.oxc_sourcemap_text.specs.declared.url.language.Language.{Language}
 use Rattle.oxc_sourcemap_text.specs.declared.url.language.Language.TheVariants.{JavaScript, Css}
-use Rattle.oxc_sourcemap_text.specs.MappingUrls.{pieces, Piece, known_after, url_known, mapping_url, has_line_comments}
-use Rattle.oxc_sourcemap_text.specs.MappingUrls.{around_block_end, begins_with, may_end_another, named_url, is_quote}
+use Rattle.oxc_sourcemap_text.specs.MappingUrls.{pieces, Piece, known_after, url_known, mapping_url}
+use Rattle.oxc_sourcemap_text.specs.MappingUrls.{has_line_comments}
+use Rattle.oxc_sourcemap_text.specs.MappingUrls.{around_block_end, begins_with, may_end_another}
+use Rattle.oxc_sourcemap_text.specs.MappingUrls.{named_url, is_quote}
 use Rattle.oxc_sourcemap_text.specs.CommentLaws.{with_comment, CanBeNamed}
 use Rattle.oxc_sourcemap_text.proofs.Cuts.{lines-end, lines-no_end}
 use Rattle.oxc_sourcemap_text.proofs.Pieces.{pieces-nil, pieces-line, pieces-block}

@@ -1,6 +1,8 @@
 -- What is behind the comment that names a URL changes nothing.
-use Rattle.std.proofs.Common.{◌≡◌, ℕ, Bool, true, false, List, [], ◌∷◌, ◌++◌, ◌==◌, ◌&&◌, refl, sym, subst}
-use Rattle.std.proofs.Common.{ap, ◌∙◌, Option, Some, None, if◌then◌else◌, fold, flat_map, inl, inr, IfSome, length, arith}
+use Rattle.std.proofs.Common.{◌≡◌, ℕ, Bool, true, false, List, [], ◌∷◌, ◌++◌, ◌==◌, ◌&&◌, refl, sym}
+use Rattle.std.proofs.Common.{subst}
+use Rattle.std.proofs.Common.{ap, ◌∙◌, Option, Some, None, if◌then◌else◌, fold, flat_map, inl, inr}
+use Rattle.std.proofs.Common.{IfSome, length, arith}
 use Rattle.std.specs.Option.{option_or}
 use Rattle.std.specs.Char.{is_whitespace}
 use Rattle.std.specs.Str.{chars, IsUtf8, drop_trailing_whitespace}
@@ -11,7 +13,8 @@ use Rattle.std.proofs.lemmas.List.Sums.{fold-append}
 use Rattle.oxc_sourcemap_text.specs.TextLines.{ends_line, onto_first, lines_of}
 use Rattle.oxc_sourcemap_text.specs.declared.url.comment.Place.{Place}
 use Rattle.oxc_sourcemap_text.specs.declared.url.comment.Naming.{Naming}
-use Rattle.oxc_sourcemap_text.specs.MappingUrls.{Piece, pieces, known_after, all_pieces, AreQuiet, named_url}
+use Rattle.oxc_sourcemap_text.specs.MappingUrls.{Piece, pieces, known_after, all_pieces, AreQuiet}
+use Rattle.oxc_sourcemap_text.specs.MappingUrls.{named_url}
 use Rattle.oxc_sourcemap_text.specs.MappingUrls.{may_end_another, around_block_end}
 use Rattle.oxc_sourcemap_text.specs.Comments.{IsKnownAfter, IsQuietText, IsLastUpTo, IsLineOf}
 use Rattle.oxc_sourcemap_text.specs.Comments.{pieces_left}
@@ -36,10 +39,10 @@ last-after s known None text place left after before here = tt
 last-after s known (Some new) text place left after before here =
     elim after [
       | inl same ↦ (let was = subst (λ k. IfSome k (IsLastUpTo s (Some text ∷ left))) same.0 before in record {
-          read = was.read ++ Some text ∷ [];
-          quiet = quiet-more was.read text was.quiet same.1;
-          behind = was.behind ∙ sym (append_assoc was.read (Some text ∷ []) left);
-        })
+        read = was.read ++ Some text ∷ [];
+        quiet = quiet-more was.read text was.quiet same.1;
+        behind = was.behind ∙ sym (append_assoc was.read (Some text ∷ []) left);
+      })
       | inr found ↦ here new found.0
     ]
 

@@ -47,7 +47,7 @@ fn read_line<'c>(
         → IfSome before.entry (IsPlaced slashes code) → IfSome result (IsPlaced slashes code) }
     ensures last { IsLineOf slashes (chars line.now) (chars after.now)
         → IfSome before.entry
-            (IsLastUpTo slashes (pieces_left slashes (chars line.now) (chars after.now)))
+        (IsLastUpTo slashes (pieces_left slashes (chars line.now) (chars after.now)))
         → IfSome result (IsLastUpTo slashes (all_pieces slashes (chars after.now))) }
 {
     let mut known = before;

@@ -1,4 +1,5 @@
-use Rattle.std.proofs.Common.{◌≡◌, List, ◌∷◌, ◌++◌, ◌∙◌, sym, ap, arith, length, subst, [], None, fold}
+use Rattle.std.proofs.Common.{◌≡◌, List, ◌∷◌, ◌++◌, ◌∙◌, sym, ap, arith, length, subst, [], None}
+use Rattle.std.proofs.Common.{fold}
 use Rattle.std.specs.Str.{chars, IsUtf8}
 use Rattle.std.specs.Str.Iter.{chars_rest}
 use Rattle.std.proofs.lemmas.List.{nil_from_length}
@@ -12,7 +13,8 @@ use Rattle.oxc_sourcemap_text.proofs.Pieces.{past-space, past-code, past-line, p
 use Rattle.oxc_sourcemap_text.proofs.Pieces.{past-open, pieces-nil}
 use Rattle.oxc_sourcemap_text.proofs.Blocks.{around-shorter}
 use Rattle.oxc_sourcemap_text.proofs.Last.{last-after, last-here, last-left, space-pieces}
-use Rattle.oxc_sourcemap_text.proofs.Last.{spelt-next, spelt-comment, spelt-block, left-space, left-line}
+use Rattle.oxc_sourcemap_text.proofs.Last.{spelt-next, spelt-comment, spelt-block, left-space}
+use Rattle.oxc_sourcemap_text.proofs.Last.{left-line}
 use Rattle.oxc_sourcemap_text.proofs.Last.{left-block}
 use Rattle.oxc_sourcemap_text.proofs.url.mapping_url.read_line.Goals as goal
 

@@ -81,7 +81,7 @@ fn texts_have_faults(rt: HostRuntime) {
         ("<!doctype html>\n<html>", reading(0, 0, 0)),
         ("{\n\n  \"é\": tru\n}", reading(2, 8, 11)),
         // A line ends in a line feed alone, which is on the line that it ends.
-        ("{\r\"a\":\r\n1\r2}", reading(1, 2, 9)),
+        ("{\r\"a\":\r\n1\r2}", reading(1, 2, 10)),
         ("{\n\"a\": \"b\nc\"}", reading(1, 5, 7)),
         // The value, and its members in order.
         ("[]", Some(FaultSpot::Member(Field::Object))),

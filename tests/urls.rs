@@ -127,8 +127,7 @@ fn named_without(alloc: Global, code: &str, language: Language) -> std::result::
 
 /// How many of the random codes name a URL in this language, and a checksum of these. Behind each a comment is found that is put there,
 /// and each names what is in front of its comment once that is cut out.
-fn random_urls(rt: &HostRuntime, language: Language) -> std::result::Result<(u32, u32), Fail> {
-    let alloc = rt.alloc();
+fn random_urls(rt: &impl Abort, alloc: Global, language: Language) -> std::result::Result<(u32, u32), Fail> {
     let (mut seed, mut named, mut sum) = (1u32, 0u32, 0u32);
     for _ in 0..20000 {
         let mut code = String::new(alloc);
@@ -151,8 +150,8 @@ fn random_urls(rt: &HostRuntime, language: Language) -> std::result::Result<(u32
 
 #[test]
 fn random_codes_name_urls(rt: HostRuntime) -> std::result::Result<(), Fail> {
-    same(&rt, "JavaScript", random_urls(&rt, Language::JavaScript)?, (2090, 1728711765));
-    same(&rt, "CSS", random_urls(&rt, Language::Css)?, (929, 3910259720));
+    same(&rt, "JavaScript", random_urls(&rt, rt.alloc(), Language::JavaScript)?, (2090, 1728711765));
+    same(&rt, "CSS", random_urls(&rt, rt.alloc(), Language::Css)?, (929, 3910259720));
     Ok(())
 }
 

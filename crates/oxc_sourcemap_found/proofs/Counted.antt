@@ -3,18 +3,13 @@ use Rattle.std.proofs.Common.{◌≡◌, ◌≤◌, ◌+◌, ◌<◌, ◌-◌, �
 use Rattle.std.proofs.Common.{arith, sym, ap, subst, ◌==◌}
 use Rattle.std.proofs.Common.{Some, None, if◌then◌else◌, nat_eq, ◌∙◌}
 use Rattle.std.specs.List.{starts_with, after_first, position_or_len}
-use Rattle.std.specs.Cow.{cow_str_bytes}
+use Rattle.std.specs.Option.{unwrap_or}
 use Rattle.std.proofs.lemmas.List.{length-drop}
-use Rattle.oxc_sourcemap_tokens.specs.declared.errors.fault.FaultPlace.{FaultPlace}
-use Rattle.oxc_sourcemap_tokens.specs.declared.errors.fault.FaultSpot.{FaultSpot}
-use Rattle.oxc_sourcemap_tokens.specs.declared.errors.fault.FaultSpot.TheVariants.{Segment, Member}
-use Rattle.oxc_sourcemap_tokens.specs.declared.errors.fault.FaultSpot.TheVariants.{Entry, Reading}
 use Rattle.oxc_sourcemap_parts.specs.Record.{Text}
-use Rattle.oxc_sourcemap_json.specs.ValuePlaces.{IsReadingFrom, IsReadingSpot}
 use Rattle.oxc_sourcemap_found.specs.Opening.{Opened, as_given, byte_order_mark, past_mark}
 use Rattle.oxc_sourcemap_found.specs.Opening.{found_by}
 use Rattle.oxc_sourcemap_found.specs.Opening.{without_mark, without_prefix, past_front, opened}
-use Rattle.oxc_sourcemap_found.specs.Opening.{counted_text}
+use Rattle.oxc_sourcemap_found.specs.Opening.{counted_text, data_in, behind_url}
 use Rattle.oxc_sourcemap_found.specs.declared.mending.mend.MendKind.TheVariants.{JsonPrefix}
 
 mark-shorter : (o : Opened) → length (without_mark o).text ≤ length o.text
@@ -35,12 +30,13 @@ prefix-shorter o =
 pub front-shorter : (text : Text) → length (past_front text).text ≤ length text
 front-shorter text = omega (arith, mark-shorter (as_given text), prefix-shorter (without_mark (as_given text)))
 
--- a place from an index on is one from each smaller index on
-spot-earlier : (from less : ℕ) (text : Text) (spot : FaultSpot) → less ≤ from → IsReadingSpot from text spot → IsReadingSpot less text spot
-spot-earlier from less text (Reading line column byte) h is = (omega (arith, is.0), is.1)
-spot-earlier from less text (Segment place) h is = is
-spot-earlier from less text (Member field) h is = is
-spot-earlier from less text (Entry field index) h is = is
-
-pub earlier : (from less : ℕ) (text : Text) (place : FaultPlace) → less ≤ from → IsReadingFrom from text place → IsReadingFrom less text place
-earlier from less text place h is = (is.0, is.1, spot-earlier from less text place.spot h is.2)
+-- a text that is no data URL behind what is passed over is lent, and places are counted in the whole text
+pub lent-json : (text rest : Text) (o : Opened) → o ≡ past_front text → o.text ≡ rest → data_in rest ≡ None
+    → (rest ≡ (opened text).text) × ((counted_text text ≡ text) × (length rest ≤ length text))
+unfolding opened counted_text
+lent-json text rest o is at none =
+    let here : data_in (past_front text).text ≡ None = ap (λ (p : Opened). data_in p.text) (sym is) ∙ ap data_in at ∙ none in
+    let same : rest ≡ (past_front text).text = sym at ∙ ap (λ (p : Opened). p.text) is in (
+      same ∙ ap (λ inner. (behind_url (past_front text) inner).text) (sym here),
+      (ap (λ inner. unwrap_or inner text) here, rw same (front-shorter text)),
+    )

@@ -80,6 +80,9 @@ fn texts_have_faults(rt: HostRuntime) {
         ("{}\n}", reading(1, 0, 3)),
         ("<!doctype html>\n<html>", reading(0, 0, 0)),
         ("{\n\n  \"é\": tru\n}", reading(2, 8, 11)),
+        // A line ends in a line feed alone, which is on the line that it ends.
+        ("{\r\"a\":\r\n1\r2}", reading(1, 2, 10)),
+        ("{\n\"a\": \"b\nc\"}", reading(1, 5, 7)),
         // The value, and its members in order.
         ("[]", Some(FaultSpot::Member(Field::Object))),
         (r#"{"version":2,"sources":[1]}"#, Some(FaultSpot::Member(Field::Version))),

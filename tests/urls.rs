@@ -3,7 +3,7 @@ use crate::helpers::same;
 use oxc_sourcemap::{
     DataUrlError, Language, SourceMap, SourceMappingComment, decode_data_url, source_mapping_comment, source_mapping_url,
 };
-use std::alloc::Global;
+use std::alloc::{AllocError, Global};
 use std::process::Abort;
 use std::test::Fail;
 
@@ -115,8 +115,19 @@ fn number_of(url: Option<&str>) -> u32 {
     sum
 }
 
-/// How many of the random codes name a URL in this language, and a checksum of these.
-fn random_urls(alloc: Global, language: Language) -> std::result::Result<(u32, u32), Fail> {
+/// What a code names once the comment is cut out of it that is found; a space keeps two ends of lines from being one.
+fn named_without(alloc: Global, code: &str, language: Language) -> std::result::Result<bool, AllocError> {
+    let Some(found) = source_mapping_comment(code, language) else {
+        return Ok(true);
+    };
+    let between = if found.front.ends_with('\r') && found.back.starts_with('\n') { " " } else { "" };
+    let left = format!(in alloc; "{}{between}{}", found.front, found.back)?;
+    Ok(source_mapping_url(left.as_str(), language) == source_mapping_url(found.front, language))
+}
+
+/// How many of the random codes name a URL in this language, and a checksum of these. Behind each a comment is found that is put there,
+/// and each names what is in front of its comment once that is cut out.
+fn random_urls(rt: &impl Abort, alloc: Global, language: Language) -> std::result::Result<(u32, u32), Fail> {
     let (mut seed, mut named, mut sum) = (1u32, 0u32, 0u32);
     for _ in 0..20000 {
         let mut code = String::new(alloc);
@@ -125,6 +136,12 @@ fn random_urls(alloc: Global, language: Language) -> std::result::Result<(u32, u
             code.push_str(PIECES[((seed >> 16) % 25) as usize])?;
         }
         let url = source_mapping_url(code.as_str(), language);
+        same(rt, code.as_str(), named_without(alloc, code.as_str(), language)?, true);
+        let more = match language {
+            Language::JavaScript => format!(in alloc; "{code}\n//# sourceMappingURL=z.map\n")?,
+            Language::Css => format!(in alloc; "{code}\n/*# sourceMappingURL=z.map */\n")?,
+        };
+        same(rt, more.as_str(), source_mapping_url(more.as_str(), language), Some("z.map"));
         named += u32::from(url.is_some());
         sum = sum.wrapping_mul(31).wrapping_add(number_of(url));
     }
@@ -133,8 +150,8 @@ fn random_urls(alloc: Global, language: Language) -> std::result::Result<(u32, u
 
 #[test]
 fn random_codes_name_urls(rt: HostRuntime) -> std::result::Result<(), Fail> {
-    same(&rt, "JavaScript", random_urls(rt.alloc(), Language::JavaScript)?, (2090, 1728711765));
-    same(&rt, "CSS", random_urls(rt.alloc(), Language::Css)?, (929, 3910259720));
+    same(&rt, "JavaScript", random_urls(&rt, rt.alloc(), Language::JavaScript)?, (2090, 1728711765));
+    same(&rt, "CSS", random_urls(&rt, rt.alloc(), Language::Css)?, (929, 3910259720));
     Ok(())
 }
 

@@ -76,12 +76,14 @@ pub use Rattle.oxc_sourcemap_map.specs.NameLaws
 pub use Rattle.oxc_sourcemap_text.specs.TextLines
 pub use Rattle.oxc_sourcemap_text.specs.Positions
 pub use Rattle.oxc_sourcemap_text.specs.PositionLaws
+pub use Rattle.oxc_sourcemap_text.specs.CommentLaws
 pub use Rattle.oxc_sourcemap_tokens.specs.declared.errors.fault.FaultPlace
 pub use Rattle.oxc_sourcemap_tokens.specs.declared.errors.fault.FaultSpot
 pub use Rattle.oxc_sourcemap_json.specs.declared.fault.fault_reason.FaultReason
 pub use Rattle.oxc_sourcemap_tokens.specs.PlaceMessages
 pub use Rattle.oxc_sourcemap_tokens.specs.Places
 pub use Rattle.oxc_sourcemap_json.specs.ShapeSpots
+pub use Rattle.oxc_sourcemap_json.specs.TextBytes
 pub use Rattle.oxc_sourcemap_json.specs.ValuePlaces
 pub use Rattle.oxc_sourcemap_plan.specs.PlanPlaces
 pub use Rattle.oxc_sourcemap_text.specs.declared.url.data_url_error.DataUrlError

@@ -46,7 +46,7 @@ failed_on These (Err g) f is h = elim (memory_or_not f.error) [
   | inr other ↦ subst (IsFailure These) (sym (is.1 other)) ((λ memory. absurd (other (same-error f.error OutOfMemory memory))), (λ q. h other))
 ]
 
-placed : (text : Text) (place : Option FaultPlace) → ((d : Data) → read text ≡ Some d → value_place d ≡ place) → (read text ≡ None → IsSomeAnd place IsReading) → is_some place ≡ true
+placed : (text : Text) (place : Option FaultPlace) → ((d : Data) → read text ≡ Some d → value_place d ≡ place) → (read text ≡ None → IsSomeAnd place (IsReading text)) → is_some place ≡ true
     → IsSomeAnd place (IsTextPlace text)
 placed text None json bad there = absurd (cc (there))
 placed text (Some p) json bad there = (json, bad)

@@ -1,7 +1,9 @@
--- What is read with some numbers of names and sources is read with greater ones, as the same tokens.
+-- What is read with some numbers of names and sources is read with greater ones, as the same tokens, and with smaller ones that are
+-- greater than its ids.
 use Rattle.std.proofs.Common.{◌≡◌, ℕ, ◌+◌, ◌≤◌, Bool, true, false, cond, nat_lt, List, [], ◌∷◌}
 use Rattle.std.proofs.Common.{◌++◌, length, pos, negsuc, ℤ, arith, refl, ap, inl, inr, Option, Some}
-use Rattle.std.proofs.Common.{None, Result, Ok, Err}
+use Rattle.std.proofs.Common.{None, Result, Ok, Err, sym, subst, ◌<◌, min, not}
+use Rattle.std.specs.List.{AllByRecursion}
 use Rattle.std.proofs.lemmas.Bool.{cases_lt}
 use Rattle.std.proofs.lemmas.Bool.Decides.{nat_tests}
 use Rattle.oxc_sourcemap_tokens.specs.declared.errors.error.Error.{Error}
@@ -16,9 +18,17 @@ use Rattle.oxc_sourcemap_mappings.specs.Places.{Place, Before, nothing_before, p
 use Rattle.oxc_sourcemap_mappings.specs.Places.{past_line}
 use Rattle.oxc_sourcemap_mappings.specs.Faults.{Counts, counts_of, ◌orelse◌, is_id_below}
 use Rattle.oxc_sourcemap_mappings.specs.Faults.{source_fault, name_fault, place_fault}
-use Rattle.oxc_sourcemap_mappings.specs.Faults.{segment_fault, digit_fault}
+use Rattle.oxc_sourcemap_mappings.specs.Faults.{segment_fault, digit_fault, nat_of}
+use Rattle.oxc_sourcemap_found.specs.InRange.{is_past}
 use Rattle.oxc_sourcemap_mappings.specs.Reading.{token_at, segment_result, line_results}
 use Rattle.oxc_sourcemap_mappings.specs.Reading.{text_results, onto, gathered, reading}
+
+lt-true : (n m : ℕ) → n < m → nat_lt n m ≡ true
+lt-true n m h = grind (arith, nat_tests)
+
+below-if : (n count : ℕ) (b : Bool) → nat_lt n count ≡ b → not b ≡ false → n < count
+below-if n count true t e = grind (arith, nat_tests)
+below-if n count false t e = cc
 
 -- one count of names and of sources is at most another one
 record IsAtMost (c d : Counts) : Type 0 where
@@ -57,68 +67,137 @@ place-wider c d reached size here l e =
 fault-wider : (c d : Counts) (reached : Place) (s : Segment) (here : Place) → IsAtMost c d → segment_fault c reached s here ≡ None → segment_fault d reached s here ≡ None
 fault-wider c d reached s here l e = orelse-wider (digit_fault s) _ (digit_fault s) _ (λ h. h) (place-wider c d reached (length s) here l) e
 
--- what is a token in one reading is that token in another one
-abbrev IsKept : Result TokenRecord Error → Result TokenRecord Error → Type 0
-IsKept x y = (t : TokenRecord) → x ≡ Ok t → y ≡ Ok t
+-- what is a token of these in one reading is that token in another one
+abbrev IsKept : (TokenRecord → Type 0) → Result TokenRecord Error → Result TokenRecord Error → Type 0
+IsKept P x y = (t : TokenRecord) → P t → x ≡ Ok t → y ≡ Ok t
 
-abbrev AreKept : List (Result TokenRecord Error) → List (Result TokenRecord Error) → Type 0
-AreKept [] [] = Unit {0}
-AreKept [] (y ∷ ys) = ⊥
-AreKept (x ∷ xs) [] = ⊥
-AreKept (x ∷ xs) (y ∷ ys) = IsKept x y × AreKept xs ys
+abbrev AreKept : (TokenRecord → Type 0) → List (Result TokenRecord Error) → List (Result TokenRecord Error) → Type 0
+AreKept P [] [] = Unit {0}
+AreKept P [] (y ∷ ys) = ⊥
+AreKept P (x ∷ xs) [] = ⊥
+AreKept P (x ∷ xs) (y ∷ ys) = IsKept P x y × AreKept P xs ys
 
-unless-kept : (a b : Option Error) (t : TokenRecord) → (a ≡ None → b ≡ None) → IsKept (unless a (Ok t)) (unless b (Ok t))
-unless-kept None b t f = λ u e. let h = f refl in rw h e
-unless-kept (Some fault) b t f = λ u e. cc
+unless-kept : (P : TokenRecord → Type 0) (a b : Option Error) (t : TokenRecord) → (P t → a ≡ None → b ≡ None) → IsKept P (unless a (Ok t)) (unless b (Ok t))
+unless-kept P None b t f = λ u p e. let same : t ≡ u = cc in let h = f (subst P (sym same) p) refl in rw h e
+unless-kept P (Some fault) b t f = λ u p e. cc
 
-segment-kept : (c d : Counts) (line : ℕ) (reached : Place) (s : Segment) (here : Place) → IsAtMost c d → IsKept (segment_result c line reached s here) (segment_result d line reached s here)
-segment-kept c d line reached s here l = unless-kept _ _ (token_at line (length s) here) (fault-wider c d reached s here l)
+-- each segment that is such a token with these counts is without a fault with those
+abbrev NarrowsTo : (TokenRecord → Type 0) → Counts → Counts → Type 0
+NarrowsTo P c d = (line : ℕ) (reached : Place) (s : Segment) (here : Place) → P (token_at line (length s) here)
+    → segment_fault c reached s here ≡ None → segment_fault d reached s here ≡ None
 
-line-kept : (c d : Counts) (line : ℕ) (before : Before) (ss : List Segment) → IsAtMost c d → AreKept (line_results c line before ss) (line_results d line before ss)
+line-kept : (P : TokenRecord → Type 0) (c d : Counts) (line : ℕ) (before : Before) (ss : List Segment) → NarrowsTo P c d
+    → AreKept P (line_results c line before ss) (line_results d line before ss)
 unfolding line_results
-line-kept c d line before [] l = tt
-line-kept c d line before (s ∷ ss) l = (
-  segment-kept c d line (place before) s (place (past_segment before s)) l,
-  line-kept c d line (past_segment before s) ss l,
+line-kept P c d line before [] l = tt
+line-kept P c d line before (s ∷ ss) l = (
+  unless-kept P _ _ (token_at line (length s) (place (past_segment before s))) (l line (place before) s (place (past_segment before s))),
+  line-kept P c d line (past_segment before s) ss l,
 )
 
-both-kept : (xs ys us vs : List (Result TokenRecord Error)) → AreKept xs ys → AreKept us vs → AreKept (xs ++ us) (ys ++ vs)
-both-kept [] [] us vs h k = k
-both-kept [] (y ∷ ys) us vs h k = absurd h
-both-kept (x ∷ xs) [] us vs h k = absurd h
-both-kept (x ∷ xs) (y ∷ ys) us vs h k = (h.0, both-kept xs ys us vs h.1 k)
+both-kept : (P : TokenRecord → Type 0) (xs ys us vs : List (Result TokenRecord Error)) → AreKept P xs ys → AreKept P us vs → AreKept P (xs ++ us) (ys ++ vs)
+both-kept P [] [] us vs h k = k
+both-kept P [] (y ∷ ys) us vs h k = absurd h
+both-kept P (x ∷ xs) [] us vs h k = absurd h
+both-kept P (x ∷ xs) (y ∷ ys) us vs h k = (h.0, both-kept P xs ys us vs h.1 k)
 
-if-kept : (b : Bool) (xs ys us : List (Result TokenRecord Error)) → AreKept xs ys → AreKept us us → AreKept (cond b xs us) (cond b ys us)
-if-kept true xs ys us h k = h
-if-kept false xs ys us h k = k
+if-kept : (P : TokenRecord → Type 0) (b : Bool) (xs ys us : List (Result TokenRecord Error)) → AreKept P xs ys → AreKept P us us → AreKept P (cond b xs us) (cond b ys us)
+if-kept P true xs ys us h k = h
+if-kept P false xs ys us h k = k
 
-text-kept : (c d : Counts) (line : ℕ) (before : Before) (ls : List (List Segment)) → IsAtMost c d → AreKept (text_results c line before ls) (text_results d line before ls)
+text-kept : (P : TokenRecord → Type 0) (c d : Counts) (line : ℕ) (before : Before) (ls : List (List Segment)) → NarrowsTo P c d
+    → AreKept P (text_results c line before ls) (text_results d line before ls)
 unfolding text_results
-text-kept c d line before [] l = tt
-text-kept c d line before (s ∷ ss) l =
-    if-kept (nat_lt line 4294967296) _ _ _
-    (both-kept (line_results c line before s) (line_results d line before s) _ _ (line-kept c d line before s l) (text-kept c d (line + 1) (past_line before s) ss l))
-    (λ t e. e, tt)
+text-kept P c d line before [] l = tt
+text-kept P c d line before (s ∷ ss) l =
+    if-kept P (nat_lt line 4294967296) _ _ _
+    (both-kept P (line_results c line before s) (line_results d line before s) _ _ (line-kept P c d line before s l) (text-kept P c d (line + 1) (past_line before s) ss l))
+    (λ t p e. e, tt)
 
-onto-ok : (t : TokenRecord) (x y : Result (List TokenRecord) Error) (ts : List TokenRecord) → ((us : List TokenRecord) → x ≡ Ok us → y ≡ Ok us) → onto t x ≡ Ok ts → onto t y ≡ Ok ts
-onto-ok t (Ok us) y ts f e = let h = f us refl in rw h e
-onto-ok t (Err fault) y ts f e = cc
+-- the tokens of a reading are its first one and the others
+record FirstRead (t : TokenRecord) (x : Result (List TokenRecord) Error) (ts : List TokenRecord) : Type 0 where
+  rest : List TokenRecord
+  read : x ≡ Ok rest
+  is : t ∷ rest ≡ ts
 
-gathered-kept : (xs ys : List (Result TokenRecord Error)) (ts : List TokenRecord) → AreKept xs ys → gathered xs ≡ Ok ts → gathered ys ≡ Ok ts
-gathered-kept [] [] ts h e = e
-gathered-kept [] (y ∷ ys) ts h e = absurd h
-gathered-kept (x ∷ xs) [] ts h e = absurd h
-gathered-kept (Ok t ∷ xs) (y ∷ ys) ts h e =
-    let k : y ≡ Ok t = h.0 t refl in
-    rw k (onto-ok t (gathered xs) (gathered ys) ts (λ us g. gathered-kept xs ys us h.1 g) e)
-gathered-kept (Err fault ∷ xs) (y ∷ ys) ts h e = cc
+first-read : (t : TokenRecord) (x : Result (List TokenRecord) Error) (ts : List TokenRecord) → onto t x ≡ Ok ts → FirstRead t x ts
+first-read t (Ok us) ts e = record { rest = us; read = refl; is = cc }
+first-read t (Err fault) ts e = cc
+
+gathered-kept : (P : TokenRecord → Type 0) (xs ys : List (Result TokenRecord Error)) (ts : List TokenRecord) → AreKept P xs ys → AllByRecursion P ts
+    → gathered xs ≡ Ok ts → gathered ys ≡ Ok ts
+gathered-kept P [] [] ts h all e = e
+gathered-kept P [] (y ∷ ys) ts h all e = absurd h
+gathered-kept P (x ∷ xs) [] ts h all e = absurd h
+gathered-kept P (Ok t ∷ xs) (y ∷ ys) ts h all e =
+    let f = first-read t (gathered xs) ts e in
+    let these : AllByRecursion P (t ∷ f.rest) = subst (AllByRecursion P) (sym f.is) all in
+    let k : y ≡ Ok t = h.0 t these.0 refl in
+    let more : gathered ys ≡ Ok f.rest = gathered-kept P xs ys f.rest h.1 these.1 f.read in
+    rw (k, more) (ap (λ us. Ok us) f.is)
+gathered-kept P (Err fault ∷ xs) (y ∷ ys) ts h all e = cc
+
+abbrev AnyToken : TokenRecord → Type 0
+AnyToken t = Unit {0}
+
+all-any : (ts : List TokenRecord) → AllByRecursion AnyToken ts
+all-any [] = tt
+all-any (t ∷ ts) = (tt, all-any ts)
 
 -- A text that is read is read as the same tokens with any ids.
 pub reading-any_ids : (text : List ℕ) (names sources : ℕ) (ts : List TokenRecord) → reading text names sources ≡ Ok ts → reading text 4294967295 4294967295 ≡ Ok ts
 unfolding reading
 reading-any_ids text names sources ts e =
-    gathered-kept _ _ ts (text-kept (counts_of names sources) (counts_of 4294967295 4294967295) 0 nothing_before (lines text)
-    (record { names = omega arith; sources = omega arith })) e
+    let c = counts_of names sources in
+    let d = counts_of 4294967295 4294967295 in
+    let most : IsAtMost c d = record { names = omega arith; sources = omega arith } in
+    gathered-kept AnyToken _ _ ts (text-kept AnyToken c d 0 nothing_before (lines text) (λ line reached s here p. fault-wider c d reached s here most)) (all-any ts) e
+
+-- ---- and with fewer names and sources, where its ids are below these
+
+id-narrower : (z : ℤ) (count : ℕ) (fault : Error) → is_past count (Some (nat_of z)) ≡ false → cond (is_id_below z (min 4294967295 4294967295)) None (Some fault) ≡ None
+    → cond (is_id_below z (min count 4294967295)) None (Some fault) ≡ None
+id-narrower (pos n) count fault own e =
+    elim (cases_lt n 4294967295) [
+      | inl h ↦ (let below : n < count = below-if n count (nat_lt n count) refl own in
+          let t : nat_lt n (min count 4294967295) ≡ true = lt-true n (min count 4294967295) (omega arith) in rw t refl)
+      | inr g ↦ (let t : nat_lt n 4294967295 ≡ false = grind (arith, nat_tests) in let k = rw t at e in cc)
+    ]
+id-narrower (negsuc n) count fault own e = cc
+
+given-narrower : (t : Bool) (z : ℤ) (count : ℕ) (a x : Option Error) → is_past count (cond t (Some (nat_of z)) None) ≡ false
+    → (is_past count (Some (nat_of z)) ≡ false → a ≡ None → x ≡ None) → cond t a None ≡ None → cond t x None ≡ None
+given-narrower true z count a x own f e = f own e
+given-narrower false z count a x own f e = refl
+
+-- the ids of a token are below these counts
+pub record IsWithin (names sources : ℕ) (t : TokenRecord) : Type 0 where
+  pub source : is_past sources t.source_id ≡ false
+  pub name : is_past names t.name_id ≡ false
+
+place-narrower : (names sources line : ℕ) (reached : Place) (size : ℕ) (here : Place) → IsWithin names sources (token_at line size here)
+    → place_fault (counts_of 4294967295 4294967295) reached size here ≡ None → place_fault (counts_of names sources) reached size here ≡ None
+unfolding place_fault
+place-narrower names sources line reached size here own e =
+    let c = counts_of 4294967295 4294967295 in
+    let d = counts_of names sources in
+    orelse-wider _ _ _ _
+    (orelse-wider _ _ _ _ (λ h. h)
+    (given-narrower (has_source size) here.source_id sources (source_fault c reached here) (source_fault d reached here) own.source
+    (λ below. orelse-wider _ _ _ _ (orelse-wider _ _ _ _ (id-narrower here.source_id sources _ below) (λ h. h)) (λ h. h))))
+    (given-narrower (has_name size) here.name_id names (name_fault c here) (name_fault d here) own.name
+    (λ below. id-narrower here.name_id names _ below)) e
+
+-- A text that is read with any ids is read as the same tokens with these counts, if all ids are below them.
+pub reading-within : (text : List ℕ) (names sources : ℕ) (ts : List TokenRecord) → AllByRecursion (IsWithin names sources) ts
+    → reading text 4294967295 4294967295 ≡ Ok ts → reading text names sources ≡ Ok ts
+unfolding reading
+reading-within text names sources ts all e =
+    let c = counts_of 4294967295 4294967295 in
+    let d = counts_of names sources in
+    gathered-kept (IsWithin names sources) _ _ ts
+    (text-kept (IsWithin names sources) c d 0 nothing_before (lines text)
+    (λ line reached s here own. orelse-wider (digit_fault s) _ (digit_fault s) _ (λ h. h) (place-narrower names sources line reached (length s) here own))) all e
 
 -- no mappings have no tokens
 pub reading-empty : (names sources : ℕ) → reading [] names sources ≡ Ok []

@@ -6,8 +6,10 @@ pub mod PlainMaps
 pub mod ExactSections
 pub mod SoundSections
 pub mod Reader
+pub mod NothingTold
 pub mod OpenedJson
 pub mod Prefixes
+pub mod Counted
 pub mod SoFar
 pub mod Joining
 pub mod FoundSteps

@@ -89,11 +89,11 @@ map-stays r h =
 
 -- ---- exact maps
 
-record Clear (o : Option Error) (x : Result MapRecord Error) (r : MapRecord) : Type 0 where
-  fault : o ≡ None
-  is : x ≡ Ok r
+pub record Clear (o : Option Error) (x : Result MapRecord Error) (r : MapRecord) : Type 0 where
+  pub fault : o ≡ None
+  pub is : x ≡ Ok r
 
-clear : (o : Option Error) (x : Result MapRecord Error) (r : MapRecord) → unless o x ≡ Ok r → Clear o x r
+pub clear : (o : Option Error) (x : Result MapRecord Error) (r : MapRecord) → unless o x ≡ Ok r → Clear o x r
 clear None x r e = record { fault = refl; is = e }
 clear (Some fault) x r e = cc
 
@@ -106,12 +106,12 @@ list-clear true fault o e = no-entry o e
 list-clear false fault o e = cc
 
 -- the tokens of a map that was decoded
-record Tokens (j : JsonRecord) (x : Result (List TokenRecord) Error) (r : MapRecord) : Type 0 where
-  tokens : List TokenRecord
-  are_read : x ≡ Ok tokens
-  is_map : decoded_record j tokens ≡ r
+pub record Tokens (j : JsonRecord) (x : Result (List TokenRecord) Error) (r : MapRecord) : Type 0 where
+  pub tokens : List TokenRecord
+  pub are_read : x ≡ Ok tokens
+  pub is_map : decoded_record j tokens ≡ r
 
-tokens-of : (j : JsonRecord) (x : Result (List TokenRecord) Error) (r : MapRecord) → with_tokens j x ≡ Ok r → Tokens j x r
+pub tokens-of : (j : JsonRecord) (x : Result (List TokenRecord) Error) (r : MapRecord) → with_tokens j x ≡ Ok r → Tokens j x r
 tokens-of j (Ok ts) r e = record { tokens = ts; are_read = refl; is_map = cc }
 tokens-of j (Err fault) r e = cc
 

@@ -6,7 +6,9 @@ use Rattle.oxc_sourcemap_tokens.specs.declared.errors.error.Field.TheVariants.{O
 use Rattle.oxc_sourcemap_tokens.specs.declared.errors.error.Field.TheVariants.{Sections, Map}
 use Rattle.oxc_sourcemap_tokens.specs.declared.errors.error.Field.TheVariants.{Offset}
 use Rattle.oxc_sourcemap_tokens.specs.declared.errors.fault.FaultSpot.TheVariants.{Member, Entry}
+use Rattle.oxc_sourcemap_tokens.specs.declared.errors.fault.FaultSpot.TheVariants.{Reading}
 use Rattle.oxc_sourcemap_text.specs.DataUrls.{decoded_data_url}
+use Rattle.std.proofs.Common.{arith, ◌≤◌}
 use Rattle.oxc_sourcemap_tokens.specs.declared.position.Position.{Position}
 use Rattle.oxc_sourcemap_tokens.specs.Token.{TokenRecord}
 use Rattle.oxc_sourcemap_parts.specs.Record.{Text, MapRecord}
@@ -21,7 +23,8 @@ use Rattle.oxc_sourcemap_found.specs.MendedSections.{MendedSection, is_behind, c
 use Rattle.oxc_sourcemap_found.specs.MendedSections.{section_mends}
 use Rattle.oxc_sourcemap_found.specs.FoundMaps.{found_record, in_order}
 use Rattle.oxc_sourcemap_found.specs.FoundPlaces.{found_value_place, found_sections_place}
-use Rattle.oxc_sourcemap_found.specs.Opening.{Opened, opened}
+use Rattle.oxc_sourcemap_found.specs.FoundPlaces.{IsFoundReading}
+use Rattle.oxc_sourcemap_found.specs.Opening.{Opened, opened, counted_text}
 
 abbrev opened_as : Text → List MendKind → Opened
 opened_as text kinds = record { text = text; kinds = kinds }
@@ -41,6 +44,16 @@ opens-one_mark = refl
 opens-no_other_url : opened (codes "data:text/plain,{}") ≡ opened_as (codes "data:text/plain,{}") []
 unfolding opened decoded_data_url
 opens-no_other_url = refl
+
+-- ---- where places are counted
+
+counts-in_the_whole_text : counted_text (codes ")]}'\n<") ≡ codes ")]}'\n<"
+unfolding counted_text decoded_data_url
+counts-in_the_whole_text = refl
+
+places-behind_a_line : IsFoundReading (codes ")]}'\n<") (record { text = None; section = None; spot = Reading 1 0 5 })
+unfolding counted_text opened decoded_data_url
+places-behind_a_line = (refl, refl, (omega arith, (omega arith, refl, refl)))
 
 -- ---- sections
 

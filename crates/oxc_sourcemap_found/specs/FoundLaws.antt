@@ -19,6 +19,10 @@ abbrev pub ExactIsSorted : Type 0
 ExactIsSorted = (text : Text) (r : MapRecord) → read_map text ≡ Ok r
     → found text ≡ Ok (record { map = sorted_map r; mends = order_mends r.tokens })
 
+-- A text of which nothing is told is one that the exact reader reads as the same map: the list of mends is complete.
+abbrev pub UnmendedIsExact : Type 0
+UnmendedIsExact = (text : Text) (f : FoundRecord) → found text ≡ Ok f → f.mends ≡ [] → read_map text ≡ Ok f.map
+
 -- The members of a mended object have nothing to mend.
 abbrev pub MendedIsMended : Type 0
 MendedIsMended = (ms : Members) → (mended_members (mended_members ms).members).kinds ≡ []

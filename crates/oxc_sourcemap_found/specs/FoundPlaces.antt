@@ -1,5 +1,6 @@
 -- Where a text as it is found has the fault for which it is refused.
-use Rattle.std.specs.Prelude.{◌≡◌, ◌≢◌, ℕ, ◌+◌, codes, Option, Some, None, Result, Ok, Err}
+use Rattle.std.specs.Prelude.{◌≡◌, ◌≢◌, ℕ, ◌+◌, ◌-◌, length, codes, Option, Some, None, Result, Ok}
+use Rattle.std.specs.Prelude.{Err}
 use Rattle.std.specs.Prelude.{MatchOption, IsSomeAnd, IfOk, IfErr, ⊤, if◌then◌else◌}
 use Rattle.std.specs.Option.{option_map, option_and_then, option_or}
 use Rattle.serde_json.specs.Data.{Data, Items, no_items, item, Members, object}
@@ -24,12 +25,13 @@ use Rattle.oxc_sourcemap_tokens.specs.declared.errors.fault.FaultPlace.{FaultPla
 use Rattle.oxc_sourcemap_tokens.specs.declared.errors.fault.FaultSpot.{FaultSpot}
 use Rattle.oxc_sourcemap_tokens.specs.declared.errors.fault.FaultSpot.TheVariants.{Segment, Member}
 use Rattle.oxc_sourcemap_json.specs.ShapeSpots.{shape_spot, ignored_field}
-use Rattle.oxc_sourcemap_json.specs.ValuePlaces.{ignored_spot, offset_place, or_place, IsReading}
+use Rattle.oxc_sourcemap_json.specs.ValuePlaces.{ignored_spot, offset_place, or_place}
+use Rattle.oxc_sourcemap_json.specs.ValuePlaces.{IsReadingFrom}
 use Rattle.oxc_sourcemap_tokens.specs.Places.{place_in}
 use Rattle.oxc_sourcemap_found.specs.FoundMaps.{FoundRecord}
 use Rattle.oxc_sourcemap_found.specs.Mended.{mended_members, with_version, as_found}
 use Rattle.oxc_sourcemap_found.specs.MendedSections.{offset_from}
-use Rattle.oxc_sourcemap_found.specs.Opening.{opened}
+use Rattle.oxc_sourcemap_found.specs.Opening.{opened, counted_text}
 
 -- where the mappings of a map, which may have any ids, have a fault
 abbrev pub found_mappings_spot : JsonRecord → Option FaultSpot
@@ -95,9 +97,14 @@ found_members_place (Some ms) = found_object_place ms
 abbrev pub found_value_place : Data → Option FaultPlace
 found_value_place d = found_members_place (as_object d)
 
--- where a text has the fault for which it is refused: one at which what was opened is not JSON, or that of its value
+-- A place at which what was opened is not JSON. It is counted in the text of a data URL, or else in the whole text, and then not in
+-- what is passed over in front.
+abbrev pub IsFoundReading : Text → FaultPlace → Type 0
+IsFoundReading text place = IsReadingFrom (length (counted_text text) - length (opened text).text) (counted_text text) place
+
+-- where a text has the fault for which it is refused: a place at which what was opened is not JSON, or that of its value
 abbrev pub IsFoundPlace : Text → Option FaultPlace → Type 0
-IsFoundPlace text place = MatchOption (read (opened text).text) (IsSomeAnd place IsReading) (λ d. place ≡ found_value_place d)
+IsFoundPlace text place = MatchOption (read (opened text).text) (IsSomeAnd place (IsFoundReading text)) (λ d. place ≡ found_value_place d)
 
 -- A text that is read has no place. One that is refused has one, unless its error is `TooLarge`, as where a join passes a limit.
 abbrev pub HasPlaceIfRefused : Result FoundRecord Error → Option FaultPlace → Type 0

@@ -1,8 +1,13 @@
 -- What is passed over and opened before a JSON text is read: a byte order mark, a line that keeps the text from being run as a
 -- script, and a data URL.
-use Rattle.std.specs.Prelude.{List, [], ◌∷◌, ◌++◌, length, drop, codes, Option, Some, None, Result}
+use Rattle.std.specs.Prelude.{◌≡◌, ◌≤◌, string_bytes, List, [], ◌∷◌, ◌++◌, length, drop, codes}
+use Rattle.std.specs.Prelude.{Option, Some, None, Result}
 use Rattle.std.specs.Prelude.{Ok, Err, if◌then◌else◌, ◌==◌, nat_eq}
 use Rattle.std.specs.List.{starts_with, after_first}
+use Rattle.std.specs.Option.{unwrap_or}
+use Rattle.std.specs.Cow.{cow_str_bytes}
+use Rattle.std.specs.declared.borrow.CowStr.{CowStr}
+use Rattle.std.specs.declared.borrow.CowStr.TheVariants.{Borrowed, Owned}
 use Rattle.oxc_sourcemap_parts.specs.Record.{Text}
 use Rattle.oxc_sourcemap_text.specs.declared.url.data_url_error.DataUrlError.{DataUrlError}
 use Rattle.oxc_sourcemap_text.specs.DataUrls.{decoded_data_url}
@@ -62,6 +67,22 @@ with_data o = behind_url o (data_in o.text)
 abbrev pub as_given : Text → Opened
 as_given text = record { text = text; kinds = [] }
 
+-- a text without what is passed over in front of it
+abbrev pub past_front : Text → Opened
+past_front text = without_prefix (without_mark (as_given text))
+
 -- the text that is read as JSON, and what was passed over and opened to find it
 unfoldable pub opened : Text → Opened
-opened text = with_data (without_prefix (without_mark (as_given text)))
+opened text = with_data (past_front text)
+
+-- the text in which places are counted: that in a data URL, or else the whole text, with what is passed over
+unfoldable pub counted_text : Text → Text
+counted_text text = unwrap_or (data_in (past_front text).text) text
+
+-- This is the text that is read as JSON, lent if places are counted in the whole text, and owned if it was in a data URL.
+abbrev pub IsCountedBy : {Z : Type 0} → Text → CowStr Z → Type 0
+IsCountedBy text (Borrowed end) = (counted_text text ≡ text) × (length end.now ≤ length text)
+IsCountedBy text (Owned json) = counted_text text ≡ string_bytes json
+
+abbrev pub IsJsonIn : {Z : Type 0} → Text → CowStr Z → Type 0
+IsJsonIn text json = (cow_str_bytes json ≡ (opened text).text) × IsCountedBy text json

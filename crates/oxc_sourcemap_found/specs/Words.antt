@@ -17,7 +17,7 @@ pub use Rattle.oxc_sourcemap_tokens.specs.declared.errors.error.Error.TheVariant
 pub use Rattle.oxc_sourcemap_tokens.specs.declared.errors.error.Error.TheVariants.{TooLarge}
 pub use Rattle.oxc_sourcemap_tokens.specs.declared.errors.error.Error.TheVariants.{BadJson}
 pub use Rattle.oxc_sourcemap_tokens.specs.declared.errors.error.JsonFault.TheVariants.{Reading}
-pub use Rattle.oxc_sourcemap_json.specs.ValuePlaces.{place_at, offset_place, or_place, IsReading}
+pub use Rattle.oxc_sourcemap_json.specs.ValuePlaces.{place_at, offset_place, or_place}
 pub use Rattle.serde_json.specs.Errors.{IsMemory}
 pub use Rattle.oxc_sourcemap_found.specs.FoundMaps.{found_record, found_map, joined_map}
 pub use Rattle.oxc_sourcemap_found.specs.FoundMaps.{found_sections, found_value, found, order_mends}
@@ -40,13 +40,13 @@ pub use Rattle.oxc_sourcemap_found.specs.MendedSections.{sections_from, is_behin
 pub use Rattle.oxc_sourcemap_found.specs.MendedSections.{reaches_into, cut_kinds, cut_maps}
 pub use Rattle.oxc_sourcemap_found.specs.MendedSections.{section_mends}
 pub use Rattle.oxc_sourcemap_found.specs.Opening.{Opened, behind, without_mark, without_prefix}
-pub use Rattle.oxc_sourcemap_found.specs.Opening.{data_in, opened}
+pub use Rattle.oxc_sourcemap_found.specs.Opening.{data_in, opened, IsJsonIn}
 pub use Rattle.oxc_sourcemap_found.specs.Views.{state_of, found_view, opened_view, mended_view}
 pub use Rattle.oxc_sourcemap_found.specs.Views.{section_view}
 pub use Rattle.oxc_sourcemap_found.specs.FoundLaws.{ExactIsFound, ExactIsSorted, MendedIsMended}
-pub use Rattle.oxc_sourcemap_found.specs.FoundLaws.{FoundIsSound}
+pub use Rattle.oxc_sourcemap_found.specs.FoundLaws.{FoundIsSound, UnmendedIsExact}
 pub use Rattle.oxc_sourcemap_found.specs.FoundPlaces.{found_fields_spot, plain_spot, found_map_spot}
 pub use Rattle.oxc_sourcemap_found.specs.FoundPlaces.{section_place, found_sections_place}
 pub use Rattle.oxc_sourcemap_found.specs.FoundPlaces.{found_indexed_place, found_value_place}
 pub use Rattle.oxc_sourcemap_found.specs.FoundPlaces.{IsFoundPlace, HasPlaceIfRefused, LocatesFault}
-pub use Rattle.oxc_sourcemap_found.specs.FoundPlaces.{LocatesFaultIn, IsFoundFault}
+pub use Rattle.oxc_sourcemap_found.specs.FoundPlaces.{LocatesFaultIn, IsFoundFault, IsFoundReading}

@@ -194,7 +194,7 @@ pub fn read_located(alloc: Global, text: &str) -> Located<Found>
 /// ```
 ///
 /// A text that the exact reader reads is read as the same map with its tokens sorted, and only `Unsorted` is told, if they were
-/// not (`mending_harmless`). What is not in the list is refused, in this order:
+/// not; it reads each text of which nothing is told (`mending_harmless`). What is not in the list is refused, in this order:
 /// - `BadJson(Reading)` if `serde_json` reads no value in what is left of the text, as for any URL but a data URL of JSON;
 /// - `BadJson(Shape(Object))` if the value is no object, and then the errors of `JSONSourceMap::from_value` for the mended object;
 /// - the errors of `decode_mappings`, for as many names and sources as there can be: a source or name id may be up to 4294967294;
@@ -211,11 +211,11 @@ pub fn read_found(alloc: Global, text: &str) -> Result<Found>
 /// Where a text has the fault for which `read_found` refuses it; None if it reads the text, or if the join of the sections of an
 /// indexed map passes a limit (`TooLarge`).
 ///
-/// If the text is not JSON, the place that the reader gives, counted in the whole text; of a data URL in the text that it has. Else
-/// that of the first fault that is not mended: the member that is missing or has the wrong type, and of a list with an entry that is
-/// not mended the first such entry, or the value if it is no object; then the segment of the mappings. Of an indexed map it is its
-/// version or its file; `sections`, if that is no list, or the entry of it that is no object; else a place in the first section that is
-/// refused: its offset, its map, or the place in that. Fails only with `OutOfMemory`.
+/// If the text is not JSON, the place that the reader gives, counted in the whole text, with what is passed over in front; of a data
+/// URL in the text that it has. Else that of the first fault that is not mended: the member that is missing or has the wrong type, and
+/// of a list with an entry that is not mended the first such entry, or the value if it is no object; then the segment of the mappings.
+/// Of an indexed map it is its version or its file; `sections`, if that is no list, or the entry of it that is no object; else a place in
+/// the first section that is refused: its offset, its map, or the place in that. Fails only with `OutOfMemory`.
 ///
 /// ```rust
 /// use oxc_sourcemap::{Field, FaultSpot, found_fault_at};

@@ -3,7 +3,7 @@ ghost use Rattle.std.specs.Prelude.{◌≡◌, ◌==◌, option_map, string_byte
 ghost use Rattle.std.specs.Cow.{cow_str_bytes};
 ghost use Rattle.std.specs.List.{after_first};
 ghost use Rattle.oxc_sourcemap_found.specs.Words.{Opened, lent_item, behind, opened, opened_view};
-ghost use Rattle.oxc_sourcemap_found.specs.Words.{without_mark, without_prefix, data_in};
+ghost use Rattle.oxc_sourcemap_found.specs.Words.{without_mark, without_prefix, data_in, IsJsonIn};
 
 use crate::mending::MendKind;
 use oxc_sourcemap_text::{DataUrlError, decode_data_url};
@@ -66,9 +66,10 @@ fn data_in(alloc: Global, url: &str) -> Memory<Option<String>>
 }
 
 /// The text that is read as JSON, and what was passed over and opened to find it.
-#[tactic(auto, unfolding(crate::specs::Opening::opened))]
+#[tactic(auto, unfolding(crate::specs::Opening::opened, crate::specs::Opening::counted_text))]
 pub(crate) fn open(alloc: Global, text: &str) -> Memory<(CowStr<'_>, Vec<MendKind>)>
-    ensures { IfOk result (λ o. opened_view (cow_str_bytes o.0) o.1 ≡ opened text.now) }
+    ensures opened { IfOk result (λ o. opened_view (cow_str_bytes o.0) o.1 ≡ opened text.now) }
+    ensures json { IfOk result (λ o. IsJsonIn text.now o.0) }
 {
     let mut kinds = Vec::new(alloc);
     let text = skip_mark(text, &mut kinds)?;

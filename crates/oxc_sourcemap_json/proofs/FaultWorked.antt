@@ -1,5 +1,6 @@
 -- Worked examples of places of faults, computed by the definitions themselves.
-use Rattle.std.specs.Prelude.{◌≡◌, refl, [], codes, Some, None}
+use Rattle.std.specs.Prelude.{◌≡◌, refl, [], codes, Some, None, ◌≤◌}
+use Rattle.std.proofs.Common.{arith}
 use Rattle.std.specs.Fmt.{digits}
 use Rattle.serde_json.specs.Data.{Data, null, number, array, object, unsigned, no_items, item}
 use Rattle.serde_json.specs.Data.{no_members, member}
@@ -9,6 +10,7 @@ use Rattle.oxc_sourcemap_tokens.specs.declared.errors.error.Field.TheVariants.{O
 use Rattle.oxc_sourcemap_tokens.specs.declared.errors.fault.FaultSpot.TheVariants.{Segment, Reading}
 use Rattle.oxc_sourcemap_tokens.specs.declared.errors.fault.FaultSpot.TheVariants.{Member, Entry}
 use Rattle.oxc_sourcemap_tokens.specs.PlaceMessages.{place_text}
+use Rattle.oxc_sourcemap_json.specs.TextBytes.{line_start, IsByteAt}
 use Rattle.oxc_sourcemap_json.specs.ValuePlaces.{sections_place, indexed_place}
 
 tells-text : place_text (record { text = Some 700; section = None; spot = Segment (record { byte = 12; line = 0; segment = 3 }) })
@@ -27,6 +29,24 @@ tells-value = refl
 tells-reading : place_text (record { text = None; section = None; spot = Reading 4 0 99 }) ≡ codes "line 4, column 0 (byte 99)"
 unfolding digits
 tells-reading = refl
+
+-- ---- bytes of a text
+
+begins-line : line_start (codes "ab\nc\n") 1 ≡ 3
+begins-line = refl
+
+begins-last_line : line_start (codes "ab\nc\n") 2 ≡ 5
+begins-last_line = refl
+
+finds-byte : IsByteAt (codes "ab\ncd\n") 1 1 4
+finds-byte = (omega arith, refl, refl)
+
+-- a line feed is on the line that it ends
+finds-line_feed : IsByteAt (codes "ab\nc\n") 0 2 2
+finds-line_feed = (omega arith, refl, refl)
+
+finds-end : IsByteAt (codes "ab\nc\n") 2 0 5
+finds-end = (omega arith, refl, refl)
 
 -- ---- sections
 

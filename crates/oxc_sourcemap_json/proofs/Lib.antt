@@ -29,3 +29,4 @@ pub mod WellRead
 mod ReadWorked
 pub mod NotJson
 mod FaultWorked
+pub mod TextBytes

@@ -18,6 +18,7 @@ pub mod Section
 pub mod JoinLimits
 pub mod Sections
 pub mod ReadMap
+pub mod TextBytes
 pub mod ValuePlaces
 pub mod ReadLaws
 pub mod Words

@@ -2,7 +2,7 @@
 -- sections in that of `section_after`.
 use Rattle.std.specs.Prelude.{◌≡◌, ◌≢◌, ℕ, true, List, [], ◌∷◌, ◌++◌, length, codes, Option, Some}
 use Rattle.std.specs.Prelude.{None, Result, Ok, Err, IfOk, IfErr, if◌then◌else◌, is_some, IsSomeAnd}
-use Rattle.std.specs.Prelude.{nat_le, position, ⊤}
+use Rattle.std.specs.Prelude.{nat_le, position, ◌≤◌}
 use Rattle.std.specs.Option.{option_map, option_and_then, option_or}
 use Rattle.serde_json.specs.Data.{Data, Items, no_items, item}
 use Rattle.serde_json.specs.Find.{get, as_object}
@@ -32,6 +32,7 @@ use Rattle.oxc_sourcemap_json.specs.JoinLimits.{is_map_within_limits}
 use Rattle.oxc_sourcemap_json.specs.ReadMap.{sections_in}
 use Rattle.oxc_sourcemap_json.specs.Section.{is_indexed, as_plain}
 use Rattle.oxc_sourcemap_json.specs.Sections.{offset_after, section_map}
+use Rattle.oxc_sourcemap_json.specs.TextBytes.{IsByteAt}
 
 -- a spot as a place, in a text without sections
 abbrev pub place_at : FaultSpot → FaultPlace
@@ -110,23 +111,26 @@ indexed_place d =
 unfoldable pub value_place : Data → Option FaultPlace
 value_place d = if is_indexed d then indexed_place d else option_map (place_in None) (value_spot d)
 
--- a place at which a text is not JSON
-abbrev pub IsReadingSpot : FaultSpot → Type 0
-IsReadingSpot (ReadingSpot line column byte) = ⊤
-IsReadingSpot spot = ⊥
+-- A place at which this text is not JSON: a byte of it, or its end, from this index on, with its line and its column.
+abbrev pub IsReadingSpot : ℕ → Text → FaultSpot → Type 0
+IsReadingSpot from text (ReadingSpot line column byte) = (from ≤ byte) × IsByteAt text line column byte
+IsReadingSpot from text spot = ⊥
 
-abbrev pub IsReading : FaultPlace → Type 0
-IsReading place = (place.text ≡ None) × (place.section ≡ None) × IsReadingSpot place.spot
+abbrev pub IsReadingFrom : ℕ → Text → FaultPlace → Type 0
+IsReadingFrom from text place = (place.text ≡ None) × (place.section ≡ None) × IsReadingSpot from text place.spot
+
+abbrev pub IsReading : Text → FaultPlace → Type 0
+IsReading text place = IsReadingFrom 0 text place
 
 -- If a text is JSON, its value has no place of a fault.
 abbrev pub HasNoPlace : Text → Type 0
 HasNoPlace text = (d : Data) → read text ≡ Some d → value_place d ≡ None
 
--- A fault, unless it is want of memory, has a place: that of the first fault of this text, or, if the text is not JSON, some place of reading.
+-- A fault, unless it is want of memory, has a place: that of the first fault of this text, or, if the text is not JSON, a place in it.
 abbrev pub IsPlacedIn : Text → Fault → Type 0
 IsPlacedIn text f =
     (f.error ≢ OutOfMemory) → ((d : Data) → read text ≡ Some d → value_place d ≡ f.place)
-    × (read text ≡ None → IsSomeAnd f.place IsReading) × (is_some f.place ≡ true)
+    × (read text ≡ None → IsSomeAnd f.place (IsReading text)) × (is_some f.place ≡ true)
 
 -- The place of the error of the call is that of the first fault of this text; where it succeeds, there is none.
 abbrev pub LocatesIn : {A : Type 0} → Text → Result A Fault → Type 0

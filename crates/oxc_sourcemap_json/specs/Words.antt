@@ -50,7 +50,9 @@ pub use Rattle.oxc_sourcemap_json.specs.Sections.{section_map, all_sections, joi
 pub use Rattle.oxc_sourcemap_json.specs.ValuePlaces.{place_at, fields_spot, value_spot, read_alone}
 pub use Rattle.oxc_sourcemap_json.specs.ValuePlaces.{plain_map, map_spot, offset_place, limit_place}
 pub use Rattle.oxc_sourcemap_json.specs.ValuePlaces.{sections_place, indexed_place, value_place}
-pub use Rattle.oxc_sourcemap_json.specs.ValuePlaces.{IsReading, HasNoPlace, IsPlacedIn, LocatesIn}
+pub use Rattle.oxc_sourcemap_json.specs.TextBytes.{line_feeds, line_start}
+pub use Rattle.oxc_sourcemap_json.specs.ValuePlaces.{IsReading, IsReadingFrom}
+pub use Rattle.oxc_sourcemap_json.specs.ValuePlaces.{HasNoPlace, IsPlacedIn, LocatesIn}
 pub use Rattle.oxc_sourcemap_json.specs.Appends.{OnlyAdds}
 pub use Rattle.oxc_sourcemap_json.specs.Encoded.{encoded, written_contents, encoded_record}
 pub use Rattle.oxc_sourcemap_json.specs.JsonParts.{head_text, lists_text, tail_text}

@@ -14,7 +14,7 @@ pub use object::{JSONSourceMap, file_from_value, ignored_field, json_of, read_fi
 pub use read::{
     decode_parts, decode_parts_from_string, decode_parts_from_value, into_member, is_indexed,
     is_plain, may_follow, offset_in, offset_place, read_fields, read_parts_from_string,
-    reading_place,
+    reading_byte, reading_place,
 };
 pub use write::{
     encode_mappings_within, encode_owned_parts, encode_parts, encode_parts_into,

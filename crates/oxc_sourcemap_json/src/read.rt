@@ -8,7 +8,7 @@ mod sections;
 
 pub use decode::{decode_parts, read_fields};
 pub use offsets::{may_follow, offset_in};
-pub use reading::reading_place;
+pub use reading::{reading_byte, reading_place};
 pub use sections::{
     decode_parts_from_string, decode_parts_from_value, into_member, is_indexed, is_plain,
     offset_place, read_parts_from_string, read_parts_from_value,

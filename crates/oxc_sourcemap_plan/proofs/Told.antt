@@ -128,7 +128,7 @@ input_part first a ms ps i p l q g h =
     }
 
 -- ---- a text that cannot be read
-pub text_place : (text : Text) (place : Option FaultPlace) → ((d : Data) → read text ≡ Some d → value_place d ≡ place) → (read text ≡ None → IsSomeAnd place IsReading) → is_some place ≡ true
+pub text_place : (text : Text) (place : Option FaultPlace) → ((d : Data) → read text ≡ Some d → value_place d ≡ place) → (read text ≡ None → IsSomeAnd place (IsReading text)) → is_some place ≡ true
     → IsSomeAnd place (IsTextPlace text)
 text_place text None json bad there = absurd (cc (there))
 text_place text (Some p) json bad there = (json, bad)

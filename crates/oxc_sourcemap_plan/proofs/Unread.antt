@@ -85,7 +85,7 @@ first-is texts u e =
     (ap (slice_get texts) same ∙ found.2, found.3)
 
 placed : (texts : List Text) (u : Unread) (error : Error) (place : Option FaultPlace) → first_unread texts ≡ Some u → u.error ≡ error
-    → ((d : Data) → read u.text ≡ Some d → value_place d ≡ place) → (read u.text ≡ None → IsSomeAnd place IsReading) → is_some place ≡ true
+    → ((d : Data) → read u.text ≡ Some d → value_place d ≡ place) → (read u.text ≡ None → IsSomeAnd place (IsReading u.text)) → is_some place ≡ true
     → IsPlaceOf texts error (option_map (with_number u.number) place)
 placed texts u error None first same json bad there = absurd (cc (there))
 placed texts u error (Some p) first same json bad there =

@@ -59,7 +59,7 @@ first_unread texts = unread_from 0 texts
 
 -- the place of the first fault of a text
 abbrev pub IsTextPlace : Text → FaultPlace → Type 0
-IsTextPlace text place = ((d : Data) → read text ≡ Some d → value_place d ≡ Some place) × (read text ≡ None → IsReading place)
+IsTextPlace text place = ((d : Data) → read text ≡ Some d → value_place d ≡ Some place) × (read text ≡ None → IsReading text place)
 
 -- a place, with the number of the text
 abbrev pub with_number : ℕ → FaultPlace → FaultPlace

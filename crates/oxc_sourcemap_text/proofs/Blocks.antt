@@ -86,7 +86,7 @@ fewer-bytes fs rest zs ws e short =
     ap (λ l. length (encodes l)) parts ∙ ap length (encodes-append zs (drop (length zs) fs)) ∙ length-append (encodes zs) (encodes (drop (length zs) fs)) in
     omega (arith, length-le-encodes (drop (length zs) fs))
 
-chars-end : (b : List ℕ) → IsUtf8 b → chars (42 ∷ 47 ∷ b) ≡ 42 ∷ 47 ∷ chars b
+pub chars-end : (b : List ℕ) → IsUtf8 b → chars (42 ∷ 47 ∷ b) ≡ 42 ∷ 47 ∷ chars b
 chars-end b utf8 =
     let marks : List ℕ = 42 ∷ 47 ∷ [] in
     let ascii : (i : ℕ) → get_or marks i 0 < 128 = λ i. grind (arith, nat_tests) in

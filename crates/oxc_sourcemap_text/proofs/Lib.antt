@@ -12,4 +12,6 @@ mod Blocks
 mod LineCuts
 mod Spaces
 mod Placed
+mod Appended
+mod Last
 mod UrlWorked

@@ -11,12 +11,12 @@ pub pieces-nil : (s : Bool) → pieces s None [] ≡ []
 unfolding pieces
 pieces-nil s = refl
 
-pieces-space : (s : Bool) (a : ℕ) (cs : List ℕ) → is_whitespace a ≡ true → pieces s None (a ∷ cs) ≡ pieces s None cs
+pub pieces-space : (s : Bool) (a : ℕ) (cs : List ℕ) → is_whitespace a ≡ true → pieces s None (a ∷ cs) ≡ pieces s None cs
 unfolding pieces
 pieces-space s a [] h = rw h refl
 pieces-space s a (b ∷ cs) h = rw h refl
 
-pieces-line : (cs : List ℕ) → pieces true None (47 ∷ 47 ∷ cs) ≡ Some cs ∷ []
+pub pieces-line : (cs : List ℕ) → pieces true None (47 ∷ 47 ∷ cs) ≡ Some cs ∷ []
 unfolding pieces
 pieces-line cs = refl
 
@@ -54,7 +54,7 @@ unfolding pieces
 pieces-begun true cs = refl
 pieces-begun false cs = refl
 
-pieces-block : (s : Bool) (cs text rest : List ℕ) → around_block_end cs ≡ Some (text, rest)
+pub pieces-block : (s : Bool) (cs text rest : List ℕ) → around_block_end cs ≡ Some (text, rest)
     → pieces s None (47 ∷ 42 ∷ cs) ≡ Some text ∷ pieces s None rest
 pieces-block s cs text rest e = pieces-begun s cs ∙ pieces-inside s [] cs ∙ ap (inside s []) e
 

@@ -22,7 +22,7 @@ pub placed-after : (slashes : Bool) (code : List ℕ) (known result : Option Nam
 placed-after s code known None text place after before here = tt
 placed-after s code known (Some new) text place after before here =
     elim after [
-      | inl e ↦ subst (λ k. IfSome k (IsPlaced s code)) e before
+      | inl same ↦ subst (λ k. IfSome k (IsPlaced s code)) same.0 before
       | inr found ↦ here new found.0 found.1
     ]
 

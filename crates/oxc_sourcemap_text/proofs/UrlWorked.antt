@@ -1,5 +1,5 @@
 -- Worked examples of data URLs and comments that name a map, computed by the definitions themselves.
-use Rattle.std.specs.Prelude.{◌≡◌, refl, ◌∷◌, ◌++◌, codes, Some, None, Ok, Err}
+use Rattle.std.specs.Prelude.{◌≡◌, refl, [], ◌∷◌, ◌++◌, codes, Some, None, Ok, Err}
 use lib.Utf8.{encode}
 use Rattle.std.specs.Str.{is_utf8, chars}
 use Rattle.std.specs.Str.Lossy.{utf8_valid_len}
@@ -11,6 +11,7 @@ use Rattle.oxc_sourcemap_text.specs.declared.url.data_url_error.DataUrlError.The
 use Rattle.oxc_sourcemap_text.specs.declared.url.language.Language.TheVariants.{JavaScript, Css}
 use Rattle.oxc_sourcemap_text.specs.DataUrls.{decoded_data_url, data_text}
 use Rattle.oxc_sourcemap_text.specs.MappingUrls.{mapping_url, url_known, pieces}
+use Rattle.oxc_sourcemap_text.specs.CommentLaws.{with_comment}
 
 opens-percent_encoded : decoded_data_url (codes "data:application/json;charset=utf-8,%7b%7D#x") ≡ Ok (Some (codes "{}"))
 unfolding decoded_data_url data_text percent_decode is_utf8 chars encode
@@ -84,3 +85,15 @@ finds-no_line_comment_in_css = refl
 finds-nothing_before_code_behind_a_separator : mapping_url JavaScript (codes "//# sourceMappingURL=a.map" ++ 0x2028 ∷ codes "x") ≡ None
 unfolding url_known pieces lines_of
 finds-nothing_before_code_behind_a_separator = refl
+
+finds-appended : mapping_url JavaScript (with_comment JavaScript (codes "`\n/*") (codes "a.map")) ≡ Some (codes "a.map")
+unfolding url_known pieces lines_of
+finds-appended = refl
+
+finds-appended_in_css : mapping_url Css (with_comment Css (codes "a{") (codes "a.map")) ≡ Some (codes "a.map")
+unfolding url_known pieces lines_of
+finds-appended_in_css = refl
+
+finds-no_quoted_url : mapping_url JavaScript (with_comment JavaScript [] (codes "a'b")) ≡ None
+unfolding url_known pieces lines_of
+finds-no_quoted_url = refl

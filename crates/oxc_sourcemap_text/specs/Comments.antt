@@ -1,12 +1,15 @@
 -- The steps of the reader of lines. Only private clauses cite this module.
 use Rattle.std.specs.Prelude.{◌≡◌, ◌⊎◌, ◌++◌, ℕ, Bool, true, false, ◌&&◌, List, ◌∷◌, Option, Some}
-use Rattle.std.specs.Prelude.{None, ◌==◌, if◌then◌else◌}
+use Rattle.std.specs.Prelude.{None, ◌==◌, if◌then◌else◌, flat_map}
 use Rattle.std.specs.Borrow.{Bor}
 use Rattle.std.specs.Str.{chars, IsUtf8}
 use Rattle.std.specs.Option.{option_map}
 use Rattle.oxc_sourcemap_text.specs.declared.url.comment.Place.{Place}
 use Rattle.oxc_sourcemap_text.specs.declared.url.comment.Naming.{Naming}
 use Rattle.oxc_sourcemap_text.specs.MappingUrls.{begins_with, IsNamingText, IsComment}
+use Rattle.oxc_sourcemap_text.specs.MappingUrls.{Piece, pieces, all_pieces, AreQuiet, named_url}
+use Rattle.oxc_sourcemap_text.specs.MappingUrls.{may_end_another}
+use Rattle.oxc_sourcemap_text.specs.TextLines.{lines_of}
 
 -- the second character of a comment that ends with its line, or does not
 abbrev pub second_of : Bool → ℕ
@@ -25,10 +28,14 @@ IsCommentAt slashes c after (Some found) =
 abbrev pub url_of : Option Naming → Option (List ℕ)
 url_of known = option_map (λ found. chars found.url.now) known
 
--- What is known after a comment with this text at this place: what was known, or that this comment names the URL.
+-- The text of a comment names no URL, and may not end another one.
+abbrev pub IsQuietText : List ℕ → Type 0
+IsQuietText text = (may_end_another text ≡ false) × (named_url text ≡ None)
+
+-- What is known after a comment with this text at this place: what was known, if the comment is quiet, or that it names the URL.
 abbrev pub IsKnownAfter : Option Naming → List ℕ → Place → Naming → Type 0
 IsKnownAfter known text place new =
-    (known ≡ Some new) ⊎ ((new.place ≡ place) × IsNamingText text (chars new.url.now))
+    ((known ≡ Some new) × IsQuietText text) ⊎ ((new.place ≡ place) × IsNamingText text (chars new.url.now))
 
 -- The comment stands in this code.
 pub record IsPlaced (slashes : Bool) (code : List ℕ) (known : Naming) : Type 0 where
@@ -40,3 +47,19 @@ pub record IsPlaced (slashes : Bool) (code : List ℕ) (known : Naming) : Type 0
   pub cut : known.place.text.now ≡ comment ++ known.place.rest.now
   pub back_utf8 : IsUtf8 (known.place.rest.now ++ known.place.after.now)
   pub names : IsComment slashes (47 ∷ second ∷ chars comment) (chars known.url.now)
+
+-- A line of a code, and what is behind it.
+pub record IsLineOf (slashes : Bool) (line after : List ℕ) : Type 0 where
+  pub others : List (List ℕ)
+  pub cut : lines_of (line ++ after) ≡ line ∷ others
+  pub pieces_are : flat_map (pieces slashes None) others ≡ all_pieces slashes after
+
+-- The pieces behind the comment are quiet, up to those that are left.
+pub record IsLastUpTo (slashes : Bool) (left : List Piece) (known : Naming) : Type 0 where
+  pub read : List Piece
+  pub quiet : AreQuiet read
+  pub behind : all_pieces slashes (chars (known.place.rest.now ++ known.place.after.now)) ≡ read ++ left
+
+-- the pieces of what is left of a line, and of what is behind it
+abbrev pub pieces_left : Bool → List ℕ → List ℕ → List Piece
+pieces_left slashes line after = pieces slashes None line ++ all_pieces slashes after

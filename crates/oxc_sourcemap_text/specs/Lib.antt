@@ -5,5 +5,6 @@ pub mod Scans
 pub mod DataUrls
 pub mod DataUrlMessages
 pub mod MappingUrls
+pub mod CommentLaws
 pub mod Comments
 pub mod Words

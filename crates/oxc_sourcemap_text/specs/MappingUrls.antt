@@ -93,9 +93,13 @@ known_after known None = None
 known_after known (Some text) =
     if may_end_another text then None else option_or (named_url text) known
 
--- What is known of the URL after all pieces of the lines of a code.
+-- the pieces of all lines of a code
+abbrev pub all_pieces : Bool → List ℕ → List Piece
+all_pieces slashes code = flat_map (pieces slashes None) (lines_of code)
+
+-- What is known of the URL after all pieces of a code.
 unfoldable pub url_known : Bool → List ℕ → Option (List ℕ)
-url_known slashes code = fold known_after None (flat_map (pieces slashes None) (lines_of code))
+url_known slashes code = fold known_after None (all_pieces slashes code)
 
 -- The URL that a code names.
 abbrev pub mapping_url : Language → List ℕ → Option (List ℕ)
@@ -115,6 +119,13 @@ IsComment slashes comment url =
 
 abbrev pub IsMappingComment : Language → List ℕ → List ℕ → Type 0
 IsMappingComment language comment url = IsComment (has_line_comments language) comment url
+
+-- Pieces that change nothing: they are comments, none of which names a URL or may end another text.
+abbrev pub AreQuiet : List Piece → Type 0
+AreQuiet ps = (known : Option (List ℕ)) → fold known_after known ps ≡ known
+
+abbrev pub IsQuiet : Language → List ℕ → Type 0
+IsQuiet language text = AreQuiet (all_pieces (has_line_comments language) text)
 
 -- the characters of a text behind a borrow
 abbrev pub lent_chars : Option (Bor (List ℕ)) → Option (List ℕ)

@@ -19,6 +19,7 @@ pub use Rattle.oxc_sourcemap_text.specs.MappingUrls.{named_url, is_mark, is_quot
 pub use Rattle.oxc_sourcemap_text.specs.MappingUrls.{around_block_end, may_end_another}
 pub use Rattle.oxc_sourcemap_text.specs.MappingUrls.{has_line_comments, pieces, known_after}
 pub use Rattle.oxc_sourcemap_text.specs.MappingUrls.{mapping_url, url_known, lent_chars}
-pub use Rattle.oxc_sourcemap_text.specs.MappingUrls.{IsMappingComment}
+pub use Rattle.oxc_sourcemap_text.specs.MappingUrls.{IsMappingComment, all_pieces, IsQuiet}
 pub use Rattle.oxc_sourcemap_text.specs.Comments.{IsCommentAt, IsKnownAfter, IsPlaced, url_of}
-pub use Rattle.oxc_sourcemap_text.specs.Comments.{second_of}
+pub use Rattle.oxc_sourcemap_text.specs.Comments.{second_of, IsLastUpTo, IsLineOf, pieces_left}
+pub use Rattle.oxc_sourcemap_text.specs.CommentLaws.{AppendedIsFound}

@@ -8,6 +8,6 @@ pub use positions::{
     Lines, PositionError, TextPositions, positions_and_offsets_inverse, utf16_units,
 };
 pub use url::{
-    DataUrlError, Language, SourceMappingComment, decode_data_url, source_mapping_comment,
-    source_mapping_url,
+    DataUrlError, Language, SourceMappingComment, appended_comment_found, decode_data_url,
+    source_mapping_comment, source_mapping_url,
 };

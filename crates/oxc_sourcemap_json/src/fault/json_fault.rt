@@ -21,9 +21,10 @@ pub fn place_of(fault: Fault) -> Result<Option<FaultPlace>>
     }
 }
 
-/// Where a JSON text has its first fault. If it is not JSON, the place that the reader gives: that of the token that it cannot
-/// read, or of what follows one that may not stand there. Else the place that `value_fault_at` gives. None exactly if `decode_from_string` reads
-/// the text. Fails only with `OutOfMemory`.
+/// Where a JSON text has its first fault. If it is not JSON, the byte that the reader gives: that of the token that it cannot read,
+/// or of what follows one that may not stand there, at most the length of the text; with its line, from 0, and its column in bytes.
+/// Lines end in line feeds. Else the place that `value_fault_at` gives. None exactly if `decode_from_string` reads the text. Fails
+/// only with `OutOfMemory`.
 ///
 /// ```rust
 /// use oxc_sourcemap::{FaultSpot, json_fault_at};
@@ -34,7 +35,7 @@ pub fn place_of(fault: Fault) -> Result<Option<FaultPlace>>
 pub fn json_fault_at(alloc: Global, text: &str) -> Result<Option<FaultPlace>>
     ensures json { (d : Data) → read text.now ≡ Some d
         → IfOk result (λ place. place ≡ value_place d) }
-    ensures reading { read text.now ≡ None → IfOk result (λ place. IsSomeAnd place IsReading) }
+    ensures reading { read text.now ≡ None → IfOk result (λ place. IsSomeAnd place (IsReading text.now)) }
     ensures found { IfOk result (λ place. is_some place ≡ is_err (read_map text.now)) }
     ensures error { OnlyMemory result }
 {

@@ -183,7 +183,7 @@ pub(crate) fn known_after<'c>(
 /// The white space at the end of a comment that ends with its line.
 pub(crate) fn space_at_end(text: &str) -> &str
     ensures cut { (inner : List ℕ) × (text.now ≡ inner ++ result.now)
-        × (chars inner ≡ drop_trailing_whitespace (chars text.now)) }
+        × (chars inner ≡ drop_trailing_whitespace (chars text.now)) × IsUtf8 inner }
     ensures utf8 { IsUtf8 result.now }
 {
     let front = trim_end(text);

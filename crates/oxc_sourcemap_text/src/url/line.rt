@@ -35,6 +35,7 @@ pub(crate) fn split_line(text: &str) -> Option<(&str, &str)>
     ensures cut { IfSome result (λ parts. lines_of (chars text.now)
         ≡ chars parts.0.now ∷ lines_of (chars parts.1.now)) }
     ensures whole { IfSome result (λ parts. text.now ≡ parts.0.now ++ parts.1.now) }
+    ensures front { IfSome result (λ parts. IsUtf8 parts.0.now) }
     ensures utf8 { IfSome result (λ parts. IsUtf8 parts.1.now) }
     ensures shorter { IfSome result (λ parts. length parts.1.now < length text.now) }
     ensures last { IsNone result → lines_of (chars text.now) ≡ chars text.now ∷ [] }

@@ -1,11 +1,12 @@
 //! The URL that a code names for its map.
-ghost use Rattle.std.specs.Prelude.{◌≡◌, ◌++◌, ℕ, List, fold, None, IfSome};
+ghost use Rattle.std.specs.Prelude.{◌≡◌, ◌++◌, ℕ, List, [], fold, None, IfSome};
 ghost use lib.Utf8.{encode};
 ghost use Rattle.std.specs.Option.{option_map};
 ghost use Rattle.std.specs.Str.{chars};
 ghost use Rattle.oxc_sourcemap_text.specs.Words.{lent_chars, pieces, known_after, mapping_url};
 ghost use Rattle.oxc_sourcemap_text.specs.Words.{IsCommentAt, IsPlaced, IsMappingComment};
-ghost use Rattle.oxc_sourcemap_text.specs.Words.{second_of, url_of, url_known};
+ghost use Rattle.oxc_sourcemap_text.specs.Words.{second_of, url_of, url_known, all_pieces, IsQuiet};
+ghost use Rattle.oxc_sourcemap_text.specs.Words.{IsLastUpTo, IsLineOf, pieces_left};
 
 use crate::url::comment::{Naming, Place, around_block_end, known_after, space_at_end};
 use crate::url::language::Language;
@@ -44,6 +45,10 @@ fn read_line<'c>(
         ≡ fold known_after (url_of before.entry) (pieces slashes None (chars line.now)) }
     ensures placed { (code front : List ℕ) → code ≡ front ++ line.now ++ after.now
         → IfSome before.entry (IsPlaced slashes code) → IfSome result (IsPlaced slashes code) }
+    ensures last { IsLineOf slashes (chars line.now) (chars after.now)
+        → IfSome before.entry
+        (IsLastUpTo slashes (pieces_left slashes (chars line.now) (chars after.now)))
+        → IfSome result (IsLastUpTo slashes (all_pieces slashes (chars after.now))) }
 {
     let mut known = before;
     let mut rest = line.chars();
@@ -76,6 +81,7 @@ fn read_line<'c>(
 fn naming<'c>(code: &'c str, slashes: bool) -> Option<Naming<'c>>
     ensures url { url_of result ≡ url_known slashes (chars code.now) }
     ensures placed { IfSome result (IsPlaced slashes code.now) }
+    ensures last { IfSome result (IsLastUpTo slashes []) }
 {
     let mut known = None;
     let mut rest = code;
@@ -95,7 +101,7 @@ pub struct SourceMappingComment<'c> {
     pub comment: &'c str,
     /// The URL in it.
     pub url: &'c str,
-    /// What stands behind the comment: white space and comments.
+    /// What stands behind the comment: white space, and comments that name no URL.
     pub back: &'c str,
 }
 
@@ -121,6 +127,7 @@ pub fn source_mapping_comment(code: &str, language: Language) -> Option<SourceMa
         ≡ found.front.now ++ found.comment.now ++ found.back.now) }
     ensures comment { IfSome result (λ found.
         IsMappingComment language (chars found.comment.now) (chars found.url.now)) }
+    ensures last { IfSome result (λ found. IsQuiet language (chars found.back.now)) }
 {
     let Naming { place, url } = naming(code, language.has_line_comments())?;
     let (text, rest, after) = (place.text, place.rest, place.after);

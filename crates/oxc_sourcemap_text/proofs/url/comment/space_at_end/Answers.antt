@@ -14,4 +14,4 @@ returns-clause-cut c =
     let front = c.trim_end-front.result.now in
     let cut = trimmed c.args.text.now front c.utf8.text c.trim_end-front.utf8 c.trim_end-front.ensures in
     let behind : drop (length front) c.args.text.now ≡ cut.space = ap (drop (length front)) cut.split ∙ drop_at front cut.space (length front) refl in
-    (front, cut.split ∙ ap (λ l. front ++ l) (sym (c.split_at.ensures.back ∙ behind)), c.trim_end-front.ensures)
+    (front, cut.split ∙ ap (λ l. front ++ l) (sym (c.split_at.ensures.back ∙ behind)), c.trim_end-front.ensures, c.trim_end-front.utf8)

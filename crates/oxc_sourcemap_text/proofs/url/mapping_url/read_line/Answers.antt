@@ -1,16 +1,21 @@
-use Rattle.std.proofs.Common.{◌∷◌, ◌++◌, ◌∙◌, sym, ap, arith, length, subst, [], None, fold}
+use Rattle.std.proofs.Common.{◌≡◌, List, ◌∷◌, ◌++◌, ◌∙◌, sym, ap, arith, length, subst, [], None}
+use Rattle.std.proofs.Common.{fold}
 use Rattle.std.specs.Str.{chars, IsUtf8}
 use Rattle.std.specs.Str.Iter.{chars_rest}
 use Rattle.std.proofs.lemmas.List.{nil_from_length}
-use Rattle.std.proofs.lemmas.Str.{chars_past_char, chars-nil, IsUtf8-past_char}
-use Rattle.oxc_sourcemap_text.specs.Comments.{second_of, url_of}
+use Rattle.std.proofs.lemmas.Str.{chars-append, chars_past_char, chars-nil, IsUtf8-past_char}
+use Rattle.oxc_sourcemap_text.specs.Comments.{second_of, url_of, pieces_left, IsLastUpTo}
 use lib.Utf8.{encode}
 use Rattle.oxc_sourcemap_text.proofs.Placed.{placed-after, passed-next, past-comment, around}
 use Rattle.oxc_sourcemap_text.proofs.Placed.{line-placed, block-placed}
-use Rattle.oxc_sourcemap_text.specs.MappingUrls.{known_after, pieces}
+use Rattle.oxc_sourcemap_text.specs.MappingUrls.{Piece, known_after, pieces, all_pieces}
 use Rattle.oxc_sourcemap_text.proofs.Pieces.{past-space, past-code, past-line, past-block}
 use Rattle.oxc_sourcemap_text.proofs.Pieces.{past-open, pieces-nil}
 use Rattle.oxc_sourcemap_text.proofs.Blocks.{around-shorter}
+use Rattle.oxc_sourcemap_text.proofs.Last.{last-after, last-here, last-left, space-pieces}
+use Rattle.oxc_sourcemap_text.proofs.Last.{spelt-next, spelt-comment, spelt-block, left-space}
+use Rattle.oxc_sourcemap_text.proofs.Last.{left-line}
+use Rattle.oxc_sourcemap_text.proofs.Last.{left-block}
 use Rattle.oxc_sourcemap_text.proofs.url.mapping_url.read_line.Goals as goal
 
 pub loop-ch-smaller-then-is_whitespace : goal.loop-ch-smaller-then-is_whitespace
@@ -27,6 +32,9 @@ loop-ch-preserved-then-is_whitespace c =
       known = past-space c.args.slashes (url_of c.loop-ch.known) _ c.in-Some.ch _ _ spelt inv.known (sym c.is_whitespace.ensures ∙ c.if-is_whitespace.true);
       passed = (inv.passed.0 ++ encode c.in-Some.ch, passed-next _ inv.passed.0 _ _ c.in-Some.ch inv.passed.1 c.in-Some.ensures.steps.0);
       placed = inv.placed;
+      spelt = (inv.spelt.0 ++ c.in-Some.ch ∷ [], spelt-next _ inv.spelt.0 _ _ c.in-Some.ch inv.spelt.1 spelt);
+      last = λ is before. last-left c.args.slashes c.loop-ch.known _ _
+          (left-space c.args.slashes _ _ (chars c.args.after.now) c.in-Some.ch spelt (sym c.is_whitespace.ensures ∙ c.if-is_whitespace.true)) (inv.last is before);
     }
 
 pub loop-ch-smaller-in_default-comment_at : goal.loop-ch-smaller-in_default-comment_at
@@ -45,6 +53,8 @@ loop-ch-preserved-in_default-comment_at c =
           (sym c.is_whitespace.ensures ∙ c.if-is_whitespace.false) none.0 none.1;
       passed = (inv.passed.0 ++ encode c.in-Some.ch, passed-next _ inv.passed.0 _ _ c.in-Some.ch inv.passed.1 c.in-Some.ensures.steps.0);
       placed = λ _ _ _ _. tt;
+      spelt = (inv.spelt.0 ++ c.in-Some.ch ∷ [], spelt-next _ inv.spelt.0 _ _ c.in-Some.ch inv.spelt.1 spelt);
+      last = λ _ _. tt;
     }
 
 pub returns-then-ends_with_line-clause-url : goal.returns-then-ends_with_line-clause-url
@@ -66,6 +76,27 @@ returns-then-ends_with_line-clause-placed c = λ code front whole before.
     (λ new e names. line-placed c.args.slashes code (front ++ inv.passed.0) [] new _ trim.0
     (around code front _ _ inv.passed.0 _ _ _ c.in-Some.ch 47 whole inv.passed.1 c.in-Some.ensures.steps.0 found.0 (omega arith) next)
     (found.2 c.if-ends_with_line.true) trim.1 trim.2 c.space_at_end-rest.ensures.utf8 c.utf8.after e names)
+
+pub returns-then-ends_with_line-clause-last : goal.returns-then-ends_with_line-clause-last
+returns-then-ends_with_line-clause-last c = λ is before.
+    let s = c.args.slashes in
+    let inv = c.loop-ch.invariant in
+    let text = c.in-Some-comment_at.text.now in
+    let after = c.args.after.now in
+    let spelt = chars_past_char _ _ c.in-Some.ch inv.utf8 c.in-Some.ensures.steps.0 in
+    let found = c.in-Some-comment_at.ensures.at in
+    let second = sym (ap chars c.as_str.ensures) ∙ found.1 ∙ ap (λ b. second_of b ∷ chars text) c.if-ends_with_line.true in
+    let trim = c.space_at_end-rest.ensures.cut in
+    let rest = c.space_at_end-rest.result.now in
+    let own : chars text ≡ chars trim.0 ++ chars rest = ap chars trim.1 ∙ chars-append trim.0 rest trim.3 in
+    let cut = spelt-comment _ inv.spelt.0 _ _ _ _ _ c.in-Some.ch 47 inv.spelt.1 spelt found.0 second own in
+    last-after s c.loop-ch.known _ (chars text) _ (all_pieces s (chars after)) c.known_after.ensures.place
+    (last-left s c.loop-ch.known _ _ (left-line s _ _ (chars text) (chars after) c.in-Some.ch spelt found.0 second (found.2 c.if-ends_with_line.true)) (inv.last is before))
+    (λ new e. subst (λ (ps : List Piece). IsLastUpTo s (ps ++ all_pieces s (chars after)) new) (space-pieces s text trim.0 rest trim.1 trim.3 trim.2)
+    (last-here s _ _ new _ is cut c.space_at_end-rest.ensures.utf8 e))
+
+pub returns-in_err-comment-clause-last : goal.returns-in_err-comment-clause-last
+returns-in_err-comment-clause-last c = λ _ _. rw c.from_residual.ensures tt
 
 pub returns-in_err-comment-clause-url : goal.returns-in_err-comment-clause-url
 returns-in_err-comment-clause-url c =
@@ -96,6 +127,11 @@ loop-ch-preserved c =
     let found = c.in-Some-comment_at.ensures.at in
     let second = sym (ap chars c.as_str.ensures) ∙ found.1 ∙ ap (λ b. second_of b ∷ chars c.in-Some-comment_at.text.now) c.if-ends_with_line.false in
     let next = sym c.as_str.ensures ∙ c.in-Some-comment_at.ensures.bytes ∙ ap (λ b. encode (second_of b) ++ c.in-Some-comment_at.text.now) c.if-ends_with_line.false in
+    let s = c.args.slashes in
+    let code = c.in_ok-comment.code.now in
+    let front = inv.spelt.0 ++ 47 ∷ 42 ∷ (chars c.in_ok-comment.comment.now ++ 42 ∷ 47 ∷ []) in
+    let own = spelt-block c.in-Some-comment_at.text.now c.in_ok-comment.comment.now code c.in_ok-comment.ensures.whole c.in_ok-comment.ensures.front c.in_ok-comment.ensures.utf8 in
+    let cut = spelt-comment _ inv.spelt.0 _ _ _ _ _ c.in-Some.ch 42 inv.spelt.1 spelt found.0 second own in
     let block = past-block c.args.slashes (url_of c.loop-ch.known) _ c.in-Some.ch _ _ spelt inv.known
     (chars c.in-Some-comment_at.text.now) _ _ found.0 second (sym c.in_ok-comment.ensures.parts) in
     record {
@@ -112,6 +148,11 @@ loop-ch-preserved c =
           (λ new e names. block-placed c.args.slashes code (front ++ inv.passed.0) new _ c.in_ok-comment.comment.now
           (around code front _ _ inv.passed.0 _ _ _ c.in-Some.ch 42 whole inv.passed.1 c.in-Some.ensures.steps.0 found.0 (omega arith) next)
           c.in_ok-comment.ensures.whole c.in_ok-comment.ensures.front c.in_ok-comment.ensures.utf8 c.utf8.after e names);
+      spelt = (inv.spelt.0 ++ 47 ∷ 42 ∷ (chars c.in_ok-comment.comment.now ++ 42 ∷ 47 ∷ []), cut ∙ ap (λ l. front ++ chars l) (sym c.chars-rest-in-Some.ensures.rest));
+      last = λ is before. last-left s c.known_after-known.result _ _ (ap (λ l. pieces_left s (chars l) (chars c.args.after.now)) (sym c.chars-rest-in-Some.ensures.rest))
+          (last-after s c.loop-ch.known _ (chars c.in_ok-comment.comment.now) _ (pieces_left s (chars code) (chars c.args.after.now)) c.known_after-known.ensures.place
+          (last-left s c.loop-ch.known _ _ (left-block s _ _ _ _ _ (chars c.args.after.now) c.in-Some.ch spelt found.0 second (sym c.in_ok-comment.ensures.parts)) (inv.last is before))
+          (λ new e. last-here s _ _ new _ is cut c.in_ok-comment.ensures.utf8 e));
     }
 
 pub returns-clause-url : goal.returns-clause-url
@@ -123,10 +164,20 @@ returns-clause-url c =
 pub returns-clause-placed : goal.returns-clause-placed
 returns-clause-placed c = c.loop-ch.invariant.placed
 
+pub returns-clause-last : goal.returns-clause-last
+returns-clause-last c = λ is before.
+    let s = c.args.slashes in
+    let nothing = ap chars (nil_from_length (chars_rest c.loop-ch.rest) c.in_default.ensures.steps.0.0) ∙ chars-nil in
+    last-left s c.loop-ch.known _ _ (ap (λ l. pieces_left s l (chars c.args.after.now)) nothing ∙ ap (λ ps. ps ++ all_pieces s (chars c.args.after.now)) (pieces-nil s))
+    (c.loop-ch.invariant.last is before)
+
 pub loop-ch-init : goal.loop-ch-init
 loop-ch-init c = record {
   utf8 = subst IsUtf8 (sym c.chars-rest.ensures.rest) c.utf8.line;
   known = ap (λ l. fold known_after (url_of c.args.before) (pieces c.args.slashes None (chars l))) c.chars-rest.ensures.rest;
   passed = ([], sym c.chars-rest.ensures.rest);
   placed = λ _ _ _ before. before;
+  spelt = ([], ap chars (sym c.chars-rest.ensures.rest));
+  last = λ _ before. last-left c.args.slashes c.args.before _ _
+      (ap (λ l. pieces_left c.args.slashes (chars l) (chars c.args.after.now)) (sym c.chars-rest.ensures.rest)) before;
 }

@@ -5,7 +5,8 @@ use mir.Val.{Val, vptr, vcons, vnil}
 use base.Logic.{SProp, emp, id⊢}
 use base.Fml.{Lft, ftrue, flft, fshr_bor}
 use prog.Wp.{Wp, after_seq, at_return}
-use types.Kit.{‵, raw, later, ◌⊛◌, at_ret, any_q, ◌$◌, ◌∵◌, !, qed, by, move, keep, drop, split, join}
+use types.Kit.{‵, raw, later, ◌⊛◌, at_ret, any_q, ◌$◌, ◌∵◌, !, qed, by, move, keep, drop, split}
+use types.Kit.{join}
 use types.Kit.{fsplit, fjoin, use0, use1, use2, feq_i, rewrite, await, group}
 use types.Run.{stop, fld, lit, addr, load, of_opd, bin, no_more, and_then, first, blocks, branches}
 use types.Run.{exec, returns, enter}

@@ -5,11 +5,13 @@ use mir.Val.{Val, vptr, vcons, vnil}
 use base.Logic.{SProp, emp, id⊢}
 use base.Fml.{Lft, ftrue, flft, fshr_bor}
 use prog.Wp.{Wp, WpFn, after_seq, at_return}
-use types.Kit.{‵, raw, later, ◌⊛◌, at_ret, prop, regoal, any_q, ◌$◌, ◌∵◌, !, qed, by, move, keep, drop, split, join}
+use types.Kit.{‵, raw, later, ◌⊛◌, at_ret, prop, regoal, any_q, ◌$◌, ◌∵◌, !, qed, by, move, keep}
+use types.Kit.{drop, split, join}
 use types.Kit.{fsplit, fjoin, use0, use1, use2, feq_i, rewrite, await, group}
 use types.Run.{stop, fld, lit, addr, load, of_opd, bin, no_more, and_then, first, blocks, branches}
 use types.Run.{exec, returns, enter}
-use types.ByLocal.{alloc_all, pass_all, free_all, look_at, get, get_in, through, sets, sets_last, env}
+use types.ByLocal.{alloc_all, pass_all, free_all, look_at, get, get_in, through, sets, sets_last}
+use types.ByLocal.{env}
 use types.Part.{agg, sub, whole, look_in}
 use types.Match.{live}
 use types.Tokens.{bor_new}

@@ -66,7 +66,6 @@ pub use Rattle.oxc_sourcemap_plan.specs.PlanArguments.{parsed_number, parsed_beg
 pub use Rattle.oxc_sourcemap_plan.specs.PlanArguments.{parsed_input, parsed_join, parsed_part}
 pub use Rattle.oxc_sourcemap_plan.specs.PlanArguments.{parsed_plan}
 pub use Rattle.oxc_sourcemap_plan.specs.PlanInputs.{inputs_of}
-pub use Rattle.oxc_sourcemap_plan.specs.Realizes.{Realizes, FailsAs, AllRealize}
 pub use Rattle.oxc_sourcemap_plan.specs.RunErrors.{out_of_memory, run_error_text, status_of}
 pub use Rattle.oxc_sourcemap_plan.specs.declared.run_error.RunError.TheVariants.{Plan}
 pub use Rattle.oxc_sourcemap_steps.specs.Inputs.{lent_inputs, inputs_fault, NoInputColumnGoesBack}

@@ -1,6 +1,8 @@
 -- The lines of a text by bytes, one byte at a time.
-use Rattle.std.proofs.Common.{◌≡◌, ℕ, ◌+◌, ◌<◌, Bool, true, false, List, [], ◌∷◌, ◌++◌, length, take, drop}
-use Rattle.std.proofs.Common.{zero, ◌-◌, arith, refl, ap, ◌∙◌, sym, suc, cond, get_or, min, ◌≤◌, add-one, ◌==◌}
+use Rattle.std.proofs.Common.{◌≡◌, ℕ, ◌+◌, ◌<◌, Bool, true, false, List, [], ◌∷◌, ◌++◌, length}
+use Rattle.std.proofs.Common.{take, drop}
+use Rattle.std.proofs.Common.{zero, ◌-◌, arith, refl, ap, ◌∙◌, sym, suc, cond, get_or, min, ◌≤◌}
+use Rattle.std.proofs.Common.{add-one, ◌==◌}
 use Rattle.std.specs.Prelude.{count_by, sum_by}
 use Rattle.std.specs.List.{slice_split, onto_first}
 use Rattle.std.proofs.Math.Seq.{drop-cons}

@@ -35,7 +35,8 @@ pub fn place_of(fault: Fault) -> Result<Option<FaultPlace>>
 pub fn json_fault_at(alloc: Global, text: &str) -> Result<Option<FaultPlace>>
     ensures json { (d : Data) → read text.now ≡ Some d
         → IfOk result (λ place. place ≡ value_place d) }
-    ensures reading { read text.now ≡ None → IfOk result (λ place. IsSomeAnd place (IsReading text.now)) }
+    ensures reading { read text.now ≡ None
+        → IfOk result (λ place. IsSomeAnd place (IsReading text.now)) }
     ensures found { IfOk result (λ place. is_some place ≡ is_err (read_map text.now)) }
     ensures error { OnlyMemory result }
 {

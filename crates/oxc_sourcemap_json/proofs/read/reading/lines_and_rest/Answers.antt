@@ -3,7 +3,8 @@ use Rattle.std.proofs.lemmas.Bool.Decides.{nat_tests}
 use Rattle.oxc_sourcemap_json.specs.TextBytes.{is_line_feed, line_feeds, line_start}
 use Rattle.oxc_sourcemap_json.proofs.TextBytes.{behind-feed, one-more, no-more}
 use Rattle.oxc_sourcemap_json.proofs.read.reading.lines_and_rest.Goals as goal
-use Rattle.oxc_sourcemap_json.proofs.read.reading.lines_and_rest.Goals.{then-byte-eq10, else-byte-eq10}
+use Rattle.oxc_sourcemap_json.proofs.read.reading.lines_and_rest.Goals.{then-byte-eq10}
+use Rattle.oxc_sourcemap_json.proofs.read.reading.lines_and_rest.Goals.{else-byte-eq10}
 
 pub loop-byte-preserved : goal.loop-byte-preserved
 loop-byte-preserved c =

@@ -1,24 +1,22 @@
 -- A comment behind a code is the one that counts.
 use Rattle.std.proofs.Common.{◌≡◌, ℕ, Bool, true, false, List, [], ◌∷◌, ◌++◌, ◌==◌, ◌&&◌, ◌||◌}
-use Rattle.std.proofs.Common.{refl, sym}
+use Rattle.std.proofs.Common.{refl}
 use Rattle.std.proofs.Common.{ap, ◌∙◌, subst, append_assoc, Option, Some, None, if◌then◌else◌, fold}
-use Rattle.std.proofs.Common.{flat_map, codes, length, arith, not}
-use Rattle.std.specs.Prelude.{nat_eq, is_some}
+use Rattle.std.proofs.Common.{flat_map, codes}
+use Rattle.std.specs.Prelude.{is_some}
 use Rattle.std.specs.Option.{option_map, option_or}
-use Rattle.std.specs.List.{list_any, starts_with}
+use Rattle.std.specs.List.{list_any}
 use Rattle.std.specs.Char.{is_whitespace}
 use Rattle.std.specs.Str.{drop_trailing_whitespace}
-use Rattle.std.proofs.lemmas.Bool.{and_parts, eqb-true}
-use Rattle.std.proofs.lemmas.Bool.Decides.{nat_tests}
+use Rattle.std.proofs.lemmas.Bool.{eqb-true}
 use Rattle.std.proofs.lemmas.List.Folds.{list_any-append}
 use Rattle.std.proofs.lemmas.List.Sums.{fold-append}
 use Rattle.std.proofs.lemmas.Grind.{flat_map-append}
-use Rattle.oxc_sourcemap_text.specs.TextLines.{ends_line, lines_of, begins_with_line_feed}
+use Rattle.oxc_sourcemap_text.specs.TextLines.{ends_line, lines_of}
 use Rattle.oxc_sourcemap_text.specs.TextLines.{onto_first}
 use Rattle.oxc_sourcemap_text.specs.declared.url.language.Language.{Language}
 use Rattle.oxc_sourcemap_text.specs.declared.url.language.Language.TheVariants.{JavaScript, Css}
 use Rattle.oxc_sourcemap_text.specs.MappingUrls.{pieces, Piece, known_after, url_known, mapping_url}
-use Rattle.oxc_sourcemap_text.specs.MappingUrls.{has_line_comments}
 use Rattle.oxc_sourcemap_text.specs.MappingUrls.{around_block_end, begins_with, may_end_another}
 use Rattle.oxc_sourcemap_text.specs.MappingUrls.{named_url, is_quote}
 use Rattle.oxc_sourcemap_text.specs.CommentLaws.{with_comment, CanBeNamed}

@@ -2,20 +2,20 @@
 use Rattle.std.proofs.Common.{◌≡◌, ℕ, Bool, true, false, List, [], ◌∷◌, ◌++◌, ◌==◌, ◌&&◌, refl, sym}
 use Rattle.std.proofs.Common.{subst}
 use Rattle.std.proofs.Common.{ap, ◌∙◌, Option, Some, None, if◌then◌else◌, fold, flat_map, inl, inr}
-use Rattle.std.proofs.Common.{IfSome, length, arith}
+use Rattle.std.proofs.Common.{IfSome, length}
 use Rattle.std.specs.Option.{option_or}
 use Rattle.std.specs.Char.{is_whitespace}
 use Rattle.std.specs.Str.{chars, IsUtf8, drop_trailing_whitespace}
 use Rattle.std.proofs.lemmas.Bool.{and_parts, eqb-true}
 use Rattle.std.proofs.lemmas.Str.{chars-append}
-use Rattle.std.proofs.lemmas.List.{append-nil, append_assoc, append_cancel_left, nil_from_length}
+use Rattle.std.proofs.lemmas.List.{append-nil, append_assoc, nil_from_length}
 use Rattle.std.proofs.lemmas.List.Sums.{fold-append}
 use Rattle.oxc_sourcemap_text.specs.TextLines.{ends_line, onto_first, lines_of}
 use Rattle.oxc_sourcemap_text.specs.declared.url.comment.Place.{Place}
 use Rattle.oxc_sourcemap_text.specs.declared.url.comment.Naming.{Naming}
 use Rattle.oxc_sourcemap_text.specs.MappingUrls.{Piece, pieces, known_after, all_pieces, AreQuiet}
 use Rattle.oxc_sourcemap_text.specs.MappingUrls.{named_url}
-use Rattle.oxc_sourcemap_text.specs.MappingUrls.{may_end_another, around_block_end}
+use Rattle.oxc_sourcemap_text.specs.MappingUrls.{around_block_end}
 use Rattle.oxc_sourcemap_text.specs.Comments.{IsKnownAfter, IsQuietText, IsLastUpTo, IsLineOf}
 use Rattle.oxc_sourcemap_text.specs.Comments.{pieces_left}
 use Rattle.oxc_sourcemap_text.proofs.Cuts.{lines-end, lines-no_end}

@@ -6,4 +6,5 @@ pub mod Frames
 pub mod Bundled
 pub mod Marks
 pub mod Page
+pub mod Positions
 pub mod Words

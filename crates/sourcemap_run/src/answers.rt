@@ -1,7 +1,7 @@
 //! The lines that `trace` prints.
 ghost use Rattle.std.specs.Prelude.{Some};
 ghost use Rattle.std.specs.List.{flat_map};
-ghost use Rattle.sourcemap_run.specs.Words.{OnlyMemory, Pushes, seen, place_seen, answer_text};
+ghost use Rattle.sourcemap_run.specs.Words.{OnlyMemory, Pushes, seen, original_seen, answer_text};
 ghost use Rattle.sourcemap_run.specs.Words.{answer_members, answer_object, answer_line};
 ghost use Rattle.sourcemap_run.specs.Words.{position_members};
 
@@ -28,7 +28,7 @@ pub struct Style {
 /// Appends a place and its name.
 fn push_named_original(alloc: Global, spot: &Spot<'_>, base: u8, out: &mut String) -> Result<()>
     ensures text { Pushes result out.old out.new
-        (answer_text base (Some (Some (place_seen spot.now)))) }
+        (answer_text base (Some (Some (original_seen spot.now)))) }
     ensures error { OnlyMemory result }
 {
     push_original(alloc, spot, base, out)?;
@@ -50,7 +50,7 @@ fn push_text(alloc: Global, answer: Answer<'_>, base: u8, out: &mut String) -> R
 /// Appends the members of a line, a column and a name.
 #[tactic(auto, unfolding(crate::specs::Texts::position_members))]
 fn push_position_members(alloc: Global, spot: &Spot<'_>, base: u8, out: &mut String) -> Result<()>
-    ensures text { Pushes result out.old out.new (position_members base (place_seen spot.now)) }
+    ensures text { Pushes result out.old out.new (position_members base (original_seen spot.now)) }
     ensures error { OnlyMemory result }
 {
     push_number_member(alloc, "sourceLine", from_base(spot.line, base), out)?;
@@ -61,7 +61,7 @@ fn push_position_members(alloc: Global, spot: &Spot<'_>, base: u8, out: &mut Str
 /// Appends the members of a place.
 fn push_original_members(alloc: Global, spot: &Spot<'_>, base: u8, out: &mut String) -> Result<()>
     ensures text { Pushes result out.old out.new
-        (answer_members base (Some (Some (place_seen spot.now)))) }
+        (answer_members base (Some (Some (original_seen spot.now)))) }
     ensures error { OnlyMemory result }
 {
     push_text_member("found", "original", out)?;

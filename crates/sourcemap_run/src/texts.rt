@@ -5,7 +5,7 @@ ghost use Rattle.std.specs.List.{list_all};
 ghost use Rattle.sourcemap_run.specs.Words.{OnlyMemory, Pushes, lent_item, is_plain, shown};
 ghost use Rattle.sourcemap_run.specs.Words.{is_hidden, unicode_escape, visible_char, visible};
 ghost use Rattle.sourcemap_run.specs.Words.{visible_string};
-ghost use Rattle.sourcemap_run.specs.Words.{number_part, place_text, name_part, place_seen};
+ghost use Rattle.sourcemap_run.specs.Words.{number_part, original_text, name_part, original_seen};
 ghost use Rattle.sourcemap_run.specs.Words.{number_member, text_member, name_member};
 ghost use Rattle.sourcemap_run.specs.Words.{without_comma, object_text};
 
@@ -135,7 +135,7 @@ pub(crate) fn push_name_part(name: Option<&str>, out: &mut String) -> Result<()>
 
 /// Appends a place as `SOURCE:LINE:COLUMN`, counted from `base`.
 pub fn push_original(alloc: Global, spot: &Spot<'_>, base: u8, out: &mut String) -> Result<()>
-    ensures text { Pushes result out.old out.new (place_text base (place_seen spot.now)) }
+    ensures text { Pushes result out.old out.new (original_text base (original_seen spot.now)) }
     ensures error { OnlyMemory result }
 {
     push_shown(spot.source, out)?;

@@ -1,14 +1,13 @@
 //! `trace`: what generated positions come from.
 use crate::tracing::context::Contents;
+use crate::tracing::positions::{position_of_line, positions_in, source_position_of};
 use oxc_sourcemap_map::{IndexTokens, SourceIndex, SourceMap};
 use oxc_sourcemap_tokens::Position;
 use sourcemap_files::{Asked, Status, print, rooted_map, tell, usage};
 use sourcemap_run::{
     Answer, Bias, Style, Tracer, push_answer, push_answers, push_number_member, push_text_member,
 };
-use sourcemap_words::{
-    Failure, Outcome, failure_of, file_failure, position_of_line, positions_in, source_position_of,
-};
+use sourcemap_words::{Failure, Outcome, failure_of, file_failure};
 use std::alloc::Global;
 use std::io::{BufRead, BufReader};
 

@@ -1,10 +1,12 @@
 -- What the tokens of a map point to, by the paths and contents of its sources.
-use Rattle.std.proofs.Common.{◌≡◌, ℕ, zero, suc, List, [], ◌∷◌, Option, Some, None, refl, sym, ap, ◌∙◌}
+use Rattle.std.proofs.Common.{◌≡◌, ℕ, zero, suc, List, [], ◌∷◌, Option, Some, None, refl, sym, ap}
+use Rattle.std.proofs.Common.{◌∙◌}
 use Rattle.std.proofs.Common.{slice_get}
 use Rattle.std.specs.Option.{option_map, option_and_then}
 use Rattle.oxc_sourcemap_tokens.specs.Token.{TokenRecord}
 use Rattle.oxc_sourcemap_parts.specs.Record.{Text, MapRecord}
-use Rattle.oxc_sourcemap_parts.specs.DecodedMap.{DecodedSource, OriginalPosition, sources_of, name_of}
+use Rattle.oxc_sourcemap_parts.specs.DecodedMap.{DecodedSource, OriginalPosition, sources_of}
+use Rattle.oxc_sourcemap_parts.specs.DecodedMap.{name_of}
 use Rattle.oxc_sourcemap_parts.specs.DecodedMap.{original_at}
 use Rattle.oxc_sourcemap_lookup.specs.Trace.{original_in}
 use Rattle.oxc_sourcemap_lookup.proofs.Traces.{token_traced, token_clamped_traced}

@@ -1,5 +1,6 @@
 -- Lines of a stack trace, and what they are led back to.
-use Rattle.std.specs.Prelude.{◌≡◌, ◌≤◌, ◌-◌, ℕ, Bool, not, ◌||◌, ◌&&◌, ◌==◌, List, [], ◌∷◌, ◌++◌, map, Option}
+use Rattle.std.specs.Prelude.{◌≡◌, ◌≤◌, ◌-◌, ℕ, Bool, not, ◌||◌, ◌&&◌, ◌==◌, List, [], ◌∷◌, ◌++◌}
+use Rattle.std.specs.Prelude.{map, Option}
 use Rattle.std.specs.Prelude.{Some, None, slice_get, take, drop, if◌then◌else◌}
 use Rattle.std.specs.List.{flat_map}
 use Rattle.std.specs.Str.{IsCharBoundary}
@@ -53,3 +54,7 @@ led_back print maps f =
 pub record AreParts (line : Text) (cuts : List Cut) (parts : List Frame) : Type 0 where
   pub texts : flat_map frame_text parts ≡ line
   pub targets : map (λ part. part.target) parts ≡ map (λ cut. cut.target) cuts ++ None ∷ []
+
+-- what is printed of a line that is cut at frames: its parts in a row, each led back
+abbrev pub IsLedBack : (OriginalPosition → Text) → List MapRecord → Text → List Cut → Text → Type 0
+IsLedBack print maps line cuts text = (parts : List Frame) × AreParts line cuts parts × (text ≡ flat_map (led_back print maps) parts)

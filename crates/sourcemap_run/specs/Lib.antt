@@ -2,6 +2,7 @@ pub mod Indices
 pub mod Answers
 pub mod Texts
 pub mod Lines
+pub mod Differences
 pub mod Frames
 pub mod Bundled
 pub mod Marks

@@ -1,7 +1,8 @@
 //! The lines of a stack trace, led back.
-ghost use Rattle.std.specs.Prelude.{◌≡◌, [], IfOk, IfSome, IsNone, None, take, drop};
+ghost use Rattle.std.specs.Prelude.{◌≡◌, ◌++◌, ℕ, List, [], IfOk, Ok, true, false, IfSome, IsNone};
+ghost use Rattle.std.specs.Prelude.{None, take, drop, string_bytes};
 ghost use Rattle.std.specs.List.{flat_map};
-ghost use Rattle.sourcemap_run.specs.Words.{frame_position, IsCutAt, AreParts};
+ghost use Rattle.sourcemap_run.specs.Words.{frame_position, IsCutAt, AreParts, IsLedBack};
 ghost use Rattle.sourcemap_run.specs.Words.{OnlyMemory, Pushes, seen, answer_to, location_text};
 ghost use Rattle.sourcemap_run.specs.Words.{painted, led_back};
 
@@ -198,21 +199,25 @@ pub fn parts_of<'t>(
     Ok(Some(parts))
 }
 
-/// Appends a line of a stack trace: at each cut what its map says, and all else as it is. Appends nothing, and says so, if the cuts do not
-/// lie in the line one behind the other.
+/// Appends a line of a stack trace: at each cut what its map says, and all else as it is. Appends nothing, and says so by false, if the
+/// line cannot be cut so.
 pub fn push_line(
     alloc: Global,
     tracers: &[Tracer],
-    (line, cuts): (&str, &[Cut]),
+    line: &str,
+    cuts: &[Cut],
     paint: Paint<'_>,
     out: &mut String,
 ) -> Result<bool>
+    ensures led { result ≡ Ok true → (text : List ℕ)
+        × IsLedBack (painted paint.entry) tracers.now line.now cuts.now text
+        × (string_bytes out.new ≡ string_bytes out.old ++ text) }
+    ensures unchanged { result ≡ Ok false → string_bytes out.new ≡ string_bytes out.old }
+    ensures error { OnlyMemory result }
 {
-    match parts_of(alloc, line, cuts)? {
-        Some(parts) => {
-            push_frames(alloc, tracers, parts.as_slice(), paint, out)?;
-            Ok(true)
-        }
-        None => Ok(false),
-    }
+    let Some(parts) = parts_of(alloc, line, cuts)? else {
+        return Ok(false);
+    };
+    push_frames(alloc, tracers, parts.as_slice(), paint, out)?;
+    Ok(true)
 }

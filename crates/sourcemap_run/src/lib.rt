@@ -4,6 +4,7 @@
 mod answers;
 mod bundling;
 mod counting;
+mod differing;
 mod frames;
 mod page;
 mod positions;
@@ -13,6 +14,7 @@ mod tracer;
 pub use answers::{Style, push_answer, push_answers, push_members};
 pub use bundling::{Bundle, line_ends, with_line_end};
 pub use counting::{Block, Mark, push_marks};
+pub use differing::count_differences;
 pub use frames::{
     Cut, Frame, Paint, Target, answer_to, frame_position, parts_of, push_frame, push_frames, push_line,
 };

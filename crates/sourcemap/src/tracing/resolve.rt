@@ -216,7 +216,7 @@ fn push_led(
         let cuts = cuts_of(alloc, frames)?;
         let (line, tracers) = (read.text.as_str(), maps.tracers.as_slice());
         let mut text = String::new(alloc);
-        if push_line(alloc, tracers, (line, cuts.as_slice()), paint, &mut text)? {
+        if push_line(alloc, tracers, line, cuts.as_slice(), paint, &mut text)? {
             return Ok(out.extend_from_slice(text.as_bytes())?);
         }
     }

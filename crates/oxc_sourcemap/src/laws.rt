@@ -5,7 +5,8 @@ pub use oxc_sourcemap_found::mending_harmless;
 pub use oxc_sourcemap_laws::{
     canonical_unique, composition_associative, data_urls_read_back, dropping_harmless,
     joins_associative, remapping_associative, rooting_idempotent, simplifying_stands,
-    steps_over_simplified, tokens_in_bounds, trace_of_composition, trace_of_join, trace_of_remap,
+    steps_over_simplified, tokens_in_bounds, trace_of_bundle, trace_of_composition, trace_of_join,
+    trace_of_remap,
 };
 pub use oxc_sourcemap_map::{name_ids_unique, reverse_lookups};
 pub use oxc_sourcemap_queries::range_pieces;

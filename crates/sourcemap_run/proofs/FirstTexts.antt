@@ -10,9 +10,9 @@ not_before : (p bs xs ys : List ℕ) (i j : ℕ) → FindsText p bs (Some (i, j)
 not_before p bs xs ys i j found e lt = found.0 (length xs) lt ys (ap (drop (length xs)) e ∙ drop_at xs (p ++ ys) (length xs) refl)
 
 by_order : (f x i : ℕ) → f ≡ i → (x < i → ⊥) → (i ≡ x) ⊎ ((i < x) ⊎ (x < i)) → f ≤ x
-by_order f x i e no (inl h) = omega arith
-by_order f x i e no (inr (inl h)) = omega arith
-by_order f x i e no (inr (inr h)) = absurd (no h)
+by_order f x i e never (inl h) = omega arith
+by_order f x i e never (inr (inl h)) = omega arith
+by_order f x i e never (inr (inr h)) = absurd (never h)
 
 -- what `split_once` finds is the first one
 pub first_text : (p bs front xs ys : List ℕ) (i j : ℕ) → FindsText p bs (Some (i, j)) → length front ≡ i → bs ≡ xs ++ (p ++ ys) → length front ≤ length xs

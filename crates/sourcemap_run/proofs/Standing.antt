@@ -22,7 +22,7 @@ use Rattle.oxc_sourcemap_text.specs.Positions.{is_inside_pair}
 use Rattle.oxc_sourcemap_text.proofs.Cuts.{lines-end, lines-no_end}
 use Rattle.oxc_sourcemap_text.proofs.Starts.{units-all}
 use Rattle.oxc_sourcemap_text.proofs.Inverse.{IsAt, at-position, found-at}
-use Rattle.sourcemap_run.specs.Bundled.{Bundled, HasLineEnds, StandsAt, IsStanding}
+use Rattle.sourcemap_run.specs.Bundled.{HasLineEnds, StandsAt, IsStanding, IsNext}
 
 -- ---- units of texts in a row
 pub units-append : (xs ys : List ℕ) → IsUtf8 xs → units_of (xs ++ ys) ≡ units_of xs ++ units_of ys
@@ -41,11 +41,9 @@ some-onto : (unit : ℕ) (lines : List (List ℕ)) → 0 < length (onto_first un
 some-onto unit [] = omega arith
 some-onto unit (line ∷ lines) = omega arith
 
-one-line : 0 < length ((10 ∷ []) ∷ [])
-one-line = omega arith
-
 closed-some : (units : List ℕ) → 0 < length (closed units)
-closed-some [] = one-line
+unfolding closed
+closed-some [] = omega arith
 closed-some (unit ∷ units) =
     elim (ends_line unit (units ++ 10 ∷ [])) as (λ b. 0 < length (cond b ((unit ∷ []) ∷ closed units) (onto_first unit (closed units)))) [
       | true ↦ omega arith
@@ -64,6 +62,7 @@ ends-front : (unit : ℕ) (units after : List ℕ) → ends_line unit (units ++ 
 ends-front unit units after = ap (λ b. unit == 10 || unit == 0x2028 || unit == 0x2029 || (unit == 13 && not b)) (feed-front units after)
 
 pub lines-closed : (units after : List ℕ) → lines_of (units ++ 10 ∷ after) ≡ closed units ++ lines_of after
+unfolding closed
 lines-closed [] after = lines-end 10 after refl
 lines-closed (unit ∷ units) after =
     let rest = lines-closed units after in
@@ -120,7 +119,8 @@ after-nothing : (code whole : List ℕ) (line lines : ℕ) → code ≡ [] → S
 after-nothing code whole line lines none stands front e ends =
     let zero : line ≡ 0 = same-line [] line 0 0 0 (subst (λ c. StandsAt c line) none stands) stands-nowhere in
     let count = same-line whole lines (length (closed front)) ends.0 0 ends.1 (stands-closed whole front e) in
-    rw (none, zero, count) (record { ends = inr (front, e); stands = stands-closed whole front e })
+    let sum : line + lines ≡ length (closed front) = omega (arith, zero, count) in
+    rw (none, sum) (record { ends = inr (front, e); stands = stands-closed whole front e })
 
 after-code : (code whole : List ℕ) (line lines : ℕ) → IsUtf8 code → (before : List ℕ) → units_of code ≡ before ++ 10 ∷ [] → StandsAt code line → (front : List ℕ) → units_of whole ≡ front ++ 10 ∷ [] → HasLineEnds whole lines → IsStanding (code ++ whole) (line + lines)
 after-code code whole line lines u before b stands front e ends =
@@ -129,7 +129,8 @@ after-code code whole line lines u before b stands front e ends =
     let units : units_of (code ++ whole) ≡ before ++ 10 ∷ (front ++ 10 ∷ []) = units-append code whole u ∙ ap (λ us. us ++ units_of whole) b ∙ ap (λ us. (before ++ 10 ∷ []) ++ us) e ∙ append_assoc before (10 ∷ []) (front ++ 10 ∷ []) in
     let cut : text_lines (code ++ whole) ≡ (closed before ++ closed front) ++ [] ∷ [] = ap lines_of units ∙ lines-closed before (front ++ 10 ∷ [])
       ∙ ap (λ lines. closed before ++ lines) (lines-closed front [] ∙ ap (λ lines. closed front ++ lines) no-line) ∙ sym (append_assoc (closed before) (closed front) ([] ∷ [])) in
-    rw (line', count, ← length-append (closed before) (closed front)) (record {
+    let sum : line + lines ≡ length (closed before ++ closed front) = omega (arith, line', count, length-append (closed before) (closed front)) in
+    rw sum (record {
       ends = inr (before ++ 10 ∷ front, units ∙ sym (append_assoc before (10 ∷ front) (10 ∷ [])));
       stands = stands-at (code ++ whole) (closed before ++ closed front) cut;
     })
@@ -140,6 +141,10 @@ pushed-by code whole line lines u (inr (before, b)) stands (front, e) ends = aft
 
 pub stands-pushed : (code whole : List ℕ) (line lines : ℕ) → IsUtf8 code → IsStanding code line → (front : List ℕ) × (units_of whole ≡ front ++ 10 ∷ []) → HasLineEnds whole lines → IsStanding (code ++ whole) (line + lines)
 stands-pushed code whole line lines u stands ended ends = pushed-by code whole line lines u stands.ends stands.stands ended ends
+
+pub stands-next : (code whole text new : List ℕ) (line next : ℕ) → IsUtf8 code → IsStanding code line → (front : List ℕ) × (units_of whole ≡ front ++ 10 ∷ [])
+    → IsNext line text whole next → new ≡ code ++ whole → IsStanding new next
+stands-next code whole text new line next u stands ended n e = rw (e, n.is_behind) (stands-pushed code whole line n.lines u stands ended n.are_lines)
 
 -- ---- the end of a text has a position
 pub end-told : (text : List ℕ) (e : PositionError) → position_of text (length (units_of text)) ≡ Err e → ⊥

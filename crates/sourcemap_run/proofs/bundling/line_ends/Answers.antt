@@ -20,4 +20,7 @@ returns-in_err-positions-clause-error c =
     (λ other. size_error c.args.text.now _ (c.in_err-positions.ensures.1 other))
 
 pub returns-clause-error : goal.returns-clause-error
-returns-clause-error c = absurd (end-told c.args.text.now c.in-Err.field-0 ?)
+returns-clause-error c =
+    let same = sized c.args.text.now _ c.in_ok-positions.ensures.0 in
+    let count = ap length (sym (c.as_slice-len.ensures.value ∙ c.in_ok-units.ensures)) in
+    absurd (end-told c.args.text.now c.in-Err.field-0 (ap (λ t. position_of t (length (units_of c.args.text.now))) same ∙ (ap (position_of _) count ∙ sym c.in-Err.ensures)))

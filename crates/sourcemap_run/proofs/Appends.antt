@@ -1,5 +1,5 @@
 -- Texts that are appended one after another.
-use Rattle.std.proofs.Common.{◌≡◌, ℕ, List, ◌++◌, ap, sym, ◌∙◌, append_assoc}
+use Rattle.std.proofs.Common.{◌≡◌, ℕ, List, ◌++◌, ap, ◌∙◌, append_assoc}
 
 pub two_appends : (old mid new x y : List ℕ) → mid ≡ old ++ x → new ≡ mid ++ y → new ≡ old ++ (x ++ y)
 two_appends old mid new x y e f = f ∙ ap (λ t. t ++ y) e ∙ append_assoc old x y

@@ -1,15 +1,14 @@
 -- Texts that end where a line begins.
-use Rattle.std.proofs.Common.{◌≡◌, ◌⊎◌, inl, inr, ℕ, zero, suc, ◌+◌, ◌-◌, ◌<◌, ◌≤◌, Bool, true}
+use Rattle.std.proofs.Common.{◌≡◌, ◌⊎◌, inl, inr, ℕ, ◌+◌, ◌<◌, true}
 use Rattle.std.proofs.Common.{false, ◌||◌, ◌&&◌, not}
 use Rattle.std.proofs.Common.{◌==◌, List, [], ◌∷◌, ◌++◌, length, take, cond, refl, sym, ap, ◌∙◌}
 use Rattle.std.proofs.Common.{arith, subst}
-use Rattle.std.proofs.Common.{append_assoc, Ok, Err, Result}
+use Rattle.std.proofs.Common.{append_assoc, Ok, Err}
 use Rattle.std.specs.Str.{IsUtf8, chars}
 use Rattle.std.specs.List.{sum_by, flat_map}
 use Rattle.std.specs.Char.Escape.{encode_utf16}
 use Rattle.std.proofs.lemmas.Str.{chars-append}
 use Rattle.std.proofs.lemmas.Grind.{flat_map-append}
-use Rattle.std.proofs.lemmas.List.{append-nil, take_all}
 use Rattle.std.proofs.lemmas.List.Sums.{sum_by-append}
 use Rattle.std.proofs.Math.Seq.{take-append_seam}
 use Rattle.std.proofs.Common.{length-append}
@@ -17,11 +16,11 @@ use Rattle.oxc_sourcemap_text.specs.declared.positions.position_error.PositionEr
 use Rattle.oxc_sourcemap_text.specs.TextLines.{units_of, begins_with_line_feed, ends_line}
 use Rattle.oxc_sourcemap_text.specs.TextLines.{onto_first}
 use Rattle.oxc_sourcemap_text.specs.TextLines.{lines_of, text_lines, line_at}
-use Rattle.oxc_sourcemap_text.specs.Positions.{line_start, column_count, position_of}
+use Rattle.oxc_sourcemap_text.specs.Positions.{position_of}
 use Rattle.oxc_sourcemap_text.specs.Positions.{is_inside_pair}
 use Rattle.oxc_sourcemap_text.proofs.Cuts.{lines-end, lines-no_end}
 use Rattle.oxc_sourcemap_text.proofs.Starts.{units-all}
-use Rattle.oxc_sourcemap_text.proofs.Inverse.{IsAt, at-position, found-at}
+use Rattle.oxc_sourcemap_text.proofs.Inverse.{at-position, found-at}
 use Rattle.sourcemap_run.specs.Bundled.{HasLineEnds, StandsAt, IsStanding, IsNext}
 
 -- ---- units of texts in a row

@@ -1,7 +1,7 @@
 -- Lines of a stack trace, and what they are led back to.
 use Rattle.std.specs.Prelude.{◌≡◌, ◌≤◌, ◌-◌, ℕ, Bool, not, ◌||◌, ◌&&◌, ◌==◌, List, [], ◌∷◌, ◌++◌}
 use Rattle.std.specs.Prelude.{map, Option}
-use Rattle.std.specs.Prelude.{Some, None, slice_get, take, drop, if◌then◌else◌}
+use Rattle.std.specs.Prelude.{Some, None, slice_get, if◌then◌else◌}
 use Rattle.std.specs.List.{flat_map}
 use Rattle.std.specs.Str.{IsCharBoundary}
 use Rattle.std.specs.Option.{option_and_then}

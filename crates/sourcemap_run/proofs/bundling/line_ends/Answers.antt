@@ -1,7 +1,7 @@
-use Rattle.std.proofs.Common.{◌≡◌, ◌≢◌, length, ap, sym, ◌∙◌, Err}
+use Rattle.std.proofs.Common.{◌≡◌, ◌≢◌, length, ap, sym, ◌∙◌}
 use Rattle.oxc_sourcemap_text.specs.TextLines.{units_of}
 use Rattle.oxc_sourcemap_text.specs.Positions.{position_of}
-use Rattle.sourcemap_run.proofs.LineEnds.{sized, fits, size_error}
+use Rattle.sourcemap_run.proofs.LineEnds.{sized, size_error}
 use Rattle.sourcemap_run.proofs.Standing.{end-told}
 use Rattle.sourcemap_run.specs.Bundled.{IsInSize}
 use Rattle.sourcemap_run.specs.Words.{OutOfMemory, TooLarge}

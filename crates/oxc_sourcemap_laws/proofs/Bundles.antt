@@ -1,6 +1,7 @@
 -- The traces of a bundle.
-use Rattle.std.proofs.Common.{◌≡◌, ℕ, zero, suc, ◌+◌, ◌<◌, ◌≤◌, Bool, true, false, ◌||◌, ◌==◌, List, []}
-use Rattle.std.proofs.Common.{◌∷◌, ◌++◌, map, cond, refl, sym, ap, subst, ◌∙◌, arith, add-zero}
+use Rattle.std.proofs.Common.{◌≡◌, ℕ, ◌+◌, ◌<◌, ◌≤◌, Bool, true, false, ◌||◌, ◌==◌, List}
+use Rattle.std.proofs.Common.{[]}
+use Rattle.std.proofs.Common.{◌∷◌, ◌++◌, map, cond, refl, sym, ap, subst, ◌∙◌, arith}
 use Rattle.std.specs.List.{sum_by, list_any, AllByRecursion}
 use Rattle.std.proofs.lemmas.Bool.Decides.{nat_tests}
 use Rattle.std.proofs.lemmas.List.{map-append}
@@ -8,7 +9,8 @@ use Rattle.std.proofs.lemmas.List.Sums.{sum_by-cons}
 use Rattle.oxc_sourcemap_tokens.specs.Token.{TokenRecord}
 use Rattle.oxc_sourcemap_tokens.specs.declared.position.Position.{Position}
 use Rattle.oxc_sourcemap_parts.specs.Record.{Text, MapRecord}
-use Rattle.oxc_sourcemap_parts.specs.DecodedMap.{DecodedSource, DecodedMap, mapping_of, decoded_map_of}
+use Rattle.oxc_sourcemap_parts.specs.DecodedMap.{DecodedSource, DecodedMap, mapping_of}
+use Rattle.oxc_sourcemap_parts.specs.DecodedMap.{decoded_map_of}
 use Rattle.oxc_sourcemap_lookup.specs.Trace.{trace, clamped_trace}
 use Rattle.oxc_sourcemap_join.specs.Joined.{at_line, joined, shifted_column}
 use Rattle.oxc_sourcemap_laws.specs.JoinedDecodedMaps.{lowered}
@@ -65,11 +67,11 @@ none-before : (k : ℕ) (ms : List (MapRecord × ℕ)) (n : ℕ) → AreOnOwnLin
 none-before k [] n own le = refl
 none-before k (m ∷ ms) n own le =
     let count = count-cons m ms in
-    none-of m.0 k n _ (behind m.0.tokens k n m.1 own.0 (omega (arith, count, le))) (none-before (k + m.1) ms n own.1 (omega (arith, count, le)))
+    none-of m.0 k n (decoded_maps_of (bundled_from (k + m.1) ms)) (behind m.0.tokens k n m.1 own.0 (omega (arith, count, le))) (none-before (k + m.1) ms n own.1 (omega (arith, count, le)))
 
 none-after : (k : ℕ) (ms : List (MapRecord × ℕ)) (n : ℕ) → n < k → list_any (has_mapping_on n) (decoded_maps_of (bundled_from k ms)) ≡ false
 none-after k [] n lt = refl
-none-after k (m ∷ ms) n lt = none-of m.0 k n _ (ahead m.0.tokens k n lt) (none-after (k + m.1) ms n (omega (arith, lt)))
+none-after k (m ∷ ms) n lt = none-of m.0 k n (decoded_maps_of (bundled_from (k + m.1) ms)) (ahead m.0.tokens k n lt) (none-after (k + m.1) ms n (omega (arith, lt)))
 
 -- ---- the law
 column-kept : (k line col : ℕ) → shifted_column (at_line k) line col ≡ col

@@ -8,4 +8,5 @@ pub mod Bundled
 pub mod Marks
 pub mod Page
 pub mod Positions
+pub mod Reversed
 pub mod Words

@@ -5,7 +5,9 @@ pub use Rattle.oxc_sourcemap_tokens.specs.declared.errors.error.Error.TheVariant
 pub use Rattle.oxc_sourcemap_tokens.specs.declared.errors.error.Error.TheVariants.{TooLarge}
 pub use Rattle.oxc_sourcemap_tokens.specs.declared.errors.plan_error.PlanError.TheVariants.{Map}
 pub use Rattle.oxc_sourcemap_tokens.specs.declared.errors.plan_error.PlanError.TheVariants.{}
+pub use Rattle.oxc_sourcemap_tokens.specs.declared.errors.plan_error.PlanError.TheVariants.{}
 pub use Rattle.oxc_sourcemap_tokens.specs.declared.errors.plan_error.PlanError.TheVariants.{Unsorted}
+pub use Rattle.oxc_sourcemap_json.specs.Words.{OnlyAdds}
 pub use Rattle.oxc_sourcemap_parts.specs.DecodedMap.{name_of}
 pub use Rattle.oxc_sourcemap_parts.specs.Sorted.{are_tokens_sorted}
 pub use Rattle.oxc_sourcemap_lookup.specs.Biased.{token_by}
@@ -32,3 +34,7 @@ pub use Rattle.sourcemap_run.specs.Page.{HasMark, IsFilled}
 pub use Rattle.sourcemap_run.specs.Positions.{IsNumber, IsPosition}
 pub use Rattle.sourcemap_run.specs.Differences.{is_same_text, is_same_original, is_same_answer}
 pub use Rattle.sourcemap_run.specs.Differences.{differ_at}
+pub use Rattle.oxc_sourcemap_map.specs.Reverse.{all_generated_for}
+pub use Rattle.sourcemap_run.specs.Reversed.{opened_object, generated_text, separator}
+pub use Rattle.sourcemap_run.specs.Reversed.{next_generated, generated_texts, is_there, line_end}
+pub use Rattle.sourcemap_run.specs.Reversed.{reversed_object, reversed_line}

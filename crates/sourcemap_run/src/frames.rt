@@ -3,7 +3,8 @@ ghost use Rattle.std.specs.Prelude.{◌≡◌, ◌++◌, ℕ, List, [], IfOk, Ok
 ghost use Rattle.std.specs.Prelude.{None, take, drop, string_bytes};
 ghost use Rattle.std.specs.List.{flat_map};
 ghost use Rattle.sourcemap_run.specs.Words.{frame_position, IsCutAt, AreParts, IsLedBack};
-ghost use Rattle.sourcemap_run.specs.Words.{OnlyMemory, Pushes, seen, answer_to, location_text};
+ghost use Rattle.sourcemap_run.specs.Words.{OnlyMemory, OnlyAdds, Pushes, seen, answer_to};
+ghost use Rattle.sourcemap_run.specs.Words.{location_text};
 ghost use Rattle.sourcemap_run.specs.Words.{painted, led_back};
 
 use crate::texts::push_original;
@@ -122,6 +123,7 @@ fn push_location(
     ensures text { Pushes result out.old out.new
         (location_text (painted paint.entry) location.now (seen answer.entry)) }
     ensures error { OnlyMemory result }
+    ensures adds { OnlyAdds out.old out.new }
 {
     let Answer::At(spot) = answer else {
         out.push_str(location)?;
@@ -144,6 +146,7 @@ pub fn push_frame(
     ensures text { Pushes result out.old out.new
         (led_back (painted paint.entry) tracers.now frame.now) }
     ensures error { OnlyMemory result }
+    ensures adds { OnlyAdds out.old out.new }
 {
     out.push_str(frame.front)?;
     let answer = answer_to(tracers, frame.target);
@@ -163,6 +166,7 @@ pub fn push_frames(
     ensures text { Pushes result out.old out.new
         (flat_map (led_back (painted paint.entry) tracers.now) frames.now) }
     ensures error { OnlyMemory result }
+    ensures adds { OnlyAdds out.old out.new }
 {
     for frame in frames {
         push_frame(alloc, tracers, frame, paint, out)?;
@@ -214,6 +218,7 @@ pub fn push_line(
         × (string_bytes out.new ≡ string_bytes out.old ++ text) }
     ensures unchanged { result ≡ Ok false → string_bytes out.new ≡ string_bytes out.old }
     ensures error { OnlyMemory result }
+    ensures adds { OnlyAdds out.old out.new }
 {
     let Some(parts) = parts_of(alloc, line, cuts)? else {
         return Ok(false);

@@ -8,6 +8,7 @@ mod differing;
 mod frames;
 mod page;
 mod positions;
+mod reversing;
 mod texts;
 mod tracer;
 
@@ -21,6 +22,7 @@ pub use frames::{
 pub use oxc_sourcemap_lookup::Bias;
 pub use page::{MARK, fill_template};
 pub use positions::position_of;
+pub use reversing::push_reversed;
 pub use texts::{
     is_hidden, push_number_member, push_object, push_original, push_shown, push_text_member,
     push_visible,

@@ -87,8 +87,8 @@ traces_of_bundle before m lines after line col range own lt =
     let cut : bundled_from 0 (before ++ (m, lines) ∷ after) ≡ maps = bundled-append 0 before ((m, lines) ∷ after) ∙ ap (λ k. front ++ (m, at_line k) ∷ bundled_from (k + lines) after) start in
     let parts = all-split (λ m. AllByRecursion (λ t. t.dst_line < m.1) m.0.tokens) before ((m, lines) ∷ after) own in
     let none : list_any (has_mapping_on (line + k)) (decoded_maps_of (front ++ back)) ≡ false =
-      ap (list_any (has_mapping_on (line + k))) (map-append (λ m. (decoded_map_of m.0, m.1)) front back)
-      ∙ any-append (has_mapping_on (line + k)) (decoded_maps_of front) (decoded_maps_of back) (none-before 0 before (line + k) parts.0 (omega arith)) (none-after (k + lines) after (line + k) (omega (arith, lt))) in
+    ap (list_any (has_mapping_on (line + k))) (map-append (λ m. (decoded_map_of m.0, m.1)) front back)
+    ∙ any-append (has_mapping_on (line + k)) (decoded_maps_of front) (decoded_maps_of back) (none-before 0 before (line + k) parts.0 (omega arith)) (none-after (k + lines) after (line + k) (omega (arith, lt))) in
     let law = traces_on_own_line_of_maps front (m, at_line k) back line col (subst AreAllInRange cut range) none in
     let Same : DecodedMap → ℕ → Type 0 = λ s c. (trace s (line + k) c ≡ trace (decoded_map_of m) line col) × (clamped_trace s (line + k) c ≡ clamped_trace (decoded_map_of m) line col) in
     subst (λ ms. Same (decoded_map_of (joined ms)) col) (sym cut) (subst (Same (decoded_map_of (joined maps))) (column-kept k line col) law)

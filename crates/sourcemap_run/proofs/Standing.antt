@@ -68,7 +68,7 @@ lines-closed (unit ∷ units) after =
     elim (ends_line unit (units ++ 10 ∷ [])) as (λ b. ends_line unit (units ++ 10 ∷ []) ≡ b → lines_of (unit ∷ (units ++ 10 ∷ after)) ≡ cond b ((unit ∷ []) ∷ closed units) (onto_first unit (closed units)) ++ lines_of after) [
       | true ↦ (λ e. lines-end unit (units ++ 10 ∷ after) (ends-front unit units after ∙ e) ∙ ap (λ lines. (unit ∷ []) ∷ lines) rest)
       | false ↦ (λ e. lines-no_end unit (units ++ 10 ∷ after) (ends-front unit units after ∙ e) ∙ ap (onto_first unit) rest
-        ∙ onto-append unit (closed units) (lines_of after) (closed-some units))
+          ∙ onto-append unit (closed units) (lines_of after) (closed-some units))
     ] refl
 
 no-line : lines_of [] ≡ [] ∷ []
@@ -127,7 +127,7 @@ after-code code whole line lines u before b stands front e ends =
     let count = same-line whole lines (length (closed front)) ends.0 0 ends.1 (stands-closed whole front e) in
     let units : units_of (code ++ whole) ≡ before ++ 10 ∷ (front ++ 10 ∷ []) = units-append code whole u ∙ ap (λ us. us ++ units_of whole) b ∙ ap (λ us. (before ++ 10 ∷ []) ++ us) e ∙ append_assoc before (10 ∷ []) (front ++ 10 ∷ []) in
     let cut : text_lines (code ++ whole) ≡ (closed before ++ closed front) ++ [] ∷ [] = ap lines_of units ∙ lines-closed before (front ++ 10 ∷ [])
-      ∙ ap (λ lines. closed before ++ lines) (lines-closed front [] ∙ ap (λ lines. closed front ++ lines) no-line) ∙ sym (append_assoc (closed before) (closed front) ([] ∷ [])) in
+    ∙ ap (λ lines. closed before ++ lines) (lines-closed front [] ∙ ap (λ lines. closed front ++ lines) no-line) ∙ sym (append_assoc (closed before) (closed front) ([] ∷ [])) in
     let sum : line + lines ≡ length (closed before ++ closed front) = omega (arith, line', count, length-append (closed before) (closed front)) in
     rw sum (record {
       ends = inr (before ++ 10 ∷ front, units ∙ sym (append_assoc before (10 ∷ front) (10 ∷ [])));

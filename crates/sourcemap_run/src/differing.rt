@@ -51,7 +51,10 @@ fn differ_at(a: &Tracer, b: &Tracer, place: (u32, u32)) -> bool
         line: place.0,
         column: place.1,
     };
-    !is_same_answer(a.answer(position, Bias::Before), b.answer(position, Bias::Before))
+    !is_same_answer(
+        a.answer(position, Bias::Before),
+        b.answer(position, Bias::Before),
+    )
 }
 
 /// For how many of these lines and columns two maps answer differently, contents of sources included.

@@ -176,11 +176,7 @@ pub fn push_frames(
 
 /// The parts of a line, one for each cut and one for what is behind the last one. None if a cut begins before the end of the one ahead
 /// of it, or a character does not begin or end there.
-pub fn parts_of<'t>(
-    alloc: Global,
-    line: &'t str,
-    cuts: &[Cut],
-) -> Result<Option<Vec<Frame<'t>>>>
+pub fn parts_of<'t>(alloc: Global, line: &'t str, cuts: &[Cut]) -> Result<Option<Vec<Frame<'t>>>>
     ensures parts { IfOk result (λ parts. IfSome parts (λ them.
         AreParts line.entry.now cuts.now them.items)) }
     ensures error { OnlyMemory result }

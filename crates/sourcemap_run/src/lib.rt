@@ -17,7 +17,8 @@ pub use bundling::{Bundle, line_ends, with_line_end};
 pub use counting::{Block, Mark, push_marks};
 pub use differing::count_differences;
 pub use frames::{
-    Cut, Frame, Paint, Target, answer_to, frame_position, parts_of, push_frame, push_frames, push_line,
+    Cut, Frame, Paint, Target, answer_to, frame_position, parts_of, push_frame, push_frames,
+    push_line,
 };
 pub use oxc_sourcemap_lookup::Bias;
 pub use page::{MARK, fill_template};

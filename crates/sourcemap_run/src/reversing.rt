@@ -50,12 +50,7 @@ fn separator(json: bool) -> &'static str
 }
 
 /// Appends the generated positions of tokens that are behind another one.
-fn push_more(
-    alloc: Global,
-    tokens: IndexTokens<'_>,
-    style: Style,
-    out: &mut String,
-) -> Result<()>
+fn push_more(alloc: Global, tokens: IndexTokens<'_>, style: Style, out: &mut String) -> Result<()>
     ensures text { Pushes result out.old out.new (flat_map (next_generated style) tokens.entry) }
     ensures error { OnlyMemory result }
     ensures adds { OnlyAdds out.old out.new }

@@ -26,6 +26,7 @@ pub mod TracesRemapped
 pub mod TracesMoved
 pub mod TracesRising
 pub mod TracesJoined
+mod Bundles
 pub mod TracesSimplified
 pub mod SimplifiedMaps
 pub mod SimplifiedWhole

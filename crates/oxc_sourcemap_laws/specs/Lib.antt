@@ -11,6 +11,7 @@ pub mod RemapLaws
 pub mod RootedDecodedMaps
 pub mod RootLaws
 pub mod TraceLaws
+pub mod BundleLaws
 pub mod SimplifyTraces
 pub mod SimplifiedMaps
 pub mod SimplifiedWhole

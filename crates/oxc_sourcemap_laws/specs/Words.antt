@@ -22,6 +22,7 @@ pub use Rattle.oxc_sourcemap_laws.specs.TraceLaws.{TracesOfComposition, TracesOf
 pub use Rattle.oxc_sourcemap_laws.specs.TraceLaws.{TracesOnOwnLine, TracesOfSortedJoin}
 pub use Rattle.oxc_sourcemap_laws.specs.TraceLaws.{TracesWithinPart, TracesOfJoinedMaps}
 pub use Rattle.oxc_sourcemap_laws.specs.TraceLaws.{TracesOnOwnLineOfMaps, TracesOfRemapping}
+pub use Rattle.oxc_sourcemap_laws.specs.BundleLaws.{TracesOfBundle}
 pub use Rattle.oxc_sourcemap_laws.specs.TraceLaws.{TracesOfRemappedMaps}
 pub use Rattle.oxc_sourcemap_laws.specs.SimplifyTraces.{SimplifiedComposed, SimplifiedRemapped}
 pub use Rattle.oxc_sourcemap_laws.specs.SimplifyTraces.{SimplifiedJoined}

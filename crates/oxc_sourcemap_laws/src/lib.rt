@@ -31,6 +31,7 @@ ghost use Rattle.oxc_sourcemap_laws.specs.Words.{TracesOfComposition, TracesOfCo
 ghost use Rattle.oxc_sourcemap_laws.specs.Words.{TracesOnOwnLine, TracesOfSortedJoin};
 ghost use Rattle.oxc_sourcemap_laws.specs.Words.{TracesWithinPart, TracesOfJoinedMaps};
 ghost use Rattle.oxc_sourcemap_laws.specs.Words.{TracesOnOwnLineOfMaps, TracesOfRemapping};
+ghost use Rattle.oxc_sourcemap_laws.specs.Words.{TracesOfBundle};
 ghost use Rattle.oxc_sourcemap_laws.specs.Words.{TracesOfRemappedMaps, SimplifiedComposed};
 ghost use Rattle.oxc_sourcemap_laws.specs.Words.{SimplifiedRemapped, SimplifiedJoined};
 ghost use Rattle.oxc_sourcemap_laws.specs.Words.{SimplifyingEndsRepeats, SimplifyingStandsFor};
@@ -299,6 +300,12 @@ pub fn trace_of_join()
     ensures within_part { TracesWithinPart }
     ensures maps { TracesOfJoinedMaps }
     ensures own_line_of_maps { TracesOnOwnLineOfMaps }
+{}
+
+/// The traces of a bundle: of a join of maps at the lines where their codes begin, one code behind the other. On a line of one code they
+/// are, exact and clamped, those of its map there, if all ids are in range and each token is on a line of its code.
+pub fn trace_of_bundle()
+    ensures { TracesOfBundle }
 {}
 
 /// Steps over simplified decoded maps have the traces, exact and clamped, that they have over the decoded maps themselves, at every

@@ -2,5 +2,6 @@
 
 mod context;
 mod maps;
+mod positions;
 pub mod resolve;
 pub mod trace;

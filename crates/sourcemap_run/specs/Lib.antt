@@ -2,8 +2,11 @@ pub mod Indices
 pub mod Answers
 pub mod Texts
 pub mod Lines
+pub mod Differences
 pub mod Frames
 pub mod Bundled
 pub mod Marks
 pub mod Page
+pub mod Positions
+pub mod Reversed
 pub mod Words

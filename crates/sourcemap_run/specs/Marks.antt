@@ -1,5 +1,5 @@
 -- What pieces of blocks say of the lines of originals.
-use Rattle.std.specs.Prelude.{ℕ, Option, Some, None, option_map}
+use Rattle.std.specs.Prelude.{ℕ, Option, option_map}
 use Rattle.std.specs.Option.{option_and_then}
 use Rattle.oxc_sourcemap_tokens.specs.Token.{TokenRecord}
 use Rattle.oxc_sourcemap_queries.specs.declared.pieces.cuts.Piece.{Piece}

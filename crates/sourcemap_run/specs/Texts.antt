@@ -5,8 +5,8 @@ use Rattle.std.specs.Prelude.{encode_utf8}
 use Rattle.std.specs.Char.{digit_char}
 use Rattle.std.specs.List.{list_all, flat_map}
 use Rattle.oxc_sourcemap_parts.specs.Record.{Text}
+use Rattle.oxc_sourcemap_parts.specs.DecodedMap.{OriginalPosition}
 use Rattle.oxc_sourcemap_json.specs.JsonString.{json_string}
-use Rattle.sourcemap_run.specs.Answers.{Place}
 
 abbrev pub is_between : ℕ → ℕ → ℕ → Bool
 is_between low high c = nat_le low c && nat_le c high
@@ -46,9 +46,9 @@ shown text = if list_all is_plain (chars text) then text else visible_string tex
 abbrev pub number_part : ℕ → Text
 number_part n = codes ":" ++ decimal n
 
--- a place, lines and columns counted from `base`
-abbrev pub place_text : ℕ → Place → Text
-place_text base p = shown p.path ++ (number_part (p.line + base) ++ number_part (p.column + base))
+-- an original position, lines and columns counted from `base`
+abbrev pub original_text : ℕ → OriginalPosition → Text
+original_text base p = shown p.source.path ++ (number_part (p.src_line + base) ++ number_part (p.src_col + base))
 
 -- a space and a name, if there is one
 abbrev pub name_part : Option Text → Text
@@ -56,10 +56,10 @@ name_part None = []
 name_part (Some name) = codes " " ++ shown name
 
 -- an answer: of no token, of an unmapped one, and of one that points to a source
-abbrev pub answer_text : ℕ → Option (Option Place) → Text
+abbrev pub answer_text : ℕ → Option (Option OriginalPosition) → Text
 answer_text base None = codes "nothing"
 answer_text base (Some None) = codes "unmapped"
-answer_text base (Some (Some p)) = place_text base p ++ name_part p.name
+answer_text base (Some (Some p)) = original_text base p ++ name_part p.name
 
 -- a member of a JSON object, of a number, behind a comma
 unfoldable pub number_member : Text → ℕ → Text
@@ -75,16 +75,17 @@ name_member None = []
 name_member (Some name) = text_member (codes "name") name
 
 -- the members of a line, a column and a name
-unfoldable pub position_members : ℕ → Place → Text
+unfoldable pub position_members : ℕ → OriginalPosition → Text
 position_members base p =
-    number_member (codes "sourceLine") (p.line + base) ++ (number_member (codes "sourceColumn") (p.column + base) ++ name_member p.name)
+    number_member (codes "sourceLine") (p.src_line + base)
+    ++ (number_member (codes "sourceColumn") (p.src_col + base) ++ name_member p.name)
 
 -- the members of an answer
-abbrev pub answer_members : ℕ → Option (Option Place) → Text
+abbrev pub answer_members : ℕ → Option (Option OriginalPosition) → Text
 answer_members base None = text_member (codes "found") (codes "nothing")
 answer_members base (Some None) = text_member (codes "found") (codes "unmapped")
 answer_members base (Some (Some p)) =
-    text_member (codes "found") (codes "original") ++ (text_member (codes "source") p.path ++ position_members base p)
+    text_member (codes "found") (codes "original") ++ (text_member (codes "source") p.source.path ++ position_members base p)
 
 -- members without the comma before the first one
 abbrev pub without_comma : Text → Text

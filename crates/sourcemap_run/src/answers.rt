@@ -1,7 +1,8 @@
 //! The lines that `trace` prints.
 ghost use Rattle.std.specs.Prelude.{Some};
 ghost use Rattle.std.specs.List.{flat_map};
-ghost use Rattle.sourcemap_run.specs.Words.{OnlyMemory, Pushes, seen, place_seen, answer_text};
+ghost use Rattle.sourcemap_run.specs.Words.{OnlyMemory, OnlyAdds, Pushes, seen, original_seen};
+ghost use Rattle.sourcemap_run.specs.Words.{answer_text};
 ghost use Rattle.sourcemap_run.specs.Words.{answer_members, answer_object, answer_line};
 ghost use Rattle.sourcemap_run.specs.Words.{position_members};
 
@@ -28,8 +29,9 @@ pub struct Style {
 /// Appends a place and its name.
 fn push_named_original(alloc: Global, spot: &Spot<'_>, base: u8, out: &mut String) -> Result<()>
     ensures text { Pushes result out.old out.new
-        (answer_text base (Some (Some (place_seen spot.now)))) }
+        (answer_text base (Some (Some (original_seen spot.now)))) }
     ensures error { OnlyMemory result }
+    ensures adds { OnlyAdds out.old out.new }
 {
     push_original(alloc, spot, base, out)?;
     push_name_part(spot.name, out)
@@ -39,6 +41,7 @@ fn push_named_original(alloc: Global, spot: &Spot<'_>, base: u8, out: &mut Strin
 fn push_text(alloc: Global, answer: Answer<'_>, base: u8, out: &mut String) -> Result<()>
     ensures text { Pushes result out.old out.new (answer_text base (seen answer.entry)) }
     ensures error { OnlyMemory result }
+    ensures adds { OnlyAdds out.old out.new }
 {
     match answer {
         Answer::Nothing => Ok(out.push_str("nothing")?),
@@ -50,8 +53,9 @@ fn push_text(alloc: Global, answer: Answer<'_>, base: u8, out: &mut String) -> R
 /// Appends the members of a line, a column and a name.
 #[tactic(auto, unfolding(crate::specs::Texts::position_members))]
 fn push_position_members(alloc: Global, spot: &Spot<'_>, base: u8, out: &mut String) -> Result<()>
-    ensures text { Pushes result out.old out.new (position_members base (place_seen spot.now)) }
+    ensures text { Pushes result out.old out.new (position_members base (original_seen spot.now)) }
     ensures error { OnlyMemory result }
+    ensures adds { OnlyAdds out.old out.new }
 {
     push_number_member(alloc, "sourceLine", from_base(spot.line, base), out)?;
     push_number_member(alloc, "sourceColumn", from_base(spot.column, base), out)?;
@@ -61,8 +65,9 @@ fn push_position_members(alloc: Global, spot: &Spot<'_>, base: u8, out: &mut Str
 /// Appends the members of a place.
 fn push_original_members(alloc: Global, spot: &Spot<'_>, base: u8, out: &mut String) -> Result<()>
     ensures text { Pushes result out.old out.new
-        (answer_members base (Some (Some (place_seen spot.now)))) }
+        (answer_members base (Some (Some (original_seen spot.now)))) }
     ensures error { OnlyMemory result }
+    ensures adds { OnlyAdds out.old out.new }
 {
     push_text_member("found", "original", out)?;
     push_text_member("source", spot.source, out)?;
@@ -73,6 +78,7 @@ fn push_original_members(alloc: Global, spot: &Spot<'_>, base: u8, out: &mut Str
 pub fn push_members(alloc: Global, answer: Answer<'_>, base: u8, out: &mut String) -> Result<()>
     ensures text { Pushes result out.old out.new (answer_members base (seen answer.entry)) }
     ensures error { OnlyMemory result }
+    ensures adds { OnlyAdds out.old out.new }
 {
     match answer {
         Answer::Nothing => push_text_member("found", "nothing", out),
@@ -91,6 +97,7 @@ fn push_object(
 ) -> Result<()>
     ensures text { Pushes result out.old out.new (answer_object base position (seen answer.entry)) }
     ensures error { OnlyMemory result }
+    ensures adds { OnlyAdds out.old out.new }
 {
     out.push_str("{\"line\":")?;
     push_number(alloc, from_base(position.line, base), out)?;
@@ -110,6 +117,7 @@ pub fn push_answer(
 ) -> Result<()>
     ensures text { Pushes result out.old out.new (answer_line style tracer.now position) }
     ensures error { OnlyMemory result }
+    ensures adds { OnlyAdds out.old out.new }
 {
     let answer = tracer.answer(position, style.bias);
     if style.json {
@@ -132,6 +140,7 @@ pub fn push_answers(
     ensures text { Pushes result out.old out.new
         (flat_map (answer_line style tracer.now) positions.now) }
     ensures error { OnlyMemory result }
+    ensures adds { OnlyAdds out.old out.new }
 {
     for position in positions {
         push_answer(alloc, tracer, *position, style, out)?;

@@ -1,7 +1,9 @@
 //! Codes and their maps, joined.
-ghost use Rattle.std.specs.Prelude.{◌≡◌, ◌≢◌, ◌++◌, ◌∷◌, ◌⊎◌, [], string_bytes, IfOk, IfErr, OnOk};
+ghost use Rattle.std.specs.Prelude.{◌≡◌, ◌≢◌, ◌++◌, ◌∷◌, ◌⊎◌, ℕ, List, [], string_bytes, IfOk};
+ghost use Rattle.std.specs.Prelude.{IfErr, OnOk, OnErr};
 ghost use Rattle.sourcemap_run.specs.Words.{OnlyMemory, record_of_parts, joined, HasLineEnds};
-ghost use Rattle.sourcemap_run.specs.Words.{IsEnded, IsPushed, at_line, IsWithinLimits};
+ghost use Rattle.sourcemap_run.specs.Words.{IsEnded, IsPushed, IsInSize, IsTooLarge, StandsAt};
+ghost use Rattle.sourcemap_run.specs.Words.{IsNext, at_line, IsWithinLimits, units_of};
 ghost use Rattle.sourcemap_run.specs.Words.{OutOfMemory, TooLarge};
 
 use oxc_sourcemap_join::join_owned_parts;
@@ -21,7 +23,7 @@ pub struct Bundle {
 
 impl Model for Bundle {
     ghost use Rattle.std.specs.Prelude.{string_bytes, map};
-    ghost use Rattle.sourcemap_run.specs.Bundled.{Bundled, placed_record};
+    ghost use Rattle.sourcemap_run.specs.Bundled.{Bundled, placed_record, IsStanding};
 
     ghost Value = { Bundled };
 
@@ -30,12 +32,16 @@ impl Model for Bundle {
       line = b.line;
       maps = map placed_record b.maps.items;
     } };
+
+    ghost invariant = { λ b. IsStanding (string_bytes b.code) b.line };
 }
 
-/// How many lines end in a text. Fails with `TooLarge` if they are more than 4294967295, and with `OutOfMemory`.
+/// How many lines end in a text. Fails with `TooLarge` exactly if it has more than 4294967295 UTF-16 units, and with `OutOfMemory`.
 pub fn line_ends(alloc: Global, text: &str) -> Result<u32>
     ensures ends { IfOk result (HasLineEnds text.now) }
-    ensures error { IfErr result (λ e. (e ≢ OutOfMemory) → e ≡ TooLarge) }
+    ensures in_size { IfOk result (λ _. IsInSize text.now) }
+    ensures error { IfErr result (λ e. (e ≢ OutOfMemory)
+        → (e ≡ TooLarge) × ¬ (IsInSize text.now)) }
 {
     let positions = TextPositions::new(alloc, text)?;
     let units = utf16_units(alloc, text)?;
@@ -52,6 +58,8 @@ pub fn line_ends(alloc: Global, text: &str) -> Result<u32>
 /// A text and a line feed.
 fn with_line_feed(alloc: Global, text: &str) -> Result<String>
     ensures text { IfOk result (λ whole. string_bytes whole ≡ text.now ++ 10 ∷ []) }
+    ensures units { IfOk result (λ whole. units_of (string_bytes whole)
+        ≡ units_of text.now ++ 10 ∷ []) }
     ensures error { OnlyMemory result }
 {
     let mut whole = String::from_str(alloc, text)?;
@@ -62,12 +70,29 @@ fn with_line_feed(alloc: Global, text: &str) -> Result<String>
 /// A text, with a line feed at its end: its own, or, if it has none there, one more. Fails only with `OutOfMemory`.
 pub fn with_line_end(alloc: Global, text: &str) -> Result<String>
     ensures text { IfOk result (λ whole. IsEnded text.now (string_bytes whole)) }
+    ensures ends { IfOk result (λ whole. (front : List ℕ)
+        × (units_of (string_bytes whole) ≡ front ++ 10 ∷ [])) }
     ensures error { OnlyMemory result }
 {
     match text.strip_suffix('\n') {
         Some(front) => with_line_feed(alloc, front),
         None => with_line_feed(alloc, text),
     }
+}
+
+/// A text with a line feed at its end, and the line behind it, if it begins on this line.
+fn ended_text(alloc: Global, line: u32, text: &str) -> Result<(String, u32)>
+    ensures next { IfOk result (λ r. IsNext line text.now (string_bytes r.0) r.1) }
+    ensures ends { IfOk result (λ r. (front : List ℕ)
+        × (units_of (string_bytes r.0) ≡ front ++ 10 ∷ [])) }
+    ensures error { IfErr result (λ e. (e ≢ OutOfMemory)
+        → (e ≡ TooLarge) × IsTooLarge line text.now) }
+{
+    let whole = with_line_end(alloc, text)?;
+    let Some(next) = line.checked_add(line_ends(alloc, whole.as_str())?) else {
+        return Err(Error::TooLarge);
+    };
+    Ok((whole, next))
 }
 
 impl Bundle {
@@ -82,9 +107,10 @@ impl Bundle {
         }
     }
 
-    /// The line at which the next code begins.
+    /// The line at which the next code begins: its column 0 is the end of the code so far.
     pub fn line(&self) -> u32
-        ensures { result ≡ self.now.line }
+        ensures line { result ≡ self.now.line }
+        ensures stands { StandsAt self.now.code result }
     {
         self.line
     }
@@ -96,22 +122,22 @@ impl Bundle {
         self.code.as_str()
     }
 
-    /// Appends a text, and a line feed if it does not end in one. Fails with `TooLarge` if a line would be above 4294967295, and with
-    /// `OutOfMemory`; the bundle is then unfinished.
+    /// Appends a text, and a line feed if it does not end in one. Fails with `TooLarge` exactly if the text has then more than 4294967295
+    /// UTF-16 units, or a line would be above 4294967295, and with `OutOfMemory`; the bundle is then as it was.
     pub fn push_text(&mut self, alloc: Global, text: &str) -> Result<()>
         ensures pushed { OnOk result (IsPushed text.now [] self.old self.new) }
-        ensures error { IfErr result (λ e. (e ≢ OutOfMemory) → e ≡ TooLarge) }
+        ensures error { IfErr result (λ e. (e ≢ OutOfMemory)
+            → (e ≡ TooLarge) × IsTooLarge self.old.line text.now) }
+        ensures unchanged { OnErr result (self.new ≡ self.old) }
     {
-        let whole = with_line_end(alloc, text)?;
-        let Some(line) = self.line.checked_add(line_ends(alloc, whole.as_str())?) else {
-            return Err(Error::TooLarge);
-        };
+        let (whole, line) = ended_text(alloc, self.line, text)?;
+        let _before = self.code.as_str();
         self.code.push_str(whole.as_str())?;
         self.line = line;
         Ok(())
     }
 
-    /// Appends a code as `push_text` does, and its map at the line where it begins.
+    /// Appends a code as `push_text` does, with its errors, and its map at the line where it begins.
     pub fn push_code(
         &mut self,
         alloc: Global,
@@ -120,14 +146,21 @@ impl Bundle {
     ) -> Result<()>
         ensures pushed { OnOk result (IsPushed code.now
             ((record_of_parts map.entry, at_line self.old.line) ∷ []) self.old self.new) }
-        ensures error { IfErr result (λ e. (e ≢ OutOfMemory) → e ≡ TooLarge) }
+        ensures error { IfErr result (λ e. (e ≢ OutOfMemory)
+            → (e ≡ TooLarge) × IsTooLarge self.old.line code.now) }
+        ensures unchanged { OnErr result (self.new ≡ self.old) }
     {
         let position = Position {
             line: self.line,
             column: 0,
         };
-        self.push_text(alloc, code)?;
-        self.maps.push((map, position))?;
+        let (whole, line) = ended_text(alloc, self.line, code)?;
+        let _before = self.code.as_str();
+        self.maps.reserve(1)?;
+        self.code.push_str(whole.as_str())?;
+        let pushed: std::result::Result<_, _> = self.maps.push((map, position));
+        pushed.unwrap();
+        self.line = line;
         Ok(())
     }
 

@@ -4,17 +4,26 @@
 mod answers;
 mod bundling;
 mod counting;
+mod differing;
 mod frames;
 mod page;
+mod positions;
+mod reversing;
 mod texts;
 mod tracer;
 
 pub use answers::{Style, push_answer, push_answers, push_members};
 pub use bundling::{Bundle, line_ends, with_line_end};
 pub use counting::{Block, Mark, push_marks};
-pub use frames::{Frame, Paint, Target, answer_to, push_frame, push_frames};
+pub use differing::count_differences;
+pub use frames::{
+    Cut, Frame, Paint, Target, answer_to, frame_position, parts_of, push_frame, push_frames,
+    push_line,
+};
 pub use oxc_sourcemap_lookup::Bias;
 pub use page::{MARK, fill_template};
+pub use positions::position_of;
+pub use reversing::push_reversed;
 pub use texts::{
     is_hidden, push_number_member, push_object, push_original, push_shown, push_text_member,
     push_visible,

@@ -8,7 +8,7 @@ use std::alloc::{AllocError, Global};
 /// The mark of a template.
 pub const MARK: &str = "{{data}}";
 
-/// The template with a content in place of a mark, as base64, which has no character of HTML; None if there is no mark.
+/// The template with a content in place of its first mark, as base64, which has no character of HTML; None if there is no mark.
 pub fn fill_template(
     alloc: Global,
     template: &str,

@@ -2,10 +2,11 @@
 ghost use Rattle.std.specs.Prelude.{◌≡◌, ◌+◌, ◌%◌, ◌∷◌, [], decimal, chars};
 ghost use Rattle.std.specs.Char.{digit_char};
 ghost use Rattle.std.specs.List.{list_all};
-ghost use Rattle.sourcemap_run.specs.Words.{OnlyMemory, Pushes, lent_item, is_plain, shown};
+ghost use Rattle.sourcemap_run.specs.Words.{OnlyMemory, OnlyAdds, Pushes, lent_item, is_plain};
+ghost use Rattle.sourcemap_run.specs.Words.{shown};
 ghost use Rattle.sourcemap_run.specs.Words.{is_hidden, unicode_escape, visible_char, visible};
 ghost use Rattle.sourcemap_run.specs.Words.{visible_string};
-ghost use Rattle.sourcemap_run.specs.Words.{number_part, place_text, name_part, place_seen};
+ghost use Rattle.sourcemap_run.specs.Words.{number_part, original_text, name_part, original_seen};
 ghost use Rattle.sourcemap_run.specs.Words.{number_member, text_member, name_member};
 ghost use Rattle.sourcemap_run.specs.Words.{without_comma, object_text};
 
@@ -26,6 +27,7 @@ pub fn is_hidden(ch: char) -> bool
 fn push_digit(number: u32, out: &mut String) -> Result<()>
     ensures text { Pushes result out.old out.new (digit_char (number % 16) ∷ []) }
     ensures error { OnlyMemory result }
+    ensures adds { OnlyAdds out.old out.new }
 {
     out.push(char::from_digit(number % 16, 16).unwrap())?;
     Ok(())
@@ -35,6 +37,7 @@ fn push_digit(number: u32, out: &mut String) -> Result<()>
 fn push_unicode_escape(ch: char, out: &mut String) -> Result<()>
     ensures text { Pushes result out.old out.new (unicode_escape ch) }
     ensures error { OnlyMemory result }
+    ensures adds { OnlyAdds out.old out.new }
 {
     let number = u32::from(ch);
     out.push_str("\\u")?;
@@ -48,6 +51,7 @@ fn push_unicode_escape(ch: char, out: &mut String) -> Result<()>
 fn push_visible_char(ch: char, out: &mut String) -> Result<()>
     ensures text { Pushes result out.old out.new (visible_char ch) }
     ensures error { OnlyMemory result }
+    ensures adds { OnlyAdds out.old out.new }
 {
     if is_hidden(ch) {
         return push_unicode_escape(ch, out);
@@ -60,6 +64,7 @@ fn push_visible_char(ch: char, out: &mut String) -> Result<()>
 pub fn push_visible(text: &str, out: &mut String) -> Result<()>
     ensures text { Pushes result out.old out.new (visible text.now) }
     ensures error { OnlyMemory result }
+    ensures adds { OnlyAdds out.old out.new }
 {
     for ch in text.chars() {
         push_visible_char(ch, out)?;
@@ -71,6 +76,7 @@ pub fn push_visible(text: &str, out: &mut String) -> Result<()>
 fn push_visible_string(text: &str, out: &mut String) -> Result<()>
     ensures text { Pushes result out.old out.new (visible_string text.now) }
     ensures error { OnlyMemory result }
+    ensures adds { OnlyAdds out.old out.new }
 {
     let mut string = String::new(*out.allocator());
     push_json_string(text, &mut string)?;
@@ -88,6 +94,7 @@ fn is_plain(text: &str) -> bool
 pub fn push_shown(text: &str, out: &mut String) -> Result<()>
     ensures text { Pushes result out.old out.new (shown text.now) }
     ensures error { OnlyMemory result }
+    ensures adds { OnlyAdds out.old out.new }
 {
     if !is_plain(text) {
         return push_visible_string(text, out);
@@ -107,15 +114,17 @@ pub(crate) fn from_base(number: u32, base: u8) -> u64
 pub(crate) fn push_number(alloc: Global, number: u64, out: &mut String) -> Result<()>
     ensures text { Pushes result out.old out.new (decimal number) }
     ensures error { OnlyMemory result }
+    ensures adds { OnlyAdds out.old out.new }
 {
     out.push_str(number.to_string(alloc)?.as_str())?;
     Ok(())
 }
 
 /// Appends a colon and a number, counted from `base`.
-fn push_number_part(alloc: Global, number: u32, base: u8, out: &mut String) -> Result<()>
+pub(crate) fn push_number_part(alloc: Global, number: u32, base: u8, out: &mut String) -> Result<()>
     ensures text { Pushes result out.old out.new (number_part (number + base)) }
     ensures error { OnlyMemory result }
+    ensures adds { OnlyAdds out.old out.new }
 {
     out.push(':')?;
     push_number(alloc, from_base(number, base), out)
@@ -125,6 +134,7 @@ fn push_number_part(alloc: Global, number: u32, base: u8, out: &mut String) -> R
 pub(crate) fn push_name_part(name: Option<&str>, out: &mut String) -> Result<()>
     ensures text { Pushes result out.old out.new (name_part (lent_item name.entry)) }
     ensures error { OnlyMemory result }
+    ensures adds { OnlyAdds out.old out.new }
 {
     let Some(name) = name else {
         return Ok(());
@@ -135,8 +145,9 @@ pub(crate) fn push_name_part(name: Option<&str>, out: &mut String) -> Result<()>
 
 /// Appends a place as `SOURCE:LINE:COLUMN`, counted from `base`.
 pub fn push_original(alloc: Global, spot: &Spot<'_>, base: u8, out: &mut String) -> Result<()>
-    ensures text { Pushes result out.old out.new (place_text base (place_seen spot.now)) }
+    ensures text { Pushes result out.old out.new (original_text base (original_seen spot.now)) }
     ensures error { OnlyMemory result }
+    ensures adds { OnlyAdds out.old out.new }
 {
     push_shown(spot.source, out)?;
     push_number_part(alloc, spot.line, base, out)?;
@@ -148,6 +159,7 @@ pub fn push_original(alloc: Global, spot: &Spot<'_>, base: u8, out: &mut String)
 pub fn push_number_member(alloc: Global, key: &str, number: u64, out: &mut String) -> Result<()>
     ensures text { Pushes result out.old out.new (number_member key.now number) }
     ensures error { OnlyMemory result }
+    ensures adds { OnlyAdds out.old out.new }
 {
     out.push_str(",\"")?;
     out.push_str(key)?;
@@ -160,6 +172,7 @@ pub fn push_number_member(alloc: Global, key: &str, number: u64, out: &mut Strin
 pub fn push_text_member(key: &str, text: &str, out: &mut String) -> Result<()>
     ensures text { Pushes result out.old out.new (text_member key.now text.now) }
     ensures error { OnlyMemory result }
+    ensures adds { OnlyAdds out.old out.new }
 {
     out.push_str(",\"")?;
     out.push_str(key)?;
@@ -171,6 +184,7 @@ pub fn push_text_member(key: &str, text: &str, out: &mut String) -> Result<()>
 pub(crate) fn push_name_member(name: Option<&str>, out: &mut String) -> Result<()>
     ensures text { Pushes result out.old out.new (name_member (lent_item name.entry)) }
     ensures error { OnlyMemory result }
+    ensures adds { OnlyAdds out.old out.new }
 {
     match name {
         Some(name) => push_text_member("name", name, out),
@@ -193,6 +207,7 @@ fn without_comma(members: &str) -> &str
 pub fn push_object(members: &str, out: &mut String) -> Result<()>
     ensures text { Pushes result out.old out.new (object_text members.now) }
     ensures error { OnlyMemory result }
+    ensures adds { OnlyAdds out.old out.new }
 {
     out.push('{')?;
     out.push_str(without_comma(members))?;

@@ -1,10 +1,9 @@
 //! A map in which positions are traced.
-ghost use Rattle.std.specs.Prelude.{◌≡◌, ◌≢◌, false, slice_get, option_map, IfOk, IfErr};
+ghost use Rattle.std.specs.Prelude.{◌≡◌, ◌≢◌, false, slice_get, IfOk, IfErr};
 ghost use Rattle.std.specs.Option.{option_and_then};
 ghost use Rattle.sourcemap_run.specs.Words.{Map, OutOfMemory, Unsorted, are_tokens_sorted};
 ghost use Rattle.sourcemap_run.specs.Words.{token_by, pointed, map_answer, seen, original_in};
-ghost use Rattle.sourcemap_run.specs.Words.{place_of};
-ghost use Rattle.sourcemap_run.specs.Words.{lent_item, lent_place, name_of};
+ghost use Rattle.sourcemap_run.specs.Words.{content_at, lent_item, lent_original, name_of};
 
 use oxc_sourcemap_lookup::{Bias, LineIndex, Traced};
 use oxc_sourcemap_map::SourceMap;
@@ -102,13 +101,16 @@ impl Tracer {
     }
 
     /// The content of the source of a token, if the map has it.
-    fn content(&self, token: &Token) -> Option<&str> {
+    fn content(&self, token: &Token) -> Option<&str>
+        ensures { lent_item result ≡ option_and_then (content_at self.now.source_contents)
+            token.now.source_id }
+    {
         self.map.get_source_content(token.get_source_id()?)
     }
 
     /// What a token of the map points to.
     fn spot(&self, token: &Token) -> Option<Spot<'_>>
-        ensures { lent_place result ≡ option_map place_of (original_in self.now token.now) }
+        ensures { lent_original result ≡ original_in self.now token.now }
     {
         match self.source(token) {
             Some(source) => Some(Spot {

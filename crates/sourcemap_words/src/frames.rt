@@ -1,7 +1,6 @@
 //! The positions that the frames of stack traces name, as V8, Firefox and Safari print them, and what logs make of these.
 use crate::failure::{Outcome, failure_of};
 use crate::views::{View, json_strings, may_be_json};
-use oxc_sourcemap_tokens::Position;
 use regex::{Captures, Matcher, Regex};
 use std::alloc::{AllocError, Global};
 
@@ -60,21 +59,6 @@ pub struct Named {
     pub is_bytecode: bool,
     /// Whether it stands in a JSON string.
     pub is_in_json: bool,
-}
-
-impl Named {
-    /// The position, from 0; None if it is before the first one.
-    pub fn position(&self) -> Option<Position> {
-        let column = if self.is_bytecode {
-            self.column
-        } else {
-            self.column.checked_sub(1)?
-        };
-        Some(Position {
-            line: self.line.checked_sub(1)?,
-            column,
-        })
-    }
 }
 
 /// What a line of a stack trace or of a log names.

@@ -1,5 +1,4 @@
-//! What the program `sourcemap` reads as words: its arguments, positions, frames of stack traces and V8's coverage; and why a command
-//! fails. Help, completions and the manual are made from the texts of `arguments`.
+//! What the program `sourcemap` reads as words: its arguments, frames of stack traces and V8's coverage; and why a command fails. Help, completions and the manual are made from the texts of `arguments`.
 #![tactic(auto)]
 
 mod arguments;
@@ -7,7 +6,6 @@ mod completions;
 mod failure;
 mod frames;
 mod manual;
-mod positions;
 mod v8;
 mod views;
 
@@ -16,5 +14,4 @@ pub use completions::completions_of;
 pub use failure::{Failure, Outcome, failure_of, file_failure};
 pub use frames::{Finder, Line, NO_TEXT, Named, Patterns};
 pub use manual::manual_of;
-pub use positions::{position_of_line, positions_in, source_position_of};
 pub use v8::{Report, Run, Script, runs_of};

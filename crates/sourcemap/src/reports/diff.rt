@@ -2,7 +2,7 @@
 use oxc_sourcemap_map::SourceMap;
 use oxc_sourcemap_tokens::Position;
 use sourcemap_files::{Asked, Status, print, rooted_map};
-use sourcemap_run::{Answer, Bias, Tracer};
+use sourcemap_run::{Tracer, count_differences};
 use sourcemap_words::Outcome;
 use std::alloc::{AllocError, Global};
 
@@ -24,26 +24,6 @@ fn places_of(alloc: Global, a: &Tracer, b: &Tracer) -> Result<Vec<(u32, u32)>, A
     places.sort()?;
     places.dedup();
     Ok(places)
-}
-
-/// Whether two maps say the same of a place.
-fn say_the_same(a: &Tracer, b: &Tracer, (line, column): (u32, u32)) -> bool {
-    let position = Position { line, column };
-    match (
-        a.answer(position, Bias::Before),
-        b.answer(position, Bias::Before),
-    ) {
-        (Answer::Nothing, Answer::Nothing) => true,
-        (Answer::Unmapped, Answer::Unmapped) => true,
-        (Answer::At(x), Answer::At(y)) => {
-            x.source == y.source
-                && x.line == y.line
-                && x.column == y.column
-                && x.name == y.name
-                && x.content == y.content
-        }
-        _ => false,
-    }
 }
 
 /// A map of an argument, with its source root applied.
@@ -72,13 +52,7 @@ fn difference_line(
 /// How many places two maps say different things of, and how many there are.
 fn count_of(alloc: Global, a: &Tracer, b: &Tracer) -> Result<(usize, usize), AllocError> {
     let places = places_of(alloc, a, b)?;
-    let mut count = 0usize;
-    for place in &places {
-        if !say_the_same(a, b, *place) {
-            count = count.saturating_add(1);
-        }
-    }
-    Ok((count, places.len()))
+    Ok((count_differences(a, b, places.as_slice()), places.len()))
 }
 
 /// Prints whether two maps say different things, and where first.

@@ -4,7 +4,7 @@ use sourcemap_files::{
     Asked, CodeFile, InputPrefix, Lookup, Places, Sought, find_code, is_file, is_in_root,
     map_by_name, map_of_code, map_without_code, read_map, read_text,
 };
-use sourcemap_run::{Answer, Target, Tracer, answer_to};
+use sourcemap_run::{Answer, Target, Tracer, answer_to, frame_position};
 use sourcemap_words::{Failure, Named, Outcome};
 use std::alloc::{AllocError, Global};
 use std::collections::HashMap;
@@ -319,7 +319,7 @@ impl Maps {
     /// What the map of a file says of a place in it.
     fn look_up(&self, alloc: Global, map: &KnownMap, named: &Named) -> Outcome<Led> {
         let matched = map.matched.copy(alloc)?;
-        let position = named.position();
+        let position = frame_position(named.line, named.column, named.is_bytecode);
         if let Some(position) = position
             && !named.is_bytecode
             && let Some(path) = map.past_end(position)

@@ -3,7 +3,7 @@ use crate::tracing::maps::{Led, Maps, Matched, REASONS, Reason, Stay};
 use oxc_sourcemap_json::push_json_string;
 use sourcemap_files::{Asked, Status, print_bytes, shown_name, warn};
 use sourcemap_run::{
-    Frame, Paint, answer_to, push_frame, push_frames, push_members, push_number_member,
+    Cut, Frame, Paint, answer_to, push_frame, push_line, push_members, push_number_member,
     push_object, push_text_member, push_visible,
 };
 use sourcemap_words::{Finder, NO_TEXT, Named, Outcome, Patterns, file_failure};
@@ -137,28 +137,17 @@ fn short(reason: Reason) -> (&'static str, &'static str) {
     }
 }
 
-/// The parts of a line, each with a frame but the last. None if a frame does not lie in it.
-fn parts_of<'t>(
-    alloc: Global,
-    line: &'t str,
-    frames: &[LedFrame],
-) -> Result<Option<Vec<Frame<'t>>>, AllocError> {
-    let mut parts = Vec::new(alloc);
-    let (mut rest, mut from) = (line, 0usize);
+/// Where in a line frames name positions.
+fn cuts_of(alloc: Global, frames: &[LedFrame]) -> Result<Vec<Cut>, AllocError> {
+    let mut cuts = Vec::new(alloc);
     for LedFrame { named, led } in frames {
-        let start = named.start.saturating_sub(from);
-        let Some(frame) = Frame::cut(rest, start, named.end.saturating_sub(from)) else {
-            return Ok(None);
-        };
-        (rest, from) = (frame.back, named.end);
-        parts.push(Frame {
-            back: "",
+        cuts.push(Cut {
+            start: named.start,
+            end: named.end,
             target: led.target,
-            ..frame
         })?;
     }
-    parts.push(Frame::plain(rest))?;
-    Ok(Some(parts))
+    Ok(cuts)
 }
 
 /// What a frame is led back to, as it is written into its line; None if it stays.
@@ -223,14 +212,13 @@ fn push_led(
         return Ok(out.extend_from_slice(line)?);
     }
     let is_in_json = frames.iter().any(|frame| frame.named.is_in_json);
-    if read.is_text
-        && !is_in_json
-        && let Some(parts) = parts_of(alloc, read.text.as_str(), frames)?
-    {
+    if read.is_text && !is_in_json {
+        let cuts = cuts_of(alloc, frames)?;
+        let (line, tracers) = (read.text.as_str(), maps.tracers.as_slice());
         let mut text = String::new(alloc);
-        let tracers = maps.tracers.as_slice();
-        push_frames(alloc, tracers, parts.as_slice(), paint, &mut text)?;
-        return Ok(out.extend_from_slice(text.as_bytes())?);
+        if push_line(alloc, tracers, line, cuts.as_slice(), paint, &mut text)? {
+            return Ok(out.extend_from_slice(text.as_bytes())?);
+        }
     }
     push_bytes(alloc, maps, (line, frames), paint, out)
 }

@@ -1,15 +1,11 @@
 //! `trace`: what generated positions come from.
 use crate::tracing::context::Contents;
-use oxc_sourcemap_map::{IndexTokens, SourceIndex, SourceMap};
+use crate::tracing::positions::{position_of_line, positions_in, source_position_of};
+use oxc_sourcemap_map::{SourceIndex, SourceMap};
 use oxc_sourcemap_tokens::Position;
 use sourcemap_files::{Asked, Status, print, rooted_map, tell, usage};
-use sourcemap_run::{
-    Answer, Bias, Style, Tracer, push_answer, push_answers, push_number_member, push_text_member,
-};
-use sourcemap_words::{
-    Failure, Outcome, failure_of, file_failure, position_of_line, positions_in, source_position_of,
-};
-use std::alloc::Global;
+use sourcemap_run::{Answer, Bias, Style, Tracer, push_answer, push_answers, push_reversed};
+use sourcemap_words::{Failure, Outcome, failure_of, file_failure};
 use std::io::{BufRead, BufReader};
 
 fn bias_of(asked: &Asked<'_, '_>) -> Outcome<Bias> {
@@ -159,57 +155,6 @@ fn source_id(map: &SourceMap<'_>, path: &str) -> Option<u32> {
     if count == 1 { found } else { None }
 }
 
-fn push_generated(
-    alloc: Global,
-    tokens: IndexTokens<'_>,
-    style: Style,
-    out: &mut String,
-) -> Outcome<bool> {
-    let base = u64::from(style.base);
-    let mut count = 0u32;
-    for token in tokens {
-        let line = u64::from(token.get_dst_line()) + base;
-        let column = u64::from(token.get_dst_col()) + base;
-        let text = if style.json {
-            format!(in alloc; "{{\"line\":{line},\"column\":{column}}}")?
-        } else {
-            format!(in alloc; "{line}:{column}")?
-        };
-        if count > 0 {
-            out.push(if style.json { ',' } else { ' ' })?;
-        }
-        out.push_str(text.as_str())?;
-        count = count.saturating_add(1);
-    }
-    Ok(count > 0)
-}
-
-/// Appends the line of an original position, and tells whether something is generated from it.
-fn push_reverse(
-    alloc: Global,
-    index: &SourceIndex<'_>,
-    id: u32,
-    (source, position): (&str, Position),
-    style: Style,
-    out: &mut String,
-) -> Outcome<bool> {
-    let tokens = index.all_generated_for(id, position.line, position.column);
-    if !style.json {
-        let found = push_generated(alloc, tokens, style, out)?;
-        out.push_str(if found { "\n" } else { "nothing\n" })?;
-        return Ok(found);
-    }
-    let base = u64::from(style.base);
-    let line = u64::from(position.line) + base;
-    out.push_str(format!(in alloc; "{{\"line\":{line}")?.as_str())?;
-    push_number_member(alloc, "column", u64::from(position.column) + base, out)?;
-    push_text_member("source", source, out)?;
-    out.push_str(",\"generated\":[")?;
-    let found = push_generated(alloc, tokens, style, out)?;
-    out.push_str("]}\n")?;
-    Ok(found)
-}
-
 /// `trace --reverse`.
 fn reverse(asked: &Asked<'_, '_>, map: &SourceMap<'_>, style: Style) -> Outcome<Status> {
     let alloc = asked.alloc();
@@ -232,7 +177,7 @@ fn reverse(asked: &Asked<'_, '_>, map: &SourceMap<'_>, style: Style) -> Outcome<
                 "is no source of the map, or the end of several: see `sourcemap check`",
             ));
         };
-        if push_reverse(alloc, &index, id, (source, position), style, &mut out)? {
+        if push_reversed(alloc, &index, id, source, position, style, &mut out)? {
             status = Status::Found;
         }
     }

@@ -1,4 +1,4 @@
-use Rattle.std.proofs.Common.{◌≡◌, ◌++◌, ap, ◌∙◌, codes, string_bytes}
+use Rattle.std.proofs.Common.{◌++◌, ap, ◌∙◌, codes, string_bytes}
 use Rattle.std.proofs.lemmas.Result.{on_ok_weaker}
 use Rattle.sourcemap_run.specs.Texts.{position_members, number_member}
 use Rattle.sourcemap_run.proofs.Appends.{three_appends}

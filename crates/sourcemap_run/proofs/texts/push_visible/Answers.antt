@@ -8,4 +8,4 @@ use Rattle.sourcemap_run.proofs.texts.push_visible.Goals as goal
 pub returns-clause-text : goal.returns-clause-text
 returns-clause-text c =
     let end = YieldsList-end (YieldsList-from_chars c.args.text.now c.utf8.text cc) c.loop-ch.yielded _ c.loop-ch.yielded_by _ _ c.in-None.is c.next.ensures.steps in
-    c.loop-ch.invariant ∙ ap (λ cs. string_bytes c.args.out.now ++ flat_map visible_char cs) (sym (map-id c.loop-ch.yielded) ∙ end.0)
+    c.loop-ch.invariant.bytes ∙ ap (λ cs. string_bytes c.args.out.now ++ flat_map visible_char cs) (sym (map-id c.loop-ch.yielded) ∙ end.0)

@@ -1,4 +1,4 @@
-use Rattle.std.proofs.Common.{◌≡◌, ℕ, List, ◌++◌, take, drop, ap, ◌∙◌}
+use Rattle.std.proofs.Common.{◌≡◌, take, drop}
 use Rattle.sourcemap_run.proofs.Pieces.{three_pieces}
 use Rattle.sourcemap_run.proofs.frames.Frame.cut.Goals as goal
 

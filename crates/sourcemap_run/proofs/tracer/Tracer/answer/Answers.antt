@@ -1,5 +1,5 @@
 use Rattle.std.proofs.Common.{◌∙◌}
-use Rattle.sourcemap_run.proofs.Places.{pointed_answer}
+use Rattle.sourcemap_run.proofs.Originals.{pointed_answer}
 use Rattle.sourcemap_run.proofs.tracer.Tracer.answer.Goals as goal
 
 pub returns : goal.returns

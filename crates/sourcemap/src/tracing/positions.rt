@@ -1,24 +1,8 @@
 //! Positions in words: `LINE:COLUMN` and `SOURCE:LINE:COLUMN`.
-use crate::failure::{Failure, Outcome, failure_of};
 use oxc_sourcemap_tokens::Position;
+use sourcemap_run::position_of;
+use sourcemap_words::{Failure, Outcome, failure_of};
 use std::alloc::Global;
-
-/// A number of decimal digits alone, without `base`.
-fn decimal_number(word: &str, base: u32) -> Option<u32> {
-    if !word.bytes().all(|byte| byte.is_ascii_digit()) {
-        return None;
-    }
-    word.parse::<u32>().ok()?.checked_sub(base)
-}
-
-/// A position that counts from `base`.
-pub fn position_of(word: &str, base: u32) -> Option<Position> {
-    let (line, column) = word.split_once(':')?;
-    Some(Position {
-        line: decimal_number(line, base)?,
-        column: decimal_number(column, base)?,
-    })
-}
 
 /// A source and a position of it.
 pub fn source_position_of(word: &str, base: u32) -> Option<(&str, Position)> {

@@ -49,8 +49,10 @@ pub writing_large : SoundIsTooLarge → (o : Outcome) (m : MapRecord) (f : Error
 writing_large law o m f is has error n =
     let told = error n in
     elim (cases_lt 4294967295 (length m.tokens)) [
-      | inl l ↦ (same-error f TooLarge (sym told ∙ fault-of m TooLarge (law m is.sound l)),
-          false_from_ne_true o.is_within_limits (λ t. (let most = has.within_limits t in omega arith)))
+      | inl l ↦ (
+        same-error f TooLarge (sym told ∙ fault-of m TooLarge (law m is.sound l)),
+        false_from_ne_true o.is_within_limits (λ t. (let most = has.within_limits t in omega arith)),
+      )
       | inr l ↦ absurd (cc (sym told ∙ text-of m (is.written (omega arith))))
     ]
 

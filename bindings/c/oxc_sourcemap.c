@@ -4,7 +4,7 @@
  *    without a fault has an export of its own, which is quicker);
  *  - a handle goes in as a struct of one pointer, and one that is made goes to *out on success alone;
  *  - an array of texts with null entries, and one of maps, is copied;
- *  - of the contents of sources that come back empty, those that are not known get a null address. */
+ *  - of the contents of sources, those that are told not to be known get a null address. */
 #include "oxc_sourcemap.h"
 #include "proved.h"
 
@@ -213,10 +213,19 @@ uint32_t smap_get_sources(const smap_map *map, smap_text *out, size_t out_len, s
 
 uint32_t smap_get_source_contents(const smap_map *map, smap_text *out, size_t out_len, size_t *count) {
     smap_text none;
-    uint32_t code = proved_get_source_contents(LOAN(map), OR(out, &none), out_len, count);
-    for (size_t i = 0; code == SMAP_OK && i < out_len && i < *count; i++)
-        if (!out[i].len && proved_get_source_content(LOAN(map), (uint32_t)i, &none) != SMAP_OK) out[i].at = NULL;
-    return code;
+    char known[FEW];
+    size_t done = 0, left, all = 0;
+    do {
+        size_t room = out_len - done < FEW ? out_len - done : FEW;
+        uint32_t code = proved_get_source_contents(LOAN(map), done, OR(out, &none) + done, room, known, room, &left);
+        if (code != SMAP_OK) return code;
+        if (!done) all = left;
+        for (size_t i = 0; i < room && i < left; i++)
+            if (!known[i]) out[done + i].at = NULL;
+        done += room;
+    } while (done < out_len && done < all);
+    *count = all;
+    return SMAP_OK;
 }
 
 uint32_t smap_get_ignore_list(const smap_map *map, uint32_t *out, size_t out_len, size_t *count) {

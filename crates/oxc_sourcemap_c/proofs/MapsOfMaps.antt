@@ -25,6 +25,7 @@ use Rattle.oxc_sourcemap_handles.specs.declared.numbers.call_error.CallError.The
 use Rattle.oxc_sourcemap_handles.specs.CallErrors.{of_map}
 use Rattle.oxc_sourcemap_c.specs.MapsOfMaps.{all_lent, all_maps, at_places, by_path}
 use Rattle.oxc_sourcemap_c.specs.MapsOfMaps.{IsAddErrorOf, IsSureJoinError}
+use Rattle.oxc_sourcemap_c.specs.MapsOfMaps.{IsSureRemapError, IsRemapError, IsRemappingError}
 use Rattle.oxc_sourcemap_c.specs.MapsOfMaps.{IsJoinErrorOf, IsJoinErrorOfMaps, IsJoinOfLent}
 use Rattle.oxc_sourcemap_c.specs.MapsOfMaps.{IsJoinOfMaps}
 
@@ -233,3 +234,31 @@ none_sure_by (Some ms) ps r there number sure = sure.1 (number ms refl)
 pub none_sure : (hs : List Lent) (ps : List Position) (r : CallError) → all_maps (all_lent hs) ≢ None → length hs ≡ length ps → IsSureJoinError (all_lent hs) ps r → ⊥
 none_sure hs ps r there number =
     none_sure_by (all_maps (all_lent hs)) ps r there (λ ms e. same_number (all_lent hs) ms e ∙ number_of_lent hs ∙ number)
+
+-- ---- what a remapping reports whatever the memory
+remap_lengths_by : (o : Option MapRecord) (q : Option (List MapRecord)) (paths : List Text) → o ≢ None → q ≢ None → ((ms : List MapRecord) → q ≡ Some ms → length paths ≢ length ms)
+    → MatchOption o (Lengths ≡ NullHandle) (λ a. MatchOption q (Lengths ≡ NullHandle) (λ ms. IsRemappingError a paths ms Lengths))
+remap_lengths_by None q paths here there other = absurd (here refl)
+remap_lengths_by (Some a) None paths here there other = absurd (there refl)
+remap_lengths_by (Some a) (Some ms) paths here there other = inl (refl, other ms refl)
+
+pub remap_lengths : (held : Option Held) (paths : List Text) (hs : List Lent) → held_map held ≢ None → all_maps (all_lent hs) ≢ None → length paths ≢ length hs
+    → IsRemapError held paths (all_lent hs) Lengths
+remap_lengths held paths hs here there other =
+    remap_lengths_by (held_map held) (all_maps (all_lent hs)) paths here there
+    (λ ms e q. other (q ∙ same_number (all_lent hs) ms e ∙ number_of_lent hs))
+
+none_sure_remap_by : (o : Option MapRecord) (q : Option (List MapRecord)) (paths : List Text) (r : CallError) → o ≢ None → q ≢ None → ((ms : List MapRecord) → q ≡ Some ms → length paths ≡ length ms)
+    → MatchOption o (r ≡ NullHandle) (λ a. MatchOption q (r ≡ NullHandle) (λ ms. (r ≡ Lengths) × (length paths ≢ length ms))) → ⊥
+none_sure_remap_by None q paths r here there number sure = here refl
+none_sure_remap_by (Some a) None paths r here there number sure = there refl
+none_sure_remap_by (Some a) (Some ms) paths r here there number sure = sure.1 (number ms refl)
+
+pub none_sure_remap : (held : Option Held) (paths : List Text) (hs : List Lent) (r : CallError) → held_map held ≢ None → all_maps (all_lent hs) ≢ None → length paths ≡ length hs
+    → IsSureRemapError held paths (all_lent hs) r → ⊥
+none_sure_remap held paths hs r here there number =
+    none_sure_remap_by (held_map held) (all_maps (all_lent hs)) paths r here there
+    (λ ms e. number ∙ sym (same_number (all_lent hs) ms e ∙ number_of_lent hs))
+
+pub is_there : (o : Option MapRecord) (m : MapRecord) → o ≡ Some m → o ≢ None
+is_there o m e none = cc (sym e ∙ none)

@@ -1,6 +1,6 @@
 -- The results and errors of calls on what handles hold.
 use Rattle.std.specs.Prelude.{◌≡◌, ℕ, ◌⊎◌, Option, Result, Err, MatchOption, MatchResult, slice_get}
-use Rattle.std.specs.Prelude.{length, Bool, true, false}
+use Rattle.std.specs.Prelude.{length, is_some, map, List, Bool, true, false}
 use Rattle.oxc_sourcemap_parts.specs.Record.{Text, MapRecord}
 use Rattle.oxc_sourcemap_map.specs.View.{content_at}
 use Rattle.oxc_sourcemap_handles.specs.declared.numbers.call_error.CallError.{CallError}
@@ -36,6 +36,14 @@ IsFound answer held ask Is =
 abbrev pub flag_of : Bool → ℕ
 flag_of true = 1
 flag_of false = 0
+
+-- whether a content is known: 1 or 0
+abbrev pub known_flag : Option Text → ℕ
+known_flag content = flag_of (is_some content)
+
+-- the same of many
+abbrev pub known_flags : List (Option Text) → List ℕ
+known_flags contents = map known_flag contents
 
 -- a number is 1 if this is so, and else 0
 abbrev pub IsFlagOf : Type 0 → ℕ → Type 0

@@ -120,3 +120,9 @@ IsSureComposeError first second r =
 -- the same of joining what handles hold: that one holds no map, or that there are not as many positions as maps
 abbrev pub IsSureJoinError : List (Option Held) → List Position → CallError → Type 0
 IsSureJoinError hs ps r = MatchOption (all_maps hs) (r ≡ NullHandle) (λ ms. (r ≡ Lengths) × (length ms ≢ length ps))
+
+-- the same of remapping what handles hold: that one holds no map, or that there are not as many paths as maps
+abbrev pub IsSureRemapError : Option Held → List Text → List (Option Held) → CallError → Type 0
+IsSureRemapError held paths inputs r =
+    MatchOption (held_map held) (r ≡ NullHandle) (λ a. MatchOption (all_maps inputs) (r ≡ NullHandle)
+    (λ ms. (r ≡ Lengths) × (length paths ≢ length ms)))

@@ -57,7 +57,8 @@ pub use Rattle.oxc_sourcemap_map.specs.View.{content_at}
 pub use Rattle.oxc_sourcemap_parts.specs.Roots.{rooted}
 pub use Rattle.oxc_sourcemap_steps.specs.Simplified.{simplification}
 pub use Rattle.oxc_sourcemap_steps.specs.Sorting.{sorted_map}
-pub use Rattle.oxc_sourcemap_c.specs.Answers.{IsTraced, IsFlagOf, IsFound, flag_of}
+pub use Rattle.oxc_sourcemap_c.specs.Answers.{IsTraced, IsFlagOf, IsFound, flag_of, known_flag}
+pub use Rattle.oxc_sourcemap_c.specs.Answers.{known_flags}
 pub use Rattle.oxc_sourcemap_c.specs.Answers.{text_at}
 pub use Rattle.oxc_sourcemap_c.specs.Mends.{kind_numbers, kind_of_numbers, mend_of_numbers}
 pub use Rattle.oxc_sourcemap_c.specs.Mends.{numbers_of_kind, numbers_of_mend}
@@ -89,6 +90,7 @@ pub use Rattle.oxc_sourcemap_c.specs.MapsOfMaps.{IsCompositionError, IsJoinError
 pub use Rattle.oxc_sourcemap_c.specs.MapsOfMaps.{IsJoinOfLent, IsRemapError, IsRemapped}
 pub use Rattle.oxc_sourcemap_c.specs.MapsOfMaps.{IsRemapping, IsRemappingError, all_lent, all_maps}
 pub use Rattle.oxc_sourcemap_c.specs.MapsOfMaps.{IsSureComposeError, IsSureJoinError, by_path}
+pub use Rattle.oxc_sourcemap_c.specs.MapsOfMaps.{IsSureRemapError}
 pub use Rattle.oxc_sourcemap_steps.specs.Composed.{composition_fault}
 pub use Rattle.oxc_sourcemap_c.specs.Plans.{IsEvaluationErrorAt, IsOutcomeErrorAt}
 pub use Rattle.oxc_sourcemap_c.specs.Plans.{IsPlanErrorAt, IsPlanMap, call_error_of_run, of_plan}

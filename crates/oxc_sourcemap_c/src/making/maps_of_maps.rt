@@ -10,7 +10,7 @@ ghost use Rattle.oxc_sourcemap_c.specs.Words.{added, lent_inputs, nothing_joined
 ghost use Rattle.oxc_sourcemap_c.specs.Words.{IsMapMissing, IsAddErrorOf, IsComposingError};
 ghost use Rattle.oxc_sourcemap_c.specs.Words.{no_fault, HoldsMap, IsErrorAs};
 ghost use Rattle.oxc_sourcemap_c.specs.Words.{CallError, Error, IsSureComposeError, code_of};
-ghost use Rattle.oxc_sourcemap_c.specs.Words.{IsSureJoinError};
+ghost use Rattle.oxc_sourcemap_c.specs.Words.{IsSureJoinError, IsSureRemapError};
 ghost use Rattle.oxc_sourcemap_c.specs.Words.{composition_fault, of_map};
 
 use oxc_sourcemap_handles::{CallError, Fault, Handle, Lent, put_map, texts_of};
@@ -172,9 +172,15 @@ fn remap(
         (all_lent inputs.now)) }
     ensures error { IfErr result (λ r. (r ≢ out_of_memory) → IsRemapError map.now.held
         (lent_items paths.now) (all_lent inputs.now) r) }
-    ensures sure { (r : CallError) → IsMapMissing map.now.held r → result ≡ Err r }
+    ensures sure { (r : CallError) → IsSureRemapError map.now.held (lent_items paths.now)
+        (all_lent inputs.now) r → result ≡ Err r }
 {
     let map = lent_map(map)?;
+    // (what needs no memory is found first)
+    all_lengths(inputs)?;
+    if paths.len() != inputs.len() {
+        return Err(CallError::Lengths);
+    }
     let inputs = maps_of(alloc, inputs)?;
     remap_map(alloc, map, paths, inputs.as_slice())
 }
@@ -195,7 +201,8 @@ pub extern "C" fn proved_remap(
     ensures error { result ≢ 0 → (out.new.held ≡ out.old.held)
         × IsErrorAs result fault.new (IsRemapError map.now.held (lent_items paths.now)
         (all_lent inputs.now)) }
-    ensures sure { (r : CallError) → IsMapMissing map.now.held r → result ≡ code_of r }
+    ensures sure { (r : CallError) → IsSureRemapError map.now.held (lent_items paths.now)
+        (all_lent inputs.now) r → result ≡ code_of r }
 {
     put_map(alloc, remap(alloc, map, paths, inputs), out, fault)
 }

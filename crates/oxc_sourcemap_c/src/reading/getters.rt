@@ -1,6 +1,6 @@
 //! What a map in a handle holds: numbers, texts and lists.
 ghost use Rattle.std.specs.Prelude.{◌≡◌, [], Some, Ok, Err, map, length, slice_get, MatchOption};
-ghost use Rattle.std.specs.Prelude.{MatchResult, option_map, ◌≢◌};
+ghost use Rattle.std.specs.Prelude.{MatchResult, option_map, ◌≢◌, drop};
 ghost use Rattle.std.specs.Cow.{cow_str_bytes};
 ghost use Rattle.std.specs.Option.{unwrap_or};
 ghost use Rattle.oxc_sourcemap_c.specs.Words.{are_tokens_sorted, NullHandle, IsSound, held_map};
@@ -11,7 +11,7 @@ ghost use Rattle.oxc_sourcemap_c.specs.Words.{cow_texts, cow_options, bytes_of_t
 ghost use Rattle.oxc_sourcemap_c.specs.Words.{bytes_of_options, IsFlagOf, IsOptionListed};
 ghost use Rattle.oxc_sourcemap_c.specs.Words.{lines_through, last, lent_item, map_bytes};
 ghost use Rattle.oxc_sourcemap_c.specs.Words.{token_numbers, code_of, content_at, Found, HoldsText};
-ghost use Rattle.oxc_sourcemap_c.specs.Words.{Lists, ListsBy, ListsOption};
+ghost use Rattle.oxc_sourcemap_c.specs.Words.{Lists, ListsBy, ListsOption, known_flag, known_flags};
 
 use crate::answers::write_found;
 use crate::reading::asked::Asked;
@@ -282,7 +282,7 @@ fn write_tokens(tokens: &[Token], out: &mut [TokenNumbers])
 }
 
 /// Writes as many texts as there is room for.
-fn write_texts<'c>(texts: &'c [CowStr<'c>], out: &mut [Text<'c>])
+fn write_texts<'c>(texts: &'c [CowStr<'_>], out: &mut [Text<'c>])
     ensures { AreFilled IsText (cow_texts texts.now) out.old out.new }
 {
     for i in 0..texts.len().min(out.len()) {
@@ -291,7 +291,7 @@ fn write_texts<'c>(texts: &'c [CowStr<'c>], out: &mut [Text<'c>])
 }
 
 /// A content as it is stored, lent; it is empty if it is not known.
-fn content_text<'c>(content: &'c Option<CowStr<'c>>) -> Text<'c>
+fn content_text<'c>(content: &'c Option<CowStr<'_>>) -> Text<'c>
     ensures { IsContentText result (option_map cow_str_bytes content.now) }
 {
     match content {
@@ -301,12 +301,38 @@ fn content_text<'c>(content: &'c Option<CowStr<'c>>) -> Text<'c>
 }
 
 /// Writes as many contents as there is room for; those that are not known are empty.
-fn write_contents<'c>(contents: &'c [Option<CowStr<'c>>], out: &mut [Text<'c>])
+fn write_contents<'c>(contents: &'c [Option<CowStr<'_>>], out: &mut [Text<'c>])
     ensures { AreFilled IsContentText (cow_options contents.now) out.old out.new }
 {
     for i in 0..contents.len().min(out.len()) {
         out[i] = content_text(&contents[i]);
     }
+}
+
+/// 1 if a content is known, else 0.
+fn known_flag(content: &Option<CowStr<'_>>) -> u8
+    ensures { result ≡ known_flag (option_map cow_str_bytes content.now) }
+{
+    if content.is_some() { 1 } else { 0 }
+}
+
+/// Writes whether each content is known, of as many as there is room for.
+fn write_known(contents: &[Option<CowStr<'_>>], out: &mut [u8])
+    ensures { out.new ≡ filled (known_flags (cow_options contents.now)) out.old }
+{
+    for i in 0..contents.len().min(out.len()) {
+        out[i] = known_flag(&contents[i]);
+    }
+}
+
+/// The contents from this one on.
+fn contents_from<'c, 'a>(
+    contents: &'c [Option<CowStr<'a>>],
+    from: usize,
+) -> &'c [Option<CowStr<'a>>]
+    ensures { cow_options result.now ≡ drop from (cow_options contents.now) }
+{
+    &contents[from.min(contents.len())..]
 }
 
 /// Writes as many numbers as there is room for.
@@ -376,31 +402,44 @@ pub extern "C" fn proved_get_sources<'c>(map: Lent, out: &mut [Text<'c>], count:
     write_found(sources(map, out), count)
 }
 
-/// The number of contents of the map in a handle. Writes as many as there is room for.
-fn source_contents<'c>(map: Lent, out: &mut [Text<'c>]) -> Result<usize, CallError>
-    ensures found { IsListedBy IsContentText result map.held (λ m. m.source_contents)
+/// The number of contents of the map in a handle from this one on. Writes as many as there is room for, and whether each is known.
+fn source_contents<'c>(
+    map: Lent,
+    from: usize,
+    out: &mut [Text<'c>],
+    known: &mut [u8],
+) -> Result<usize, CallError>
+    ensures found { IsListedBy IsContentText result map.held (λ m. drop from m.source_contents)
         out.old out.new }
+    ensures known { IsListed result map.held
+        (λ m. known_flags (drop from m.source_contents)) known.old known.new }
 {
     let loaded = map.into_map()?;
-    let contents = parts_of(loaded.map().as_source_map())
-        .source_contents
-        .as_slice();
+    let all = parts_of(loaded.map().as_source_map());
+    let contents = contents_from(all.source_contents.as_slice(), from);
     write_contents(contents, out);
+    write_known(contents, known);
     Ok(contents.len())
 }
 
-/// All contents of a map, lent, as many as there is room for, and how many there are. Those that are not known are empty.
+/// The contents of a map from one on, lent, as many as there is room for, whether each is known (1 or 0), and how many there are from
+/// that one on. Those that are not known are empty.
 #[unsafe(no_mangle)]
 pub extern "C" fn proved_get_source_contents<'c>(
     map: Lent,
+    from: usize,
     out: &mut [Text<'c>],
+    known: &mut [u8],
     count: &mut usize,
 ) -> u32
-    ensures listed { ListsBy IsContentText result map.held (λ m. m.source_contents) out.old out.new
-        count.new }
-    ensures unchanged { result ≢ 0 → (out.new ≡ out.old) × (count.new ≡ count.old) }
+    ensures listed { ListsBy IsContentText result map.held (λ m. drop from m.source_contents)
+        out.old out.new count.new }
+    ensures known { Lists result map.held
+        (λ m. known_flags (drop from m.source_contents)) known.old known.new count.new }
+    ensures unchanged { result ≢ 0 → (out.new ≡ out.old) × (known.new ≡ known.old)
+        × (count.new ≡ count.old) }
 {
-    write_found(source_contents(map, out), count)
+    write_found(source_contents(map, from, out, known), count)
 }
 
 /// The number of ids in the ignore list of the map in a handle. Writes as many as there is room for. Fails with `NoEntry` if the

@@ -5,6 +5,7 @@ const native = require('./native.js');
 const { Language } = require('./constants.js');
 const { made, madeOrNull } = require('./errors.js');
 const { text, word, limitOf, tokens, texts } = require('./arguments.js');
+const { isDecoded, readDecoded, toText } = require('./decoded.js');
 const { SourceMap, mapOf } = require('./map.js');
 
 function evaluate(words, given) {
@@ -14,6 +15,7 @@ function evaluate(words, given) {
 }
 
 function encodeMappings(all, options) {
+  if (isDecoded(all)) return toText(readDecoded(all), all.length, limitOf(options));
   return made(native.encodeMappings(tokens(all), limitOf(options)));
 }
 

@@ -78,6 +78,8 @@ export const enum Form {
 export interface Native {
   /** The version of the C interface that it has: 1. */
   readonly version: number;
+  /** What it is. */
+  readonly backend: "addon" | "module";
   /** 18 words: the last error. */
   readonly fault: Uint32Array;
   /** 16 words: the numbers that the last call answered; in the last four, what `select` and `trace` say of them. */

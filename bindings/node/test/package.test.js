@@ -62,7 +62,8 @@ test('codes have their names', needsHeader, () => {
 test('CJS, ESM and the types have the same names', async () => {
   const names = Object.keys(library).sort();
   const { default: whole, ...module } = await import('../lib/index.mjs');
-  assert.equal(whole, undefined);
+  assert.equal(whole, library);
+  assert.equal(library.default, library);
   assert.deepEqual(Object.keys(module).sort(), names);
   assert.deepEqual([...new Set(all(read('lib/index.d.ts'), /^export (?:const|class|function) (\w+)/gm))].sort(), names);
   for (const name of ['SourceMap', 'SourceMapBuilder', 'ConcatSourceMapBuilder']) {

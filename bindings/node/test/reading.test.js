@@ -75,14 +75,14 @@ test('an indexed map is the join of its sections', () => {
 
 test('errors of texts', () => {
   const rows = [
-    ['{', { code: 'SMAP_JSON_READING', message: 'JSON parsing error: the text is not JSON', placeMessage: 'line 0, column 1 (byte 1)' }],
-    ['[3]', { code: 'SMAP_JSON_SHAPE', field: 'value', message: 'JSON parsing error: the value is not an object' }],
-    ['{"version":2}', { code: 'SMAP_JSON_VERSION', detail: 2, field: null, message: 'JSON parsing error: unsupported source map version: 2' }],
+    ['{', { code: 'SMAP_JSON_READING', message: 'JSON parsing error: the text is not JSON, at line 0, column 1 (byte 1)', placeMessage: 'line 0, column 1 (byte 1)' }],
+    ['[3]', { code: 'SMAP_JSON_SHAPE', field: 'value', message: 'JSON parsing error: the value is not an object, at the value' }],
+    ['{"version":2}', { code: 'SMAP_JSON_VERSION', detail: 2, field: null, message: 'JSON parsing error: unsupported source map version: 2, at version' }],
     ['{"version":4294967295}', { code: 'SMAP_JSON_VERSION', detail: 4294967295 }],
-    [simple('', { names: null }), { code: 'SMAP_JSON_SHAPE', field: 'names', message: 'JSON parsing error: field names is missing or has the wrong type' }],
+    [simple('', { names: null }), { code: 'SMAP_JSON_SHAPE', field: 'names', message: 'JSON parsing error: field names is missing or has the wrong type, at names' }],
     [simple('', { ignoreList: [0.5] }), { code: 'SMAP_JSON_SHAPE', field: 'ignoreList' }],
     [simple('', { ignoreList: null, x_google_ignoreList: [3] }), { code: 'SMAP_BAD_SOURCE_REFERENCE', detail: 3 }],
-    [simple('AA'), { code: 'SMAP_BAD_SEGMENT_SIZE', detail: 2, message: 'Mapping segment had an unsupported size of 2' }],
+    [simple('AA'), { code: 'SMAP_BAD_SEGMENT_SIZE', detail: 2, message: 'Mapping segment had an unsupported size of 2, at line 0, segment 0 (byte 0)' }],
     [simple('AAAAg', { names: ['a'] }), { code: 'SMAP_VLQ_LEFTOVER' }],
     [simple('gggggggggggggg'), { code: 'SMAP_VLQ_OVERFLOW' }],
     [simple('ACAA'), { code: 'SMAP_BAD_SOURCE_REFERENCE', detail: 0 }],
@@ -140,7 +140,7 @@ test('an error is an Error', () => {
     }
   })();
   assert.ok(error instanceof Error && error instanceof SourceMapError);
-  assert.match(error.stack, /^SourceMapError: JSON parsing error: the text is not JSON\n/);
+  assert.match(error.stack, /^SourceMapError: JSON parsing error: the text is not JSON, at line 0, column 1 \(byte 1\)\n/);
   assert.deepEqual(Object.keys(error), ['code', 'detail', 'field', 'place', 'placeMessage']);
 });
 
@@ -148,7 +148,7 @@ test('errors of a newer library, and numbers of 64 bits', () => {
   const fault = new Uint32Array(18);
   fault.set([9999, 1, 5, 2, 1, 0, NO_ID, NO_ID, NO_ID, 4, 5, 6, 7, 8, 9, 10, 11, 12]);
   const error = errorOf(fault);
-  assert.deepEqual([error.code, error.message, error.detail, error.field], ['SMAP_UNKNOWN', 'SMAP_UNKNOWN', 2 ** 33 + 5, null]);
+  assert.deepEqual([error.code, error.message, error.detail, error.field], ['SMAP_UNKNOWN', `SMAP_UNKNOWN, at ${error.placeMessage}`, 2 ** 33 + 5, null]);
   const none = { field: null, column: null, entry: null };
   assert.deepEqual(error.place, { ...none, kind: 'segment', text: null, section: 4 * 2 ** 32 + NO_ID, line: 6 * 2 ** 32 + 5, segment: 2 ** 35 + 7, byte: 10 * 2 ** 32 + 9 });
 });

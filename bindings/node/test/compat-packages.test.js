@@ -43,7 +43,7 @@ for (const [name, itsPeer] of Object.entries(MODULES)) {
 test('no module requires what the package has not', () => {
   for (const file of readdirSync(join(ROOT, 'compat')).filter((it) => it.endsWith('.js'))) {
     const required = [...readFileSync(compat(file), 'utf8').matchAll(/require\('([^']*)'\)/g)].map(([, it]) => it);
-    for (const it of required) assert.match(it, /^\.\.?\//, `${file} requires ${it}`);
+    for (const it of required) assert.match(it, /^(node:|\.\.?\/)/, `${file} requires ${it}`);
   }
 });
 

@@ -243,6 +243,6 @@ test('the place of a fault stands in its message, once', () => {
   assert.equal(message, 'Mapping segment had an unsupported size of 2, at line 1, segment 1 (byte 7)');
   assert.equal(placeMessage, 'line 1, segment 1 (byte 7)');
   assert.equal(told(() => new SourceMap(simple('D'))).message, 'Mapping segment had an unsupported size of 0, at line 0, segment 0 (byte 0): a column below 0');
-  assert.deepEqual(told(() => new SourceMap(Buffer.from([0x7b, 0xc3]))), { message: 'Invalid UTF-8', placeMessage: '' });
+  assert.deepEqual(told(() => new SourceMap(Buffer.from([0x7b, 0xc3]))), { message: 'Byte 1 is not UTF-8', placeMessage: '' });
 });
 

@@ -5,6 +5,7 @@
 const { NO_ID, SourceMap, SourceMapBuilder } = require('../lib/index.js');
 const { lineStarts, findBefore, findAfter } = require('../lib/columns.js');
 const { MENDS } = require('../lib/constants.js');
+const { check } = require('../lib/errors.js');
 const { WORDS, readDecoded, segmentAt, toDecoded, toText } = require('../lib/decoded.js');
 const native = require('../lib/native.js');
 
@@ -25,12 +26,30 @@ function lineCount(text) {
 
 // ---- from a text ----
 
+/** A text of at most so many units is read in one call, which makes no map, into room for all tokens that it may have. */
+const SHORT = 2048;
+const ROOM = new Uint32Array(WORDS * (SHORT / 2 + 1));
+
+function isShort(text) {
+  return typeof text === 'string' && text.length <= SHORT && text.isWellFormed();
+}
+
+/** The tokens of a short text, if they are sorted; else null. Throws as the library does. */
+function shortTokens(text, sources = NO_ID, names = NO_ID) {
+  if (!isShort(text)) return null;
+  check(native.decodeTokens(text, names, sources, ROOM), text);
+  const [count, isSorted] = native.words;
+  return isSorted === 1 ? ROOM.slice(0, WORDS * count) : null;
+}
+
 /**
  * The sorted tokens of a mappings text, its lines, and what was mended. Throws a SourceMapError of the first fault that is not mended.
  */
 function readText(text, { sources = NO_ID, names = NO_ID } = {}) {
   let map;
   try {
+    const tokens = shortTokens(text, sources, names);
+    if (tokens !== null) return { tokens, lines: lineCount(text), mends: NOTHING_MENDED };
     map = SourceMap.fromMappings(text, { sources, names });
   } catch (error) {
     return mended(text, sources, names, error);
@@ -95,6 +114,7 @@ module.exports = {
   mend,
   lineCount,
   readText,
+  shortTokens,
   readDecoded,
   mended,
   areIdsWithin,

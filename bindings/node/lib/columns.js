@@ -2,7 +2,9 @@
 // Lookups of generated positions among tokens that are sorted, six numbers each, for which nothing leaves JavaScript. They answer what
 // `trace` of the library does; no proof speaks of them, and tests compare the two on every map that there is.
 
-const { NO_ID, Bias, Kind } = require('./constants.js');
+const { NO_ID, Bias, Code, Kind } = require('./constants.js');
+const { refusal } = require('./errors.js');
+const { tokenAt } = require('./iteration.js');
 
 const WORDS = 6;
 
@@ -51,6 +53,9 @@ function find(tokens, starts, line, column, bias) {
   return index < 0 && bias === Bias.CLAMPED && starts[line] < starts[line + 1] ? starts[line] : index;
 }
 
+/** Where an answer is that is told as an object. */
+const ANSWER = new Uint32Array(8);
+
 /** A copy of the tokens of a map that is sound, which answers as `trace` of native.d.ts does. */
 class Columns {
   constructor(tokens, lines) {
@@ -78,6 +83,18 @@ class Columns {
     answers[5] = tokens[at + 3];
     answers[6] = source;
     answers[7] = name;
+  }
+
+  /** The token that answers, as the class tells it; null if there is none. */
+  traceToken(line, column, bias) {
+    if (this.tokens === null) throw refusal(Code.NULL_HANDLE);
+    this.trace(line, column, bias, ANSWER);
+    return ANSWER[0] === Kind.NOTHING ? null : tokenAt(ANSWER, 2, ANSWER[1]);
+  }
+
+  /** `traceToken` throws from here on, as of a map that was freed. */
+  free() {
+    this.tokens = null;
   }
 }
 

@@ -77,9 +77,9 @@ function refusal(code) {
   return errorOf(words);
 }
 
-/** Throws what a call has refused that answers a code. */
-function check(code) {
-  if (code !== 0) throw errorOf(native.fault);
+/** Throws what a call has refused that answers a code, if need be of reading this text. */
+function check(code, text) {
+  if (code !== 0) throw errorOf(native.fault, text);
 }
 
 /** What a call answers that makes something, if need be of this text, or else a code. */

@@ -1,9 +1,23 @@
 'use strict';
-// The mappings of a map as objects with texts, one for each token.
+// Tokens as objects: with their ids, and as mappings with texts.
 
 const { NO_ID } = require('./constants.js');
+const { idOf } = require('./arguments.js');
 
 const WORDS = 6;
+
+/** The token of this index, whose words stand from `at` on. */
+function tokenAt(words, at, index) {
+  return {
+    generatedLine: words[at],
+    generatedColumn: words[at + 1],
+    originalLine: words[at + 2],
+    originalColumn: words[at + 3],
+    sourceId: idOf(words[at + 4]),
+    nameId: idOf(words[at + 5]),
+    index,
+  };
+}
 
 /** The mapping of the token at an index. An id that is out of range is none. */
 function mappingAt(tokens, index, sources, names) {
@@ -25,4 +39,4 @@ function* mappingsOf(tokens, sources, names) {
   for (let index = 0; WORDS * index < tokens.length; index++) yield mappingAt(tokens, index, sources, names);
 }
 
-module.exports = { mappingAt, mappingsOf };
+module.exports = { tokenAt, mappingAt, mappingsOf };

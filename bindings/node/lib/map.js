@@ -8,7 +8,7 @@ const { text, word, limitOf, idOf, list, checkWords, words, tokens, texts, conte
 const { Columns } = require('./columns.js');
 const { toDecoded } = require('./decoded.js');
 const { sourceText, encodedMappings } = require('./inputs.js');
-const { mappingAt, mappingsOf } = require('./iteration.js');
+const { tokenAt, mappingAt, mappingsOf } = require('./iteration.js');
 const { keptMembers, textWith, bytesOf, dataURLOf } = require('./members.js');
 
 const answers = native.words;
@@ -244,7 +244,7 @@ class SourceMap {
     const code = native.getToken(this.#handle, word(index, 'The index'));
     if (code === Code.NO_ENTRY) return null;
     check(code);
-    return tokenAt(0, index);
+    return tokenAt(answers, 0, index);
   }
 
   tokens(out) {
@@ -326,20 +326,26 @@ class SourceMap {
 
   traceToken(line, column, bias = Bias.BEFORE) {
     if (isPlace(line)) return this.traceToken(line.line, line.column, line.bias);
-    return this.#ask(line, column, bias) === Kind.NOTHING ? null : tokenAt(2, answers[1]);
+    return this.#ask(line, column, bias) === Kind.NOTHING ? null : tokenAt(answers, 2, answers[1]);
   }
 
   /** A text that a lookup found: read once, and kept. The lists have room for all entries from the start, so that they stay fast. */
   #keptSource(id) {
     const source = made(native.text(this.#handle, Which.SOURCE, id));
-    this.#sourceCache ??= new Array(this.counts.sources);
+    if (this.#sourceCache === null) {
+      check(native.getCounts(this.#handle));
+      this.#sourceCache = new Array(answers[2]);
+    }
     this.#sourceCache[id] = source;
     return source;
   }
 
   #keptName(id) {
     const name = made(native.text(this.#handle, Which.NAME, id));
-    this.#nameCache ??= new Array(this.counts.names);
+    if (this.#nameCache === null) {
+      check(native.getCounts(this.#handle));
+      this.#nameCache = new Array(answers[1]);
+    }
     this.#nameCache[id] = name;
     return name;
   }
@@ -403,7 +409,7 @@ class SourceMap {
     const code = this.#indexed(() => native.generated(this.#handle, ...asked));
     if (code === Code.NO_ENTRY) return null;
     check(code);
-    return tokenAt(1, answers[0]);
+    return tokenAt(answers, 1, answers[0]);
   }
 
   allGenerated(source, line, column, direction = Direction.AT) {
@@ -516,19 +522,6 @@ class SourceMap {
   visualizerURL(code) {
     return made(native.write(this.#handle, Form.DRAWING_URL, text(code, 'The code')));
   }
-}
-
-/** The token whose words are answered from `at` on. */
-function tokenAt(at, index) {
-  return {
-    generatedLine: answers[at],
-    generatedColumn: answers[at + 1],
-    originalLine: answers[at + 2],
-    originalColumn: answers[at + 3],
-    sourceId: idOf(answers[at + 4]),
-    nameId: idOf(answers[at + 5]),
-    index,
-  };
 }
 
 function pieceAt(out, at) {

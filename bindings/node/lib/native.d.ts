@@ -106,6 +106,8 @@ export interface Native {
   ): MapHandle | Code;
   /** The tokens of a mappings text alone, whose ids are to be below these numbers. */
   decodeMappings(mappings: Text, names: number, sources: number): MapHandle | Code;
+  /** The tokens alone, which no handle holds: `words[0]` is how many there are, and `words[1]` whether they are sorted, 1 or 0. */
+  decodeTokens(mappings: Text, names: number, sources: number, out: Uint32Array): Code;
   clone(map: MapHandle): MapHandle | Code;
   free(handle: MapHandle | BuilderHandle | JoinHandle): void;
 

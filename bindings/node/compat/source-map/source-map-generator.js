@@ -200,8 +200,11 @@ function isRepeat(words, at) {
   return true;
 }
 
-/** The tokens without those that say what the one before them says. */
+/** The tokens without those that say what the one before them says; the same ones where there are none. */
 function withoutRepeats(words) {
+  let first = WORDS;
+  while (first < words.length && !isRepeat(words, first)) first += WORDS;
+  if (first >= words.length) return words;
   const kept = new Uint32Array(words.length);
   let to = 0;
   for (let at = 0; at < words.length; at += WORDS) {

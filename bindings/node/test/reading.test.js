@@ -5,6 +5,8 @@ const test = require('node:test');
 const assert = require('node:assert/strict');
 
 const { NO_ID, SourceMap, SourceMapError, decodeMappings } = require('..');
+const native = require('../lib/native.js');
+const constants = require('../lib/constants.js');
 const { errorOf } = require('../lib/errors.js');
 const { MAP, TEXT, TOKENS, flat, simple, fails, randomMap } = require('./support.js');
 
@@ -209,6 +211,29 @@ test('mappings alone', () => {
   fails({ code: 'SMAP_BAD_NAME_REFERENCE', detail: 0, placeMessage: 'line 1, segment 0 (byte 1)' }, () => decodeMappings(';AAAAA', { names: 0 }));
   const map = SourceMap.fromMappings('AAAA', { names: 0, sources: 1 });
   assert.deepEqual([map.isSorted, map.isSound], [true, false]);
+});
+
+test('the tokens of mappings in one call, which makes no map', () => {
+  const out = new Uint32Array(20).fill(9);
+  const rows = [
+    ['AAAA,GAAIA,C', [1, 1], 3, 1, [0, 0, 0, 0, 0, NO_ID, 0, 3, 0, 4, 0, 0, 0, 4, 0, 4, NO_ID, NO_ID]],
+    ['E,D', [0, 0], 2, 0, [0, 2, 0, 0, NO_ID, NO_ID, 0, 1, 0, 0, NO_ID, NO_ID]],
+    ['', [0, 0], 0, 1, []],
+    [Buffer.from(';C'), [0, 0], 1, 1, [1, 1, 0, 0, NO_ID, NO_ID]],
+    ['A,A,A,A,A', [0, 0], 5, 1, [0, 0, 0, 0, NO_ID, NO_ID, 0, 0, 0, 0, NO_ID, NO_ID, 0, 0, 0, 0, NO_ID, NO_ID]],
+  ];
+  for (const [mappings, limits, count, isSorted, expected] of rows) {
+    out.fill(9);
+    assert.equal(native.decodeTokens(mappings, ...limits, out), 0);
+    assert.deepEqual([native.words[0], native.words[1]], [count, isSorted]);
+    assert.deepEqual([...out], [...expected, ...new Array(20 - expected.length).fill(9)]);
+  }
+  assert.equal(native.decodeTokens('AAAA', 1, 0, out), constants.Code.BAD_SOURCE_REFERENCE);
+  assert.equal(native.decodeTokens('AAAAA', 0, 1, out), constants.Code.BAD_NAME_REFERENCE);
+  assert.deepEqual([native.fault[0], native.fault[2]], [constants.Code.BAD_NAME_REFERENCE, 0]);
+  const shared = new Uint32Array(new SharedArrayBuffer(24));
+  assert.equal(native.decodeTokens('C', 0, 0, shared), 0);
+  assert.equal(shared[1], 1);
 });
 
 test('random maps', () => {

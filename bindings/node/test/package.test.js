@@ -98,7 +98,7 @@ test('the version is that of the changelog, and nothing is depended on', needsHe
 });
 
 test('the examples of the documentation', () => {
-  const examples = all(read('README.md'), /```js\n([^]*?)```/g).filter((it) => !it.includes("require('node:fs')"));
+  const examples = all(read('README.md'), /```js\n([^]*?)```/g).filter((it) => !/require\('node:fs'\)|^import /m.test(it));
   assert.ok(examples.length > 0);
   for (const example of examples) {
     const lines = example.split('\n').map((line) => line.replace(/^((?:map\.|\[\.\.\.map).*); \/\/ (.*)$/, 'assert.deepEqual($1, $2);'));

@@ -1,0 +1,2 @@
+export { default } from "./esbuild.js";
+export type { Options } from "./rollup.js";

@@ -1,0 +1,2 @@
+export { default } from "./rollup.js";
+export type { Options } from "./rollup.js";

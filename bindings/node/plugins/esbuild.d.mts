@@ -1,2 +1,3 @@
-export { default } from "./esbuild.js";
+import library = require("./esbuild.js");
+export default library.default;
 export type { Options } from "./rollup.js";

@@ -1,2 +1,3 @@
-export { default } from "./rollup.js";
+import library = require("./rollup.js");
+export default library.default;
 export type { Options } from "./rollup.js";

@@ -1,1 +1,2 @@
-export { default } from "./webpack.js";
+import library = require("./webpack.js");
+export default library.default;

@@ -1,3 +1,2 @@
-import library = require("./esbuild.js");
-export default library.default;
-export type { Options } from "./rollup.js";
+export { esbuild as default } from "./types.js";
+export type { Options } from "./types.js";

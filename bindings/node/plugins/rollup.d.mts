@@ -1,3 +1,2 @@
-import library = require("./rollup.js");
-export default library.default;
-export type { Options } from "./rollup.js";
+export { rollup as default } from "./types.js";
+export type { Options } from "./types.js";

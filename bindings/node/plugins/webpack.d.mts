@@ -1,2 +1,2 @@
-import library = require("./webpack.js");
-export default library.default;
+export { JunketscarpPlugin as default } from "./types.js";
+export type { Options } from "./types.js";

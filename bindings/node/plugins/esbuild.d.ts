@@ -1,2 +1,2 @@
-export { esbuild as default } from "./types.js";
-export type { Options } from "./types.js";
+import { esbuild } from "./types";
+export = esbuild;

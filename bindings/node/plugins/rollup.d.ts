@@ -1,2 +1,2 @@
-export { rollup as default } from "./types.js";
-export type { Options } from "./types.js";
+import { rollup } from "./types";
+export = rollup;

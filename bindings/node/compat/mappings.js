@@ -5,8 +5,7 @@
 const { NO_ID, SourceMap, SourceMapBuilder } = require('../lib/index.js');
 const { lineStarts, findBefore, findAfter } = require('../lib/columns.js');
 const { MENDS } = require('../lib/constants.js');
-const { check } = require('../lib/errors.js');
-const { WORDS, readDecoded, segmentAt, toDecoded, toText } = require('../lib/decoded.js');
+const { WORDS, decodedShort, readDecoded, segmentAt, toDecoded, toText } = require('../lib/decoded.js');
 const native = require('../lib/native.js');
 
 const NOTHING_MENDED = Object.freeze([]);
@@ -26,20 +25,10 @@ function lineCount(text) {
 
 // ---- from a text ----
 
-/** A text of at most so many units is read in one call, which makes no map, into room for all tokens that it may have. */
-const SHORT = 2048;
-const ROOM = new Uint32Array(WORDS * (SHORT / 2 + 1));
-
-function isShort(text) {
-  return typeof text === 'string' && text.length <= SHORT && text.isWellFormed();
-}
-
 /** The tokens of a short text, if they are sorted; else null. Throws as the library does. */
 function shortTokens(text, sources = NO_ID, names = NO_ID) {
-  if (!isShort(text)) return null;
-  check(native.decodeTokens(text, names, sources, ROOM), text);
-  const [count, isSorted] = native.words;
-  return isSorted === 1 ? ROOM.slice(0, WORDS * count) : null;
+  const tokens = decodedShort(text, sources, names);
+  return tokens !== null && native.words[1] === 1 ? tokens : null;
 }
 
 /**

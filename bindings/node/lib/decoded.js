@@ -4,10 +4,21 @@
 
 const native = require('./native.js');
 const { NO_ID, Code } = require('./constants.js');
-const { made, refusal } = require('./errors.js');
+const { check, made, refusal } = require('./errors.js');
 const { shown } = require('./arguments.js');
 
 const WORDS = 6;
+
+/** A text of at most so many units is read in one call, which makes no map, into room for all tokens that it may have. */
+const SHORT = 2048;
+const ROOM = new Uint32Array(WORDS * (SHORT / 2 + 1));
+
+/** The tokens of a mappings text, if it is short; else null. `native.words[1]` is 1 if they are sorted. */
+function decodedShort(text, sources, names) {
+  if (typeof text !== 'string' || text.length > SHORT || !text.isWellFormed()) return null;
+  check(native.decodeTokens(text, names, sources, ROOM), text);
+  return ROOM.slice(0, WORDS * native.words[0]);
+}
 
 /** Whether a list is one of lines, and not of tokens. */
 function isDecoded(it) {
@@ -126,4 +137,4 @@ function toText(tokens, lines, limit) {
   return made(native.encodeMappings(tokens, limit === undefined ? undefined : limit - empty)) + ';'.repeat(empty);
 }
 
-module.exports = { WORDS, isDecoded, readDecoded, segmentAt, toDecoded, toText };
+module.exports = { WORDS, decodedShort, isDecoded, readDecoded, segmentAt, toDecoded, toText };

@@ -213,6 +213,20 @@ test('mappings alone', () => {
   assert.deepEqual([map.isSorted, map.isSound], [true, false]);
 });
 
+test('the tokens of mappings, as long as one call takes them and longer', () => {
+  for (const count of [1023, 1024, 1025, 3000]) {
+    const tokens = decodeMappings('A,'.repeat(count), { names: 0, sources: 0 });
+    assert.equal(tokens.length, 6 * count);
+    assert.ok(tokens.every((word, i) => word === (i % 6 < 4 ? 0 : NO_ID)));
+    assert.notEqual(tokens.buffer, decodeMappings('A').buffer);
+  }
+  assert.throws(() => decodeMappings('\ud800'), TypeError);
+  assert.throws(() => decodeMappings('A', null), TypeError);
+  const kept = decodeMappings('C');
+  decodeMappings('E');
+  assert.equal(kept[1], 1);
+});
+
 test('the tokens of mappings in one call, which makes no map', () => {
   const out = new Uint32Array(20).fill(9);
   const rows = [

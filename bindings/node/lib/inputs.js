@@ -42,7 +42,8 @@ function isValue(it) {
 
 /** The text of what a map is read from. */
 function sourceText(it, what) {
-  if (typeof it === 'string' || !isValue(it) || ArrayBuffer.isView(it)) return text(it, what);
+  if (typeof it === 'string' || ArrayBuffer.isView(it)) return text(it, what);
+  if (!isValue(it)) throw new TypeError(`${what} is neither a string, a Uint8Array, a URL nor a value with mappings or sections`);
   if (typeof URL === 'function' && it instanceof URL) return textOfURL(it);
   const json = JSON.stringify('mappings' in it || 'sections' in it ? encodedValue(it) : it);
   return text(json, what);

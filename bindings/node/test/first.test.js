@@ -55,7 +55,7 @@ test('a value is refused as its text is, and what is none as before', () => {
   assert.throws(() => new SourceMap({ version: 3, sources: ['a'], mappings: [[[-1]]] }), RangeError);
   assert.throws(() => new SourceMap({ version: 3, sources: ['a'], mappings: [[['0']]] }), TypeError);
   for (const it of [{}, { version: 3 }, { sources: [] }, new Map(), () => {}, { toJSON: () => undefined }]) {
-    assert.throws(() => new SourceMap(it), { name: 'TypeError' }, inspect(it));
+    assert.throws(() => new SourceMap(it), { name: 'TypeError', message: /^The JSON text is neither a string/ }, inspect(it));
   }
 });
 
@@ -83,7 +83,7 @@ const TEXT_WRITTEN = new SourceMap(TEXT).toString();
 // ---- members that the format does not know ----
 
 test('members of others are kept if that is asked', async () => {
-  const more = { x_facebook_sources: [[{ names: ['<global>'], mappings: 'AAA' }]], x_b: 'größe "\\', x_google_ignoreList: [0], extra: 1 };
+  const more = { x_facebook_sources: [[{ names: ['<global>'], mappings: 'AAA' }]], x_b: 'größe "\\', x_google_ignoreList: [0], extra: 1, other_x_b: 2 };
   const given = JSON.stringify({ ...MAP, ignoreList: undefined, ...more });
   const kept = { x_facebook_sources: more.x_facebook_sources, x_b: more.x_b };
   const options = { keepUnknown: true };

@@ -20,7 +20,7 @@ PACKAGE = TOP / "bindings/node"
 LIBRARY = os.path.abspath(os.environ.get("LIBRARY", TOP / "target"))
 # What the tests read.
 READ = ("bindings/node", "bindings/c", "bindings/wasm/loader", "bindings/wasm/test", "tests/real-maps", "docs/CHANGELOG.md")
-SLOW = ("memory", "workers", "fuzz")
+SLOW = ("memory", "workers", "fuzz", "compat-others", "plugins")
 MODULES = ("map.js", "builders.js", "functions.js", "errors.js", "inputs.js", "decoded.js", "members.js")
 LOADER = TOP / "bindings/wasm"
 # The modules of the loader's test, and how they are linked: tools/check/wasm has the same.

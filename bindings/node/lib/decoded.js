@@ -11,7 +11,7 @@ const WORDS = 6;
 
 /** A text of at most so many units is read in one call, which makes no map, into room for all tokens that it may have. */
 const SHORT = 2048;
-const ROOM = new Uint32Array(WORDS * (SHORT / 2 + 1));
+const ROOM = new Uint32Array((WORDS * SHORT) / 2);
 
 /** The tokens of a mappings text, if it is short; else null. `native.words[1]` is 1 if they are sorted. */
 function decodedShort(text, sources, names) {

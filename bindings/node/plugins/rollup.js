@@ -11,6 +11,7 @@ const COMMENT = /\/\/# sourceMappingURL=data:application\/json;charset=utf-8;bas
 function replaceMap(chunk, bundle, map) {
   for (const key of ['sources', 'sourcesContent', 'names', 'mappings']) chunk.map[key] = map[key];
   delete chunk.map.x_google_ignoreList;
+  if (map.ignoreList) chunk.map.x_google_ignoreList = map.ignoreList;
   const file = bundle[chunk.sourcemapFileName ?? `${chunk.fileName}.map`];
   if (file?.type === 'asset') file.source = chunk.map.toString();
   chunk.code = chunk.code.replace(COMMENT, () => `//# sourceMappingURL=${chunk.map.toUrl()}`);

@@ -17,8 +17,8 @@ export interface Options {
 export declare function rollup(options?: Options): { name: string; generateBundle(output: any, bundle: any): void };
 
 /**
- * A plugin for esbuild, which follows the comments of modules by itself: this one leads the maps of a build through the maps beside
- * modules, too, or through those that it is given.
+ * A plugin for esbuild, which follows the comments of modules by itself: this one leads the maps of a build that are files through the
+ * maps beside modules, too, or through those that it is given.
  *
  * @example
  * await esbuild.build({ entryPoints: ["app.js"], bundle: true, sourcemap: true, outfile: "out.js", plugins: [junketscarp()] });

@@ -169,6 +169,8 @@ test('the mappings of a map, one by one', () => {
   assert.equal(map.eachMapping((...given) => all.push(given)), undefined);
   assert.deepEqual(all, MAPPINGS.map((it) => [it]));
   assert.deepEqual([...new SourceMap(simple(''))], []);
+  const crossed = new SourceMap({ version: 3, sources: ['a', 'b'], names: ['x', 'y'], mappings: [[[0, 1, 0, 0, 0], [1, 0, 0, 0, 1], [2, 1, 0, 0]]] });
+  assert.deepEqual(Array.from(crossed, (it) => [it.source, it.name]), [['b', 'x'], ['a', 'y'], ['b', null]]);
   const seen = [];
   for (const { source } of map) {
     map.setSources(['c', 'd']);

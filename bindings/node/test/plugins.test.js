@@ -93,7 +93,9 @@ for (const [name, files] of Object.entries({ beside: FILES, named: NAMED, inline
         const code = readFileSync(join(room, 'out/app.js'), 'utf8');
         const inline = /sourceMappingURL=(data:.*)/.exec(code)?.[1];
         assert.equal(inline !== undefined, sourcemap === 'inline');
-        check(code, inline ? new URL(inline) : readFileSync(join(room, 'out/app.js.map')), { of: (it) => `../${it}` });
+        const map = inline ? new URL(inline) : readFileSync(join(room, 'out/app.js.map'));
+        check(code, map, { of: (it) => `../${it}` });
+        assert.equal(new SourceMap(map).ignoreList, null);
       }));
   }
 }

@@ -99,6 +99,7 @@ test('a consumer is destroyed when what uses it has ended', async () => {
   assert.deepEqual(await SourceMapConsumer.with(MAP, 'https://x.org/m', ({ sources }) => sources), ['https://x.org/a.ts', 'https://x.org/b.ts']);
   let isDone = false;
   await SourceMapConsumer.with(MAP, null, async (it) => {
+    it.originalPositionFor({ line: 1, column: 0 });
     await new Promise(setImmediate);
     it.originalPositionFor({ line: 1, column: 0 });
     isDone = true;

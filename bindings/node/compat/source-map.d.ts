@@ -14,6 +14,8 @@ export interface StartOfSourceMap {
   sourceRoot?: string;
   /** Takes mappings as they come, without a look at them. One that a map can not hold is refused all the same. */
   skipValidation?: boolean;
+  /** Of source-map-js: warns of a mapping that is none, and passes over it. */
+  ignoreInvalidMapping?: boolean;
 }
 
 export interface RawSourceMap {
@@ -130,7 +132,7 @@ export interface Mapping {
 /** A map that is made mapping by mapping, in any order. */
 export class SourceMapGenerator {
   /** A generator with the mappings, sources and contents of a consumer. */
-  static fromSourceMap(consumer: SourceMapConsumer): SourceMapGenerator;
+  static fromSourceMap(consumer: SourceMapConsumer, options?: StartOfSourceMap): SourceMapGenerator;
 
   constructor(start?: StartOfSourceMap);
 

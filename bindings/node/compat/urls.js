@@ -16,6 +16,9 @@ const FILE = /^file:(?:\/\/((?![a-z]:)[^/#?]*)?)?/i;
 const HOST_AND_PORT = /^([^:]*)(:\d+)?/;
 const FIRST_LINE = /^.*/;
 
+// A path that names folders and a file, and says nothing else: it stands behind its base as it is.
+const PLAIN = /^(?:[\w@-][\w@.-]*\/)*[\w@-][\w@.-]*$/;
+
 const NO_AUTHORITY = { user: '', host: '', port: '', isWhole: true };
 
 /** A reference in its parts: each is empty, or has the signs that belong to it. */
@@ -149,7 +152,11 @@ function folderOf(path) {
 function sourceResolver(sourceRoot, mapUrl) {
   const asFolder = (base) => (base && !base.endsWith('/') ? `${base}/` : base);
   const from = asFolder(resolve(sourceRoot || '', asFolder(folderOf(mapUrl))));
-  return (source) => resolve(source || '', from);
+  const isAppended = from === '' || resolve('x', from) === `${from}x`;
+  return (source) => {
+    const path = source || '';
+    return isAppended && PLAIN.test(path) ? from + path : resolve(path, from);
+  };
 }
 
 module.exports = { resolve, sourceResolver };

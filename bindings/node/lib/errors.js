@@ -6,7 +6,7 @@ const { NO_ID, Code, FIELDS, PLACES } = require('./constants.js');
 
 class SourceMapError extends Error {
   constructor(message, { code, detail, field, place, placeMessage }) {
-    super(message);
+    super(placeMessage ? `${message}, at ${placeMessage}` : message);
     this.code = code;
     this.detail = detail;
     this.field = field;
@@ -70,9 +70,16 @@ function errorOf(words, text) {
   });
 }
 
-/** Throws what a call has refused that answers a code. */
-function check(code) {
-  if (code !== 0) throw errorOf(native.fault);
+/** The error of a code alone, of what is refused before the library is called. */
+function refusal(code) {
+  const words = new Uint32Array(native.fault.length);
+  words[0] = code;
+  return errorOf(words);
+}
+
+/** Throws what a call has refused that answers a code, if need be of reading this text. */
+function check(code, text) {
+  if (code !== 0) throw errorOf(native.fault, text);
 }
 
 /** What a call answers that makes something, if need be of this text, or else a code. */
@@ -86,4 +93,4 @@ function madeOrNull(answer) {
   return answer === Code.NO_ENTRY ? null : made(answer);
 }
 
-module.exports = { SourceMapError, errorOf, check, made, madeOrNull, long, longOrNull };
+module.exports = { SourceMapError, errorOf, refusal, check, made, madeOrNull, long, longOrNull };

@@ -2,9 +2,10 @@
 // Calls over texts alone.
 
 const native = require('./native.js');
-const { Language } = require('./constants.js');
+const { NO_ID, Language } = require('./constants.js');
 const { made, madeOrNull } = require('./errors.js');
 const { text, word, limitOf, tokens, texts } = require('./arguments.js');
+const { decodedShort, isDecoded, readDecoded, toText } = require('./decoded.js');
 const { SourceMap, mapOf } = require('./map.js');
 
 function evaluate(words, given) {
@@ -14,10 +15,14 @@ function evaluate(words, given) {
 }
 
 function encodeMappings(all, options) {
+  if (isDecoded(all)) return toText(readDecoded(all), all.length, limitOf(options));
   return made(native.encodeMappings(tokens(all), limitOf(options)));
 }
 
-function decodeMappings(mappings, limits) {
+function decodeMappings(mappings, limits = {}) {
+  const { names = NO_ID, sources = NO_ID } = limits;
+  const tokens = decodedShort(mappings, word(sources, 'sources'), word(names, 'names'));
+  if (tokens !== null) return tokens;
   const map = SourceMap.fromMappings(mappings, limits);
   try {
     return map.tokens();

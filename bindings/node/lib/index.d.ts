@@ -60,6 +60,12 @@ export interface Position {
   column: number;
 }
 
+/** A position of a source, by its id or its name, and which tokens answer for it. */
+export interface OriginalPosition extends Position {
+  source: number | string;
+  direction?: Direction | undefined;
+}
+
 /** A generated position and what it points to. Without a source it is unmapped. */
 export interface Token {
   generatedLine: number;
@@ -133,6 +139,53 @@ export interface RawSourceMap {
   mappings: string;
   debugId?: string;
   ignoreList?: number[];
+}
+
+/** A segment of decoded mappings: the generated column; then, of a mapped one, the id of the source, its line and column; then the id of
+ *  the name. */
+export type Segment = [number] | [number, number, number, number] | [number, number, number, number, number];
+
+/** Mappings as a text, or decoded: a list of lines, each of segments, as the packages of npm have them. */
+export type Mappings = string | readonly (readonly Segment[])[];
+
+/** The value of a map, as `JSON.parse` or a bundler gives it. Other members are read as those of the text are. */
+export interface MapValue {
+  version: number | string;
+  file?: string | null | undefined;
+  sourceRoot?: string | null | undefined;
+  sources: readonly (string | null)[];
+  sourcesContent?: readonly (string | null)[] | null | undefined;
+  names?: readonly string[] | undefined;
+  mappings: Mappings;
+}
+
+/** The value of an indexed map. */
+export interface IndexedMapValue {
+  version: number | string;
+  sections: readonly { offset: Position; map: MapValue | IndexedMapValue }[];
+}
+
+/**
+ * What a map is read from: its JSON text; its value, or an object that has it by `toJSON`, as a generator or another SourceMap; or the
+ * URL of a file (Node of 20.16 and later) or of data.
+ */
+export type MapInput = Text | MapValue | IndexedMapValue | { toJSON(): unknown } | { readonly href: string; readonly protocol: string };
+
+/** How a map is read. */
+export interface ReadOptions {
+  /** Keeps the members whose names begin with `x_`, which the format does not know; else they are dropped. */
+  readonly keepUnknown?: boolean | undefined;
+}
+
+/** A token with its texts. What is not told is null, as all but the generated position of one without a source. */
+export interface Mapping {
+  generatedLine: number;
+  generatedColumn: number;
+  source: string | null;
+  originalLine: number | null;
+  originalColumn: number | null;
+  name: string | null;
+  index: number;
 }
 
 /** What was mended in a map that was read as it is found. */
@@ -246,7 +299,7 @@ export type Code =
  * try {
  *   new SourceMap('{"version":3,"sources":["a.ts"],"mappings":"AAAA;A,AA"}');
  * } catch (error) {
- *   error.message;      // "Mapping segment had an unsupported size of 2"
+ *   error.message;      // "Mapping segment had an unsupported size of 2, at line 1, segment 1 (byte 7)"
  *   error.code;         // "SMAP_BAD_SEGMENT_SIZE"
  *   error.placeMessage; // "line 1, segment 1 (byte 7)"
  * }
@@ -254,6 +307,8 @@ export type Code =
 export class SourceMapError extends Error {
   private constructor();
   readonly name: "SourceMapError";
+  /** What is wrong, and behind ", at" the place, if that is known. */
+  readonly message: string;
   readonly code: Code;
   /** The number that belongs to the code: an id, an index, a size, a version; else 0. */
   readonly detail: number;
@@ -278,13 +333,24 @@ export class SourceMapError extends Error {
  */
 export class SourceMap {
   /**
-   * Reads a map from its JSON text. An indexed map is read as the join of its sections, without their source roots.
+   * Reads a map from its JSON text, or what stands for it. An indexed map is read as the join of its sections, without their source
+   * roots. Of a value, what the text of JSON.stringify has is read.
    *
    * Throws SourceMapError of SMAP_JSON_READING, SMAP_JSON_SHAPE, SMAP_JSON_VERSION, SMAP_BAD_SOURCE_REFERENCE (of the ignore list),
    * of a fault of the mappings (SMAP_VLQ_OVERFLOW, SMAP_VLQ_LEFTOVER, SMAP_BAD_SEGMENT_SIZE, SMAP_BAD_SOURCE_REFERENCE,
-   * SMAP_BAD_NAME_REFERENCE, SMAP_TOO_LARGE), or of SMAP_SECTION_ORDER; each has its place.
+   * SMAP_BAD_NAME_REFERENCE, SMAP_TOO_LARGE), or of SMAP_SECTION_ORDER; each has its place. A file that is not read throws what the
+   * file system says; a URL of another kind, or an object that is no value of a map, a TypeError; a bad segment of decoded mappings a
+   * RangeError or a TypeError.
+   *
+   * @example
+   * new SourceMap(bundle.map); // of rollup, webpack, magic-string, babel
+   * new SourceMap({ version: 3, sources: ["a.ts"], names: [], mappings: [[[0, 0, 2, 0]]] });
+   * new SourceMap(new URL("app.js.map", import.meta.url));
    */
-  constructor(json: Text);
+  constructor(json: MapInput, options?: ReadOptions);
+
+  /** What the package runs on: the addon, or the WebAssembly module. */
+  static readonly backend: "addon" | "module";
 
   /**
    * The same on a thread of the pool. The text is copied, and may change meanwhile. What the constructor throws, the promise is
@@ -293,7 +359,7 @@ export class SourceMap {
    * @example
    * const map = await SourceMap.read(await fs.promises.readFile("app.js.map"));
    */
-  static read(json: Text): Promise<SourceMap>;
+  static read(json: MapInput, options?: ReadOptions): Promise<SourceMap>;
 
   /**
    * Reads a map as it is found, and tells what was mended in it, as a byte order mark, null sources, or ids out of range. The map is
@@ -304,7 +370,7 @@ export class SourceMap {
    * const { map, mends } = SourceMap.found('{"version":"3","sources":[null],"mappings":"AAAA"}');
    * mends[1].message; // "source 0 is null, and is read as an empty text"
    */
-  static found(text: Text): { map: SourceMap; mends: Mend[] };
+  static found(text: MapInput, options?: ReadOptions): { map: SourceMap; mends: Mend[] };
 
   /**
    * Makes a map of whole lists. Tokens are six numbers each (generated line and column, original line and column, id of the source and
@@ -324,7 +390,7 @@ export class SourceMap {
    * @example
    * SourceMap.fromMappings("AAAA;C").token(1).generatedLine; // 1
    */
-  static fromMappings(mappings: Text, limits?: { names?: number; sources?: number }): SourceMap;
+  static fromMappings(mappings: Text | Mappings, limits?: { names?: number; sources?: number }): SourceMap;
 
   /**
    * Joins maps, each where its code begins in the joined code. Source roots are dropped: `applySourceRoot` before keeps them. Throws
@@ -376,10 +442,13 @@ export class SourceMap {
   readonly sources: readonly string[];
   /** All contents, null for one that is not known. The array is made by each call: `getSourceContent` has one of them. */
   readonly sourcesContent: (string | null)[];
-  /** The name, the source or the content of a source with this id; null if there is none, or it is not known. */
+  /** The name, the source or the content of a source with this id; null if there is none, or it is not known. A source may be told by its
+   *  name, too, as `sources` has it; of equal ones the first counts. */
   getName(id: number): string | null;
   getSource(id: number): string | null;
-  getSourceContent(id: number): string | null;
+  getSourceContent(source: number | string): string | null;
+  /** The members that `keepUnknown` has kept, which are written with the map, and are those of its clones; null if there are none. */
+  readonly unknownMembers: { readonly [name: string]: unknown } | null;
   /** The name of the generated file, the source root and the debug id; null if the map has none. */
   readonly file: string | null;
   readonly sourceRoot: string | null;
@@ -393,6 +462,17 @@ export class SourceMap {
    * `out` has room for more or for less.
    */
   tokens<Out extends Uint32Array = Uint32Array>(out?: Out): Out;
+  /** All tokens as decoded mappings, of the lines up to the last token. The tokens have to be in order of lines. */
+  readonly decodedMappings: Segment[][];
+  /**
+   * All tokens with their texts, as the map has them when the loop begins.
+   *
+   * @example
+   * for (const { generatedLine, source } of map) console.log(generatedLine, source);
+   */
+  [Symbol.iterator](): IterableIterator<Mapping>;
+  /** The same by calls. */
+  eachMapping(callback: (mapping: Mapping) => void): void;
 
   // ---- lookups ----
 
@@ -404,10 +484,13 @@ export class SourceMap {
    *
    * @example
    * map.trace(0, 1041); // { source: "a.ts", line: 7, column: 2, name: null, index: 91 }
+   * map.trace({ line: 0, column: 1041 }); // the same
    */
   trace(line: number, column: number, bias?: Bias): Original | null;
+  trace(position: Position & { bias?: Bias | undefined }): Original | null;
   /** The token that answers, which may have no source; null if there is none. Fails as `trace` does. */
   traceToken(line: number, column: number, bias?: Bias): FoundToken | null;
+  traceToken(position: Position & { bias?: Bias | undefined }): FoundToken | null;
   /**
    * The tokens that answer for many positions (line and column of each), in any order: eight numbers for each, written to `out` if it is
    * given: the kind (0 for no token, 1 for one without a source, 2 for one with a source, 3 for one with a name), the index of the token,
@@ -431,16 +514,20 @@ export class SourceMap {
    *  changes the tokens, as `sort`, takes it away. Throws SourceMapError of SMAP_TOO_LARGE. */
   indexSources(): void;
   /**
-   * Of the tokens that answer for an original position the first in the order of the map; null if there is none.
+   * Of the tokens that answer for an original position the first in the order of the map; null if there is none. A source is told by its
+   * id, or its name, as `sources` has it: of equal ones the first counts, and one that is not listed has no answer.
    *
    * Throws SourceMapError of SMAP_BAD_OPTION, or of SMAP_NO_INDEX if the map is shared without an index.
    *
    * @example
-   * map.generated(map.sources.indexOf("a.ts"), 7, 0, Direction.FROM)?.generatedColumn;
+   * map.generated("a.ts", 7, 0, Direction.FROM)?.generatedColumn;
+   * map.generated({ source: "a.ts", line: 7, column: 0, direction: Direction.FROM }); // the same token
    */
-  generated(sourceId: number, line: number, column: number, direction?: Direction): FoundToken | null;
+  generated(source: number | string, line: number, column: number, direction?: Direction): FoundToken | null;
+  generated(position: OriginalPosition): FoundToken | null;
   /** The indices of all tokens that do, in the order of the map. Fails as `generated` does. */
-  allGenerated(sourceId: number, line: number, column: number, direction?: Direction): Uint32Array;
+  allGenerated(source: number | string, line: number, column: number, direction?: Direction): Uint32Array;
+  allGenerated(position: OriginalPosition): Uint32Array;
 
   // ---- changing ----
 
@@ -570,12 +657,16 @@ export class ConcatSourceMapBuilder {
  */
 export function evaluate(words: string | Iterable<Text>, texts: Iterable<Text>): SourceMap;
 
-/** The mappings text of tokens. Throws SourceMapError of SMAP_LINE_ORDER if a token is on a line before that of the token in front of it,
- *  or of SMAP_TOO_LARGE, also if it has more than `limit` bytes. */
-export function encodeMappings(tokens: Uint32Array | Iterable<Token>, options?: { readonly limit?: number | undefined }): string;
+/** The mappings text of tokens, or of decoded mappings. Throws SourceMapError of SMAP_LINE_ORDER if a token is on a line before that of
+ *  the token in front of it, or of SMAP_TOO_LARGE, also if it has more than `limit` bytes; of decoded mappings with a bad segment a
+ *  RangeError or a TypeError. */
+export function encodeMappings(
+  tokens: Uint32Array | Iterable<Token> | readonly (readonly Segment[])[],
+  options?: { readonly limit?: number | undefined },
+): string;
 
 /** The tokens of a mappings text, six numbers each; as `SourceMap.fromMappings(mappings, limits).tokens()`. */
-export function decodeMappings(mappings: Text, limits?: { names?: number; sources?: number }): Uint32Array;
+export function decodeMappings(mappings: Text | Mappings, limits?: { names?: number; sources?: number }): Uint32Array;
 
 /**
  * The URL that a code names for its map, by its last such comment; null if it names none. Throws SourceMapError of SMAP_BAD_OPTION.
@@ -588,3 +679,7 @@ export function sourceMappingURL(code: Text, language?: Language): string | null
 /** The text in a data URL of JSON, base64 or percent-encoded; null if it is no data URL of JSON. Throws SourceMapError of SMAP_BAD_BASE64
  *  or SMAP_BAD_DATA_UTF8. */
 export function decodeDataURL(url: Text): string | null;
+
+/** All of these, for `import junketscarp from "junketscarp"`. */
+declare const junketscarp: typeof import("./index.js");
+export default junketscarp;

@@ -21,3 +21,5 @@ module.exports = {
   sourceMappingURL,
   decodeDataURL,
 };
+// For those who import the package as a whole. It is not one of the names.
+Object.defineProperty(module.exports, 'default', { value: module.exports });

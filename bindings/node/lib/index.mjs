@@ -15,3 +15,5 @@ export const {
   sourceMappingURL,
   decodeDataURL,
 } = library;
+
+export default library;

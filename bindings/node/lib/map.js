@@ -3,8 +3,13 @@
 
 const native = require('./native.js');
 const { NO_ID, Bias, Direction, Kind, Code, Which, Form, Slot, MENDS } = require('./constants.js');
-const { errorOf, check, made, madeOrNull, long, longOrNull } = require('./errors.js');
+const { errorOf, refusal, check, made, madeOrNull, long, longOrNull } = require('./errors.js');
 const { text, word, limitOf, idOf, list, checkWords, words, tokens, texts, contents } = require('./arguments.js');
+const { Columns } = require('./columns.js');
+const { toDecoded } = require('./decoded.js');
+const { sourceText, encodedMappings } = require('./inputs.js');
+const { tokenAt, mappingAt, mappingsOf } = require('./iteration.js');
+const { keptMembers, textWith, bytesOf, dataURLOf } = require('./members.js');
 
 const answers = native.words;
 const ask = native.trace; // a look for it in so many properties would cost a fifth of the call
@@ -14,18 +19,23 @@ const { SELECTED, LINE, COLUMN, BIAS } = Slot;
 
 /** What the constructor takes in place of a text: the handle of a map that a call has made. */
 class Made {
-  constructor(handle) {
+  constructor(handle, members) {
     this.handle = handle;
+    this.members = members;
   }
 }
 
-/** The map of what a call answers, if need be of reading this text. */
-function mapOf(answer, text) {
-  return new SourceMap(new Made(made(answer, text)));
+/** The map of what a call answers, if need be of reading this text, and its members that the format does not know. */
+function mapOf(answer, text, members = null) {
+  return new SourceMap(new Made(made(answer, text), members));
 }
 
 /** The handle of a map. */
 let handleOf;
+
+// A map is asked so often before its tokens are copied, or at least by an eighth of them; one that has more of them is not copied.
+const FIRST_ASKED = 8;
+const MOST_COPIED = 1 << 17;
 
 // Maps that this thread shares, which are kept until they are freed.
 const shared = new Set();
@@ -37,6 +47,11 @@ class SourceMap {
   #sourceCache = null;
   #names = null;
   #sources = null;
+  #sourceIds = null;
+  #members = null; // that the format does not know
+  #columns = null; // in which lookups are answered, once there were many
+  #asked = 0;
+  #due = FIRST_ASKED;
 
   static {
     // (a negated `#handle in map` loses its parentheses in terser 5.16)
@@ -49,27 +64,34 @@ class SourceMap {
     };
   }
 
-  constructor(json) {
+  constructor(json, options) {
     if (json instanceof Made) {
       this.#handle = json.handle;
+      this.#members = json.members;
       return;
     }
-    const given = text(json, 'The JSON text');
+    const given = sourceText(json, 'The JSON text');
     this.#handle = made(native.fromJson(given), given);
+    this.#members = keptMembers(given, options);
   }
 
   // ---- making ----
 
-  static async read(json) {
-    const given = text(json, 'The JSON text');
-    const answer = await native.readAsync(given);
-    if (answer instanceof Uint32Array) throw errorOf(answer, given);
-    return mapOf(answer);
+  static get backend() {
+    return native.backend;
   }
 
-  static found(json) {
-    const given = text(json, 'The text');
-    const map = mapOf(native.readFound(given), given);
+  static async read(json, options) {
+    const given = sourceText(json, 'The JSON text');
+    const answer = await native.readAsync(given);
+    if (answer instanceof Uint32Array) throw errorOf(answer, given);
+    return mapOf(answer, given, keptMembers(given, options));
+  }
+
+  static found(json, options) {
+    const given = sourceText(json, 'The text');
+    const answer = native.readFound(given);
+    const map = mapOf(answer, given, typeof answer === 'number' ? null : keptMembers(given, options));
     return { map, mends: mendsOf(map.#handle) };
   }
 
@@ -97,7 +119,7 @@ class SourceMap {
   }
 
   static fromMappings(mappings, { names = NO_ID, sources = NO_ID } = {}) {
-    const given = text(mappings, 'The mappings');
+    const given = text(encodedMappings(mappings), 'The mappings');
     return mapOf(native.decodeMappings(given, word(names, 'names'), word(sources, 'sources')), given);
   }
 
@@ -131,12 +153,14 @@ class SourceMap {
   }
 
   clone() {
-    return mapOf(native.clone(this.#handle));
+    return mapOf(native.clone(this.#handle), undefined, this.#members);
   }
 
-  /** Drops the texts that are kept, which may have changed. */
+  /** Drops what is kept of the map, which may have changed. */
   #forget() {
-    this.#nameCache = this.#sourceCache = this.#names = this.#sources = null;
+    this.#nameCache = this.#sourceCache = this.#names = this.#sources = this.#sourceIds = this.#columns = null;
+    this.#asked = 0;
+    this.#due = FIRST_ASKED;
   }
 
   // ---- what a map holds ----
@@ -179,8 +203,20 @@ class SourceMap {
     return madeOrNull(native.text(this.#handle, Which.SOURCE, word(id, 'The id')));
   }
 
-  getSourceContent(id) {
-    return madeOrNull(native.text(this.#handle, Which.CONTENT, word(id, 'The id')));
+  getSourceContent(source) {
+    const id = this.#idOf(source);
+    return id === undefined ? null : madeOrNull(native.text(this.#handle, Which.CONTENT, word(id, 'The id')));
+  }
+
+  /** The id of a source that is told by its id or its name, of equal ones the first; undefined if none has the name. */
+  #idOf(source) {
+    if (typeof source !== 'string') return source;
+    this.#sourceIds ??= firstIds(this.sources);
+    return this.#sourceIds.get(source);
+  }
+
+  get unknownMembers() {
+    return this.#members;
   }
 
   get file() {
@@ -208,16 +244,31 @@ class SourceMap {
     const code = native.getToken(this.#handle, word(index, 'The index'));
     if (code === Code.NO_ENTRY) return null;
     check(code);
-    return tokenAt(0, index);
+    return tokenAt(answers, 0, index);
   }
 
   tokens(out) {
     check(native.getCounts(this.#handle));
     const length = 6 * answers[0];
     const all = out === undefined ? new Uint32Array(length) : checkWords(out, 'out');
-    if (all.length !== length) throw lengthsDiffer();
+    if (all.length !== length) throw refusal(Code.LENGTHS);
     check(native.getTokens(this.#handle, all));
     return all;
+  }
+
+  get decodedMappings() {
+    const { lines } = this.counts;
+    return toDecoded(this.tokens(), lines);
+  }
+
+  [Symbol.iterator]() {
+    return mappingsOf(this.tokens(), this.sources, this.names);
+  }
+
+  eachMapping(callback) {
+    const all = this.tokens();
+    const { sources, names } = this;
+    for (let index = 0; 6 * index < all.length; index++) callback(mappingAt(all, index, sources, names));
   }
 
   // ---- lookups ----
@@ -228,6 +279,11 @@ class SourceMap {
       word(line, 'The line');
       word(column, 'The column');
       word(bias, 'The bias');
+    }
+    if (this.#columns === null && ++this.#asked >= this.#due) this.#copyColumns();
+    if (this.#columns !== null && bias <= Bias.AFTER) {
+      this.#columns.trace(line, column, bias, answers);
+      return answers[0];
     }
     if (answers[SELECTED] !== this.#number) {
       native.select(this.#handle);
@@ -241,7 +297,17 @@ class SourceMap {
     return answers[0];
   }
 
+  /** Copies the tokens, if there were enough lookups for them, and the map is as `Columns` takes it. */
+  #copyColumns() {
+    this.#due = Infinity;
+    if (native.getCounts(this.#handle) !== 0 || answers[0] > MOST_COPIED) return;
+    const [count, , , , , lines] = answers;
+    if (this.#asked < count / 8) this.#due = Math.ceil(count / 8);
+    else if (lines <= FIRST_ASKED * MOST_COPIED && this.isSound) this.#columns = new Columns(this.tokens(), lines);
+  }
+
   trace(line, column, bias = Bias.BEFORE) {
+    if (isPlace(line)) return this.trace(line.line, line.column, line.bias);
     const kind = this.#ask(line, column, bias);
     if (kind < Kind.MAPPED) return null;
     const index = answers[1];
@@ -259,20 +325,27 @@ class SourceMap {
   }
 
   traceToken(line, column, bias = Bias.BEFORE) {
-    return this.#ask(line, column, bias) === Kind.NOTHING ? null : tokenAt(2, answers[1]);
+    if (isPlace(line)) return this.traceToken(line.line, line.column, line.bias);
+    return this.#ask(line, column, bias) === Kind.NOTHING ? null : tokenAt(answers, 2, answers[1]);
   }
 
   /** A text that a lookup found: read once, and kept. The lists have room for all entries from the start, so that they stay fast. */
   #keptSource(id) {
     const source = made(native.text(this.#handle, Which.SOURCE, id));
-    this.#sourceCache ??= new Array(this.counts.sources);
+    if (this.#sourceCache === null) {
+      check(native.getCounts(this.#handle));
+      this.#sourceCache = new Array(answers[2]);
+    }
     this.#sourceCache[id] = source;
     return source;
   }
 
   #keptName(id) {
     const name = made(native.text(this.#handle, Which.NAME, id));
-    this.#nameCache ??= new Array(this.counts.names);
+    if (this.#nameCache === null) {
+      check(native.getCounts(this.#handle));
+      this.#nameCache = new Array(answers[1]);
+    }
     this.#nameCache[id] = name;
     return name;
   }
@@ -308,6 +381,18 @@ class SourceMap {
     check(native.indexSources(this.#handle));
   }
 
+  /** The numbers that reverse lookups take; null if no source has the name. */
+  #place(source, line, column, direction) {
+    const id = this.#idOf(source);
+    const asked = [
+      word(id ?? (typeof source === 'string' ? 0 : id), 'The id of the source'),
+      word(line, 'The line'),
+      word(column, 'The column'),
+      word(direction, 'The direction'),
+    ];
+    return id === undefined ? null : asked;
+  }
+
   /** The code of a call that needs the index, which is made if it is not there. A shared map takes no change. */
   #indexed(call) {
     const code = call();
@@ -317,16 +402,20 @@ class SourceMap {
     return call();
   }
 
-  generated(sourceId, line, column, direction = Direction.AT) {
-    const asked = place(sourceId, line, column, direction);
+  generated(source, line, column, direction = Direction.AT) {
+    if (isPlace(source)) return this.generated(source.source, source.line, source.column, source.direction);
+    const asked = this.#place(source, line, column, direction);
+    if (asked === null) return null;
     const code = this.#indexed(() => native.generated(this.#handle, ...asked));
     if (code === Code.NO_ENTRY) return null;
     check(code);
-    return tokenAt(1, answers[0]);
+    return tokenAt(answers, 1, answers[0]);
   }
 
-  allGenerated(sourceId, line, column, direction = Direction.AT) {
-    const asked = place(sourceId, line, column, direction);
+  allGenerated(source, line, column, direction = Direction.AT) {
+    if (isPlace(source)) return this.allGenerated(source.source, source.line, source.column, source.direction);
+    const asked = this.#place(source, line, column, direction);
+    if (asked === null) return new Uint32Array(0);
     check(this.#indexed(() => native.allGenerated(this.#handle, ...asked, NOTHING)));
     const out = new Uint32Array(answers[0]);
     check(native.allGenerated(this.#handle, ...asked, out));
@@ -402,10 +491,13 @@ class SourceMap {
   // ---- writing ----
 
   toString(options) {
-    return made(native.write(this.#handle, Form.JSON, '', limitOf(options)));
+    const limit = limitOf(options);
+    const write = (most) => made(native.write(this.#handle, Form.JSON, '', most));
+    return this.#members === null ? write(limit) : textWith(this.#members, limit, write);
   }
 
   toBytes(options) {
+    if (this.#members !== null) return bytesOf(this.toString(options));
     return made(native.writeBytes(this.#handle, Form.JSON, '', limitOf(options)));
   }
 
@@ -414,7 +506,9 @@ class SourceMap {
   }
 
   toDataURL(options) {
-    return made(native.write(this.#handle, Form.DATA_URL, '', limitOf(options)));
+    const limit = limitOf(options);
+    const url = made(native.write(this.#handle, Form.DATA_URL, '', limit));
+    return this.#members === null ? url : dataURLOf(this.toString(), url, limit);
   }
 
   get mappings() {
@@ -430,19 +524,6 @@ class SourceMap {
   }
 }
 
-/** The token whose words are answered from `at` on. */
-function tokenAt(at, index) {
-  return {
-    generatedLine: answers[at],
-    generatedColumn: answers[at + 1],
-    originalLine: answers[at + 2],
-    originalColumn: answers[at + 3],
-    sourceId: idOf(answers[at + 4]),
-    nameId: idOf(answers[at + 5]),
-    index,
-  };
-}
-
 function pieceAt(out, at) {
   return {
     begin: { line: out[at], column: out[at + 1] },
@@ -451,14 +532,16 @@ function pieceAt(out, at) {
   };
 }
 
-/** The numbers that reverse lookups take. */
-function place(sourceId, line, column, direction) {
-  return [
-    word(sourceId, 'The id of the source'),
-    word(line, 'The line'),
-    word(column, 'The column'),
-    word(direction, 'The direction'),
-  ];
+/** Whether the first argument of a lookup is an object that has all of them. */
+function isPlace(it) {
+  return typeof it === 'object' && it !== null;
+}
+
+/** Each text and the first index at which it is listed. */
+function firstIds(texts) {
+  const ids = new Map();
+  texts.forEach((it, id) => ids.has(it) || ids.set(it, id));
+  return ids;
 }
 
 function mendAt(out, at) {
@@ -478,12 +561,20 @@ function mendsOf(handle) {
   return Array.from({ length: out.length / 6 }, (_, i) => mendAt(out, 6 * i));
 }
 
-/** SMAP_LENGTHS, of lists that do not belong together. */
-function lengthsDiffer() {
-  const words = new Uint32Array(native.fault.length);
-  words[0] = Code.LENGTHS;
-  return errorOf(words);
+/** What `console.log` of Node shows of a map: its counts. */
+function inspected(depth, options, inspect) {
+  const name = 'SourceMap';
+  if (native.getCounts(handleOf(this)) !== 0) return `${name} (freed)`;
+  if (depth < 0) return `[${name}]`;
+  const { file, counts } = this;
+  return `${name} ${inspect(file === null ? counts : { file, ...counts }, options)}`;
 }
+
+Object.defineProperty(SourceMap.prototype, Symbol.for('nodejs.util.inspect.custom'), {
+  value: inspected,
+  configurable: true,
+  writable: true,
+});
 
 Object.defineProperty(SourceMap.prototype, Symbol.dispose ?? Symbol.for('nodejs.dispose'), {
   value: SourceMap.prototype.free,

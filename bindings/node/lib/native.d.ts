@@ -78,6 +78,8 @@ export const enum Form {
 export interface Native {
   /** The version of the C interface that it has: 1. */
   readonly version: number;
+  /** What it is. */
+  readonly backend: "addon" | "module";
   /** 18 words: the last error. */
   readonly fault: Uint32Array;
   /** 16 words: the numbers that the last call answered; in the last four, what `select` and `trace` say of them. */
@@ -104,6 +106,8 @@ export interface Native {
   ): MapHandle | Code;
   /** The tokens of a mappings text alone, whose ids are to be below these numbers. */
   decodeMappings(mappings: Text, names: number, sources: number): MapHandle | Code;
+  /** The tokens alone, which no handle holds: `words[0]` is how many there are, and `words[1]` whether they are sorted, 1 or 0. */
+  decodeTokens(mappings: Text, names: number, sources: number, out: Uint32Array): Code;
   clone(map: MapHandle): MapHandle | Code;
   free(handle: MapHandle | BuilderHandle | JoinHandle): void;
 

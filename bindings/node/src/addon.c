@@ -46,7 +46,9 @@ static napi_status add_numbers(napi_env env, Instance *it, napi_value exports)
     if (status == napi_ok) status = napi_create_typedarray(env, napi_uint32_array, FAULT_WORDS, buffer, 4 * WORDS, &array);
     if (status == napi_ok) status = napi_set_named_property(env, exports, "fault", array);
     if (status == napi_ok) status = napi_create_uint32(env, smap_version(), &array);
-    return status == napi_ok ? napi_set_named_property(env, exports, "version", array) : status;
+    if (status == napi_ok) status = napi_set_named_property(env, exports, "version", array);
+    if (status == napi_ok) status = napi_create_string_utf8(env, "addon", NAPI_AUTO_LENGTH, &array);
+    return status == napi_ok ? napi_set_named_property(env, exports, "backend", array) : status;
 }
 
 static const Entry *const TABLES[] = {

@@ -68,6 +68,25 @@ static napi_value decode_mappings(Call *call)
     return map_or_code(call, code, out);
 }
 
+static napi_value decode_tokens(Call *call)
+{
+    smap_map *made = NULL;
+    size_t count = 0;
+    Bytes mappings = text(call, 0);
+    uint32_t names = word(call, 1);
+    uint32_t sources = word(call, 2);
+    Output out = output(call, 3, NO_WORDS);
+    if (call->failed) return NULL;
+    uint32_t code = smap_decode_mappings(mappings.at, mappings.len, names, sources, &made, call->fault);
+    if (code != SMAP_OK) return coded(call, code);
+    smap_get_tokens(made, (smap_token *)out.at, out.len / 6, &count);
+    show(&out);
+    call->words[0] = at_most(count);
+    smap_is_sorted(made, &call->words[1]);
+    smap_free_map(made);
+    return coded(call, code);
+}
+
 static napi_value clone(Call *call)
 {
     smap_map *out = NULL;
@@ -83,6 +102,7 @@ const Entry READING_CALLS[] = {
     {"getMends", get_mends},
     {"fromTokens", from_tokens},
     {"decodeMappings", decode_mappings},
+    {"decodeTokens", decode_tokens},
     {"clone", clone},
     {NULL, NULL},
 };

@@ -104,6 +104,7 @@ test('numbers', () => {
   for (const call of NUMBERS) {
     for (const number of [-1, 1.5, NaN, Infinity, -Infinity, 2 ** 32, 1e300]) assert.throws(() => call(number), RangeError);
     for (const other of ['1', null, 1n, {}, [], Symbol('a'), true]) {
+      if (other === '1' && /map\.(generated|getSourceContent)\(it/.test(call)) continue; // the name of a source
       if (other === null && (String(call).includes('?? null') || String(call).includes('addToken('))) continue;
       assert.throws(() => call(other), TypeError, String(call));
     }
@@ -118,6 +119,7 @@ test('numbers', () => {
 test('texts', () => {
   for (const call of TEXTS) {
     for (const other of ['\ud800', 1, null, undefined, {}, [], new Uint16Array(2), new DataView(new ArrayBuffer(2)), new ArrayBuffer(2), new Proxy(new Uint8Array(2), {}), Object('{}')]) {
+      if (Array.isArray(other) && String(call).includes('fromMappings')) continue; // decoded mappings of no lines
       assert.throws(() => call(other), TypeError, String(call));
     }
   }

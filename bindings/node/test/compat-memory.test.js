@@ -35,24 +35,26 @@ function held(run) {
   return { made: made > 0, left: left.size };
 }
 
+const LONG = { ...MAP, mappings: MAP.mappings + ';'.repeat(3000) };
+const LONG_TEXT = JSON.stringify(LONG);
 const UNSORTED = simple('GAAA,DAAA');
 const OUTER = simple('AAAA', { sources: ['b.js'] });
 const USES = {
-  decode: () => codec.decode(MAP.mappings),
+  decode: () => codec.decode(LONG.mappings),
   'decode of lines that are not sorted': () => codec.decode(JSON.parse(UNSORTED).mappings),
-  'a lookup': () => tracing.originalPositionFor(new TraceMap(TEXT), { line: 1, column: 0 }),
+  'a lookup': () => tracing.originalPositionFor(new TraceMap(LONG_TEXT), { line: 1, column: 0 }),
   'ids out of range': () => tracing.decodedMappings(new TraceMap(simple('AEAA'))),
-  'a map with sections': () => tracing.encodedMappings(FlattenMap({ version: 3, sections: [{ offset: { line: 0, column: 0 }, map: MAP }] })),
+  'a map with sections': () => tracing.encodedMappings(FlattenMap({ version: 3, sections: [{ offset: { line: 0, column: 0 }, map: LONG }] })),
   'segments out of order': () => {
     const map = new gen.GenMapping();
     for (const line of [1, 0]) gen.addSegment(map, line, 0, 'a', 0, 0);
     gen.toEncodedMap(map);
   },
-  'a map that goes on': () => gen.fromMap(TEXT),
-  remapping: () => remapping(OUTER, (it) => (it === 'b.js' ? TEXT : null)),
+  'a map that goes on': () => gen.fromMap(LONG_TEXT),
+  remapping: () => remapping(OUTER, (it) => (it === 'b.js' ? LONG_TEXT : null)),
   'remapping, exact': () => remapping(OUTER, (it) => (it === 'b.js' ? TEXT : null), { exact: true }),
   'a generator of a consumer that is destroyed': () => {
-    const consumer = new SourceMapConsumer(TEXT);
+    const consumer = new SourceMapConsumer(LONG_TEXT);
     SourceMapGenerator.fromSourceMap(consumer).toString();
     consumer.destroy();
   },
@@ -73,8 +75,18 @@ for (const [name, use] of Object.entries(USES)) {
   test(`${name}: nothing is left`, () => assert.deepEqual(held(use), { made: true, left: 0 }));
 }
 
-test('a consumer that is destroyed answers no lookup, and may be destroyed again', () => {
-  const consumer = new SourceMapConsumer(TEXT);
+test('of short mappings nothing is made', () => {
+  const use = () => {
+    codec.decode(MAP.mappings);
+    tracing.originalPositionFor(new TraceMap(TEXT), { line: 1, column: 0 });
+    new SourceMapConsumer(TEXT).originalPositionFor({ line: 1, column: 0 });
+    gen.fromMap(TEXT);
+  };
+  assert.deepEqual(held(use), { made: false, left: 0 });
+});
+
+for (const [name, text] of [['short', TEXT], ['long', LONG_TEXT]]) test(`a ${name} consumer that is destroyed answers no lookup, and may be destroyed again`, () => {
+  const consumer = new SourceMapConsumer(text);
   assert.equal(consumer.originalPositionFor({ line: 1, column: 0 }).source, 'src/a.ts');
   consumer.destroy();
   consumer.destroy();

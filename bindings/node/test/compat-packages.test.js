@@ -17,6 +17,14 @@ const MODULES = {
   'sourcemap-codec': '@jridgewell/sourcemap-codec',
   remapping: '@ampproject/remapping',
 };
+/** And those that stand over these, or over nothing. */
+const OTHERS = {
+  'source-map': 'source-map-js',
+  'source-map-async': 'source-map',
+  'jridgewell-source-map': '@jridgewell/source-map',
+  'convert-source-map': 'convert-source-map',
+  'source-map-support': 'source-map-support',
+};
 const compat = (name) => join(ROOT, 'compat', name);
 
 for (const [name, itsPeer] of Object.entries(MODULES)) {
@@ -43,7 +51,7 @@ for (const [name, itsPeer] of Object.entries(MODULES)) {
 test('no module requires what the package has not', () => {
   for (const file of readdirSync(join(ROOT, 'compat')).filter((it) => it.endsWith('.js'))) {
     const required = [...readFileSync(compat(file), 'utf8').matchAll(/require\('([^']*)'\)/g)].map(([, it]) => it);
-    for (const it of required) assert.match(it, /^\.\.?\//, `${file} requires ${it}`);
+    for (const it of required) assert.match(it, /^(node:|\.\.?\/)/, `${file} requires ${it}`);
   }
 });
 
@@ -57,7 +65,7 @@ function saidWithOverrides(names, script, others = {}) {
     const manifest = JSON.parse(readFileSync(join(ROOT, 'package.json')));
     for (const name of names) {
       manifest.exports[`./${name}`] = { import: `./compat/${name}.mjs`, require: `./compat/${name}.js` };
-      cpSync(join(ROOT, 'packages', name), join(modules, MODULES[name]), { recursive: true });
+      cpSync(join(ROOT, 'packages', name), join(modules, { ...MODULES, ...OTHERS }[name]), { recursive: true });
       assert.equal(JSON.parse(readFileSync(join(ROOT, 'packages', name, 'package.json'))).dependencies.junketscarp, manifest.version);
     }
     writeFileSync(join(modules, 'junketscarp/package.json'), JSON.stringify(manifest));
@@ -78,6 +86,20 @@ test('the packages for overrides hand on', () => {
     const text = remapping(new TraceMap(gen.toEncodedMap(map)), () => null).mappings;
     import('@ampproject/remapping').then((it) => console.log(text, JSON.stringify(decode(text)), it.default === remapping));`;
   assert.equal(saidWithOverrides(Object.keys(MODULES), script), 'IAEA [[[4,0,2,0]]] true\n');
+});
+
+test('so do the packages of the other modules', () => {
+  const script = `
+    const places = ${JSON.stringify(OTHERS)};
+    (async () => {
+      for (const [name, place] of Object.entries(places)) {
+        const own = require('junketscarp/' + name);
+        const { default: whole = own, ...named } = await import(place);
+        console.log(require(place) === own, whole === own, Object.keys(named).filter((it) => it !== 'module.exports').join() === Object.keys(own).sort().join());
+      }
+    })();`;
+  const said = saidWithOverrides(Object.keys(OTHERS), script);
+  assert.equal(said, 'true true true\n'.repeat(5));
 });
 
 // A remapping of which the mappings of one map are led through that of its only source, as @ampproject/remapping 2.2.0 calls what it

@@ -48,6 +48,21 @@ test('what is no mappings is refused, with its place', () => {
   assert.throws(() => encode([[[0, 0, null, 0]]]), TypeError);
 });
 
+test('texts that are just short enough for one call, and just too long', () => {
+  for (const units of [1, 2047, 2048, 2049, 2050, 4096]) {
+    for (const [sign, count] of [[',', 1], [';', Math.ceil(units / 2)]]) {
+      const text = `A${sign}`.repeat(units).slice(0, units);
+      const lines = decode(text);
+      const ends = sign === ';' && units % 2 === 0 ? 1 : 0;
+      assert.equal(lines.length, count + ends, `${units}${sign}`);
+      assert.deepEqual(lines.flat(), new Array(Math.ceil(units / 2)).fill([0]));
+    }
+  }
+  fails({ code: 'SMAP_BAD_SEGMENT_SIZE', placeMessage: 'line 0, segment 0 (byte 0): a column below 0' }, () => decode('D'));
+  assert.throws(() => decode('\ud800'), TypeError);
+  assert.throws(() => decode(1), TypeError);
+});
+
 test('random mappings beside the package', needs('@jridgewell/sourcemap-codec', theirs), () => {
   for (let seed = 1; seed <= 100; seed++) {
     const { mappings } = randomMap(seed).json;

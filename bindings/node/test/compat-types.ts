@@ -28,6 +28,11 @@ import {
 } from '../compat/gen-mapping';
 import { decode, encode } from '../compat/sourcemap-codec';
 import remapping = require('../compat/remapping');
+import * as both from '../compat/jridgewell-source-map';
+import * as later from '../compat/source-map-async';
+import * as convert from '../compat/convert-source-map';
+import { install, mapSourcePosition } from '../compat/source-map-support';
+import { SourceMapGenerator } from '../compat/source-map-js';
 
 const map = new TraceMap('', null);
 const part = { version: 3, names: [], sources: [null], mappings: 'A' } as const;
@@ -65,6 +70,26 @@ const result = remapping([map, 'x'], loader, { exact: true });
 const input: SourceMapInput = result.toString();
 const raw: remapping.RawSourceMap = toEncodedMap(made);
 remapping(input, () => undefined, true);
+
+const consumer = new both.SourceMapConsumer(text, null);
+const itsName: string | null = consumer.originalPositionFor({ line: 1, column: 0 }).name;
+const made2 = both.SourceMapGenerator.fromSourceMap(consumer);
+made2.addMapping({ generated: { line: 1, column: 0 }, source: 'a', original: { line: 1, column: 0 } });
+const itsMappings: string = made2.toJSON().mappings;
+async function promised(): Promise<number | null> {
+  const one: later.SourceMapConsumer = await new later.SourceMapConsumer(text);
+  one.destroy();
+  return later.SourceMapConsumer.with(text, null, (it) => it.originalPositionFor({ line: 1, column: 0 }).line);
+}
+const converter: convert.Converter | null = convert.fromSource(text);
+const read: Promise<convert.Converter> = convert.fromMapFileComment(text, async () => '{}');
+const comment: string | undefined = converter?.setProperty('file', 'a').toComment({ multiline: true });
+install({ retrieveSourceMap: (source) => ({ url: source, map: {} }), environment: 'node' });
+const line: number = mapSourcePosition({ source: 'a', line: 1, column: 0 }).line;
+new SourceMapGenerator({ file: 'a', ignoreInvalidMapping: true });
+void [itsName, itsMappings, promised, read, comment, line];
+// @ts-expect-error a consumer is a promise
+new later.SourceMapConsumer(text).destroy();
 // @ts-expect-error the generated position is missing
 addMapping(made, { source: 'a' });
 void [name, text, raw];

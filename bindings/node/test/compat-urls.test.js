@@ -57,6 +57,12 @@ function randomReference(next) {
   return Array.from({ length: next(5) }, () => PIECES[next(PIECES.length)] + (next(3) > 0 ? '/' : '')).join('');
 }
 
+test('sources that say nothing but a path, and bases that are not whole', () => {
+  assert.equal(sourceResolver('https://x.org/d?q', '')('x.js'), 'https://x.org/x.js');
+  assert.equal(sourceResolver('https://x.org/d', '')('b/x.js'), 'https://x.org/d/b/x.js');
+  assert.deepEqual(['a/b/..', 'a/.', '.a', 'a/./b', 'a//b', 'a.b/c'].map(sourceResolver('', '')), ['a/', 'a', '.a', 'a/b', 'a/b', 'a.b/c']);
+});
+
 test('random references beside the package', needs('@jridgewell/resolve-uri', theirs), () => {
   const next = random(5);
   for (let count = 0; count < 20_000; count++) {

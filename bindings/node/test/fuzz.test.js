@@ -122,7 +122,7 @@ class Pool {
 
 /** What each call takes, so that many calls are well made: h a handle, n a number, t a text, w words, b bytes, a an array of maps. */
 const SHAPES = {
-  fromJson: 't', readFound: 't', readAsync: 't', getMends: 'hw', fromTokens: 'wbwbwbww', decodeMappings: 'tnn', clone: 'h', free: 'h', share: 'h', takeShared: 'n',
+  fromJson: 't', readFound: 't', readAsync: 't', getMends: 'hw', fromTokens: 'wbwbwbww', decodeMappings: 'tnn', decodeTokens: 'tnnw', clone: 'h', free: 'h', share: 'h', takeShared: 'n',
   getCounts: 'h', isSorted: 'h', isSound: 'h', text: 'hnn', texts: 'hn', getToken: 'hn', getTokens: 'hw', getIgnoreList: 'hw',
   select: 'h', trace: '', traceAll: 'hwnw', findAll: 'hwnw', pieces: 'hnnnnw', firstDifference: 'hh', indexSources: 'h', generated: 'hnnnn', allGenerated: 'hnnnnw',
   setText: 'hnt', setTexts: 'hnbw', setIgnoreList: 'hw', applySourceRoot: 'h', sort: 'h', simplify: 'h',

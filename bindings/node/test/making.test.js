@@ -215,6 +215,7 @@ test('what was freed', () => {
     toDataURL: [],
     visualize: [''],
     visualizerURL: [''],
+    eachMapping: [() => {}],
   };
   for (const [name, given] of Object.entries(calls)) fails({ code: 'SMAP_NULL_HANDLE', message: 'The handle is null' }, () => map[name](...given));
   const methods = Object.getOwnPropertyNames(SourceMap.prototype).filter((it) => typeof Object.getOwnPropertyDescriptor(SourceMap.prototype, it).value === 'function');

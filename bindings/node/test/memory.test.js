@@ -48,6 +48,8 @@ test('what is freed is freed at once', { skip: isSanitized }, () => {
   const held = run(`
     const text = JSON.stringify({ version: 3, sources: ['a'], sourcesContent: ['x'.repeat(5_000_000)], names: [], mappings: '' });
     for (let i = 0; i < 80; i++) new SourceMap(text).free();
+    const short = 'A,'.repeat(1000);
+    for (let i = 0; i < 20_000; i++) library.decodeMappings(short);
     ${PEAK}`);
   assert.ok(held < 200, `${held} MB`);
 });

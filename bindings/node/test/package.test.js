@@ -62,7 +62,8 @@ test('codes have their names', needsHeader, () => {
 test('CJS, ESM and the types have the same names', async () => {
   const names = Object.keys(library).sort();
   const { default: whole, ...module } = await import('../lib/index.mjs');
-  assert.equal(whole, undefined);
+  assert.equal(whole, library);
+  assert.equal(library.default, library);
   assert.deepEqual(Object.keys(module).sort(), names);
   assert.deepEqual([...new Set(all(read('lib/index.d.ts'), /^export (?:const|class|function) (\w+)/gm))].sort(), names);
   for (const name of ['SourceMap', 'SourceMapBuilder', 'ConcatSourceMapBuilder']) {
@@ -75,6 +76,21 @@ test('CJS, ESM and the types have the same names', async () => {
   }
 });
 
+test('what README.md names is in the archive', () => {
+  const { files, exports: names } = JSON.parse(read('package.json'));
+  const isPacked = (path) => files.some((it) => path === it || path.startsWith(`${it}/`));
+  for (const file of ['README.md', 'compat/README.md']) {
+    const text = read(file);
+    for (const link of all(text, /\]\(([^)#]+)/g)) assert.ok(isPacked(join(file, '..', link)) && existsSync(join(__dirname, '..', file, '..', link)), link);
+    for (const [, name] of text.matchAll(/`junketscarp(\/[\w./-]+)`/g)) assert.ok(Object.hasOwn(names, `.${name}`), name);
+    assert.doesNotMatch(text, /\.\/(?:build|check)|\b(?:bench|test|tools|docs|crates|bindings|packages|src)\//, file);
+  }
+  const table = (text) => all(text, /^\| `junketscarp\/([\w-]+)` \|/gm).sort();
+  const known = Object.keys(names).map((it) => it.slice(2)).filter((it) => existsSync(join(__dirname, '../compat', `${it}.mjs`))).sort();
+  assert.deepEqual(table(read('README.md')), known);
+  assert.deepEqual(table(read('compat/README.md')), known);
+});
+
 test('the version is that of the changelog, and nothing is depended on', needsHeader, () => {
   const said = JSON.parse(read('package.json'));
   assert.equal(said.version, readFileSync(join(REPOSITORY, 'docs/CHANGELOG.md'), 'utf8').match(/^## (.*)/m)[1]);
@@ -82,10 +98,10 @@ test('the version is that of the changelog, and nothing is depended on', needsHe
 });
 
 test('the examples of the documentation', () => {
-  const examples = all(read('README.md'), /```js\n([^]*?)```/g);
+  const examples = all(read('README.md'), /```js\n([^]*?)```/g).filter((it) => !/require\('node:fs'\)|^import /m.test(it));
   assert.ok(examples.length > 0);
   for (const example of examples) {
-    const lines = example.split('\n').map((line) => line.replace(/^(map\..*); \/\/ (.*)$/, 'assert.deepEqual($1, $2);'));
+    const lines = example.split('\n').map((line) => line.replace(/^((?:map\.|\[\.\.\.map).*); \/\/ (.*)$/, 'assert.deepEqual($1, $2);'));
     vm.runInThisContext(`(require, assert) => {${lines.join('\n')}}`)((name) => (assert.equal(name, 'junketscarp'), library), assert);
   }
 });

@@ -5,6 +5,8 @@ const test = require('node:test');
 const assert = require('node:assert/strict');
 
 const { NO_ID, SourceMap, SourceMapError, decodeMappings } = require('..');
+const native = require('../lib/native.js');
+const constants = require('../lib/constants.js');
 const { errorOf } = require('../lib/errors.js');
 const { MAP, TEXT, TOKENS, flat, simple, fails, randomMap } = require('./support.js');
 
@@ -75,14 +77,14 @@ test('an indexed map is the join of its sections', () => {
 
 test('errors of texts', () => {
   const rows = [
-    ['{', { code: 'SMAP_JSON_READING', message: 'JSON parsing error: the text is not JSON', placeMessage: 'line 0, column 1 (byte 1)' }],
-    ['[3]', { code: 'SMAP_JSON_SHAPE', field: 'value', message: 'JSON parsing error: the value is not an object' }],
-    ['{"version":2}', { code: 'SMAP_JSON_VERSION', detail: 2, field: null, message: 'JSON parsing error: unsupported source map version: 2' }],
+    ['{', { code: 'SMAP_JSON_READING', message: 'JSON parsing error: the text is not JSON, at line 0, column 1 (byte 1)', placeMessage: 'line 0, column 1 (byte 1)' }],
+    ['[3]', { code: 'SMAP_JSON_SHAPE', field: 'value', message: 'JSON parsing error: the value is not an object, at the value' }],
+    ['{"version":2}', { code: 'SMAP_JSON_VERSION', detail: 2, field: null, message: 'JSON parsing error: unsupported source map version: 2, at version' }],
     ['{"version":4294967295}', { code: 'SMAP_JSON_VERSION', detail: 4294967295 }],
-    [simple('', { names: null }), { code: 'SMAP_JSON_SHAPE', field: 'names', message: 'JSON parsing error: field names is missing or has the wrong type' }],
+    [simple('', { names: null }), { code: 'SMAP_JSON_SHAPE', field: 'names', message: 'JSON parsing error: field names is missing or has the wrong type, at names' }],
     [simple('', { ignoreList: [0.5] }), { code: 'SMAP_JSON_SHAPE', field: 'ignoreList' }],
     [simple('', { ignoreList: null, x_google_ignoreList: [3] }), { code: 'SMAP_BAD_SOURCE_REFERENCE', detail: 3 }],
-    [simple('AA'), { code: 'SMAP_BAD_SEGMENT_SIZE', detail: 2, message: 'Mapping segment had an unsupported size of 2' }],
+    [simple('AA'), { code: 'SMAP_BAD_SEGMENT_SIZE', detail: 2, message: 'Mapping segment had an unsupported size of 2, at line 0, segment 0 (byte 0)' }],
     [simple('AAAAg', { names: ['a'] }), { code: 'SMAP_VLQ_LEFTOVER' }],
     [simple('gggggggggggggg'), { code: 'SMAP_VLQ_OVERFLOW' }],
     [simple('ACAA'), { code: 'SMAP_BAD_SOURCE_REFERENCE', detail: 0 }],
@@ -140,7 +142,7 @@ test('an error is an Error', () => {
     }
   })();
   assert.ok(error instanceof Error && error instanceof SourceMapError);
-  assert.match(error.stack, /^SourceMapError: JSON parsing error: the text is not JSON\n/);
+  assert.match(error.stack, /^SourceMapError: JSON parsing error: the text is not JSON, at line 0, column 1 \(byte 1\)\n/);
   assert.deepEqual(Object.keys(error), ['code', 'detail', 'field', 'place', 'placeMessage']);
 });
 
@@ -148,7 +150,7 @@ test('errors of a newer library, and numbers of 64 bits', () => {
   const fault = new Uint32Array(18);
   fault.set([9999, 1, 5, 2, 1, 0, NO_ID, NO_ID, NO_ID, 4, 5, 6, 7, 8, 9, 10, 11, 12]);
   const error = errorOf(fault);
-  assert.deepEqual([error.code, error.message, error.detail, error.field], ['SMAP_UNKNOWN', 'SMAP_UNKNOWN', 2 ** 33 + 5, null]);
+  assert.deepEqual([error.code, error.message, error.detail, error.field], ['SMAP_UNKNOWN', `SMAP_UNKNOWN, at ${error.placeMessage}`, 2 ** 33 + 5, null]);
   const none = { field: null, column: null, entry: null };
   assert.deepEqual(error.place, { ...none, kind: 'segment', text: null, section: 4 * 2 ** 32 + NO_ID, line: 6 * 2 ** 32 + 5, segment: 2 ** 35 + 7, byte: 10 * 2 ** 32 + 9 });
 });
@@ -209,6 +211,43 @@ test('mappings alone', () => {
   fails({ code: 'SMAP_BAD_NAME_REFERENCE', detail: 0, placeMessage: 'line 1, segment 0 (byte 1)' }, () => decodeMappings(';AAAAA', { names: 0 }));
   const map = SourceMap.fromMappings('AAAA', { names: 0, sources: 1 });
   assert.deepEqual([map.isSorted, map.isSound], [true, false]);
+});
+
+test('the tokens of mappings, as long as one call takes them and longer', () => {
+  for (const count of [1023, 1024, 1025, 3000]) {
+    const tokens = decodeMappings('A,'.repeat(count), { names: 0, sources: 0 });
+    assert.equal(tokens.length, 6 * count);
+    assert.ok(tokens.every((word, i) => word === (i % 6 < 4 ? 0 : NO_ID)));
+    assert.notEqual(tokens.buffer, decodeMappings('A').buffer);
+  }
+  assert.throws(() => decodeMappings('\ud800'), TypeError);
+  assert.throws(() => decodeMappings('A', null), TypeError);
+  const kept = decodeMappings('C');
+  decodeMappings('E');
+  assert.equal(kept[1], 1);
+});
+
+test('the tokens of mappings in one call, which makes no map', () => {
+  const out = new Uint32Array(20).fill(9);
+  const rows = [
+    ['AAAA,GAAIA,C', [1, 1], 3, 1, [0, 0, 0, 0, 0, NO_ID, 0, 3, 0, 4, 0, 0, 0, 4, 0, 4, NO_ID, NO_ID]],
+    ['E,D', [0, 0], 2, 0, [0, 2, 0, 0, NO_ID, NO_ID, 0, 1, 0, 0, NO_ID, NO_ID]],
+    ['', [0, 0], 0, 1, []],
+    [Buffer.from(';C'), [0, 0], 1, 1, [1, 1, 0, 0, NO_ID, NO_ID]],
+    ['A,A,A,A,A', [0, 0], 5, 1, [0, 0, 0, 0, NO_ID, NO_ID, 0, 0, 0, 0, NO_ID, NO_ID, 0, 0, 0, 0, NO_ID, NO_ID]],
+  ];
+  for (const [mappings, limits, count, isSorted, expected] of rows) {
+    out.fill(9);
+    assert.equal(native.decodeTokens(mappings, ...limits, out), 0);
+    assert.deepEqual([native.words[0], native.words[1]], [count, isSorted]);
+    assert.deepEqual([...out], [...expected, ...new Array(20 - expected.length).fill(9)]);
+  }
+  assert.equal(native.decodeTokens('AAAA', 1, 0, out), constants.Code.BAD_SOURCE_REFERENCE);
+  assert.equal(native.decodeTokens('AAAAA', 0, 1, out), constants.Code.BAD_NAME_REFERENCE);
+  assert.deepEqual([native.fault[0], native.fault[2]], [constants.Code.BAD_NAME_REFERENCE, 0]);
+  const shared = new Uint32Array(new SharedArrayBuffer(24));
+  assert.equal(native.decodeTokens('C', 0, 0, shared), 0);
+  assert.equal(shared[1], 1);
 });
 
 test('random maps', () => {

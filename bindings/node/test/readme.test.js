@@ -1,5 +1,5 @@
 'use strict';
-// The three jobs that README.md shows, as they are written there.
+// The three jobs that README.md shows, and that of the package, as they are written there.
 
 const test = require('node:test');
 const assert = require('node:assert/strict');
@@ -13,10 +13,13 @@ const { REPOSITORY } = require('./support.js');
 const readme = join(REPOSITORY, 'README.md');
 const needsReadme = { skip: !fs.existsSync(readme) && 'the repository is not here' };
 
+const jobsOf = (path) => [...fs.readFileSync(path, 'utf8').matchAll(/```js\n([^]*?)```/g)].map((it) => it[1]).filter((it) => it.includes("require('node:fs')"));
+
 /** Runs the block of this number, as a file, in a folder with these files and the package; what it prints, and reads of the folder. */
 function run(number, files) {
-  const blocks = [...fs.readFileSync(readme, 'utf8').matchAll(/```js\n([^]*?)```/g)].map((it) => it[1]);
+  const blocks = jobsOf(readme);
   assert.equal(blocks.length, 3);
+  assert.deepEqual(jobsOf(join(__dirname, '../README.md')), blocks);
   const room = fs.mkdtempSync(join(tmpdir(), 'junketscarp-'));
   process.once('exit', () => fs.rmSync(room, { recursive: true }));
   fs.mkdirSync(join(room, 'node_modules'));

@@ -1,5 +1,5 @@
 // What `tsc --strict` has to accept, and to refuse.
-import {
+import junketscarp, {
   Bias,
   Code,
   ConcatSourceMapBuilder,
@@ -7,11 +7,13 @@ import {
   FaultPlace,
   FoundToken,
   Language,
+  Mapping,
   Mend,
   NO_ID,
   Original,
   Piece,
   RawSourceMap,
+  Segment,
   SourceMap,
   SourceMapBuilder,
   SourceMapError,
@@ -54,6 +56,29 @@ async function uses(bytes: Uint8Array): Promise<void> {
   void [found, name, token, answers, indices, pieces, back, all, raw, concat, url, NO_ID];
 }
 
+async function triesFirst(url: URL, value: { version: number; sources: string[]; names: string[]; mappings: string }): Promise<void> {
+  const map: SourceMap = new junketscarp.SourceMap(value, { keepUnknown: true });
+  const decoded: Segment[][] = map.decodedMappings;
+  const other = new SourceMap({ version: 3, sources: ["a", null], mappings: decoded });
+  new SourceMap({ version: 3, sections: [{ offset: { line: 0, column: 0 }, map: value }] });
+  new SourceMap(map);
+  await SourceMap.read(url);
+  SourceMap.found(url, { keepUnknown: false });
+  const source: string | undefined = map.trace({ line: 0, column: 1, bias: Bias.AFTER })?.source;
+  const token: FoundToken | null = map.traceToken({ line: 0, column: 1 }) ?? map.generated("a", 0, 1) ?? map.generated({ source: 0, line: 0, column: 1, direction: Direction.FROM });
+  const indices: Uint32Array = map.allGenerated({ source: "a", line: 0, column: 1 });
+  const content: string | null = map.getSourceContent("a");
+  for (const mapping of map) {
+    const line: number | null = mapping.originalLine;
+    void line;
+  }
+  other.eachMapping((mapping: Mapping) => void mapping.name);
+  const text: string = encodeMappings(decoded) + encodeMappings([[[0], [1, 0, 0, 0, 0]]]) + SourceMap.fromMappings(decoded).mappings;
+  const backend: "addon" | "module" = SourceMap.backend;
+  const kept: unknown = map.unknownMembers?.x_a;
+  void [source, token, indices, content, text, backend, kept];
+}
+
 function tells(error: unknown): string {
   if (!(error instanceof SourceMapError)) return "";
   const code: Code = error.code;
@@ -64,6 +89,14 @@ function tells(error: unknown): string {
 function refused(map: SourceMap): void {
   // @ts-expect-error: a column is needed
   map.trace(0);
+  // @ts-expect-error: nor of an object
+  map.trace({ line: 0 });
+  // @ts-expect-error: it is no value of a map
+  new SourceMap({});
+  // @ts-expect-error: a segment has 1, 4 or 5 numbers
+  encodeMappings([[[0, 0]]]);
+  // @ts-expect-error: it is only read
+  SourceMap.backend = "addon";
   // @ts-expect-error: no such bias
   map.trace(0, 0, 3);
   // @ts-expect-error: numbers are unsigned words
@@ -81,4 +114,4 @@ function refused(map: SourceMap): void {
   void code;
 }
 
-void [uses, tells, refused];
+void [uses, triesFirst, tells, refused];

@@ -87,7 +87,7 @@ test('data URLs', () => {
 test('the maps of the repository, written and read again', { skip: realMaps().length === 0 && 'the repository is not here' }, () => {
   for (const { path, bytes, refused } of realMaps()) {
     if (refused !== null && refused !== 'Tokens are not in order of line and column') {
-      fails({ message: refused }, () => new SourceMap(bytes));
+      assert.throws(() => new SourceMap(bytes), ({ message, placeMessage }) => message === (placeMessage ? `${refused}, at ${placeMessage}` : refused), path);
       continue;
     }
     const map = new SourceMap(bytes);

@@ -96,7 +96,7 @@ export function loadSync(given) {
 function exported() {
   const found = /export const (\{[^}]*\}) = library;/.exec(readFileSync(join(LIB, 'index.mjs'), 'utf8'));
   if (!found) throw new Error('bundle: index.mjs lists no exports');
-  return `export const ${found[1]} = library;\n`;
+  return `export const ${found[1]} = library;\n\nexport default library;\n`;
 }
 
 const BYTES = `const bytes = typeof Buffer === 'function' ? Buffer.from(MODULE, 'base64') : Uint8Array.from(atob(MODULE), (it) => it.charCodeAt(0));

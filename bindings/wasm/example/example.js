@@ -12,7 +12,7 @@ function answer(text, line, column) {
     return `${found.source}, line ${found.line}, column ${found.column}${name}`;
   } catch (error) {
     if (!(error instanceof SourceMapError)) throw error;
-    return `${error.message} ${error.placeMessage}`;
+    return error.message;
   }
 }
 

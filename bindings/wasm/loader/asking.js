@@ -34,4 +34,4 @@ function lists(host, handle, out, size, run) {
   return map.isNull ? host.told(Code.NULL_HANDLE) : fills(host, map, to, size, run);
 }
 
-module.exports = { asks, lists };
+module.exports = { asks, fills, lists };

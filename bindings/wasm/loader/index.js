@@ -35,7 +35,7 @@ function nativeOf(module) {
   const host = new Host(module);
   const calls = Object.fromEntries(Object.entries(CALLS).map(([name, call]) => [name, call.bind(null, host)]));
   const version = host.withinShared((it) => it.call('smap_version'));
-  return { version, fault: host.fault, words: host.words, trace: tracing(host), ...calls };
+  return { version, backend: 'module', fault: host.fault, words: host.words, trace: tracing(host), ...calls };
 }
 
 module.exports = { nativeOf, TrapError, NO_THREADS: Code.NO_THREADS };

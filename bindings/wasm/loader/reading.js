@@ -2,6 +2,7 @@
 // Reading maps, and freeing them.
 
 const { mapOf, textOf, textsOf, word, wordsOf } = require('./arguments.js');
+const { fills } = require('./asking.js');
 const { Handle } = require('./handles.js');
 const { ANSWER, Code, Words } = require('./layout.js');
 const { lending } = require('./lending.js');
@@ -81,6 +82,33 @@ function decodeMappings(host, mappings, names, sources) {
   return reads(host, text, (it, at, len) => it.call('smap_decode_mappings', at, len, ...limits, it.madeAt, it.faultAt));
 }
 
+/** Of the map that a call has made in an instance the tokens, and whether they are sorted. The map is freed. */
+function tokensIn(host, instance, to) {
+  const map = { instance, at: instance.answer(ANSWER.MADE) };
+  try {
+    const code = fills(host, map, to, Words.TOKEN, (it, at, room, len) => it.call('smap_get_tokens', at, room, len, it.countAt));
+    instance.call('smap_is_sorted', map.at, instance.wordsAt);
+    host.words[1] = instance.answer(ANSWER.WORDS);
+    return code;
+  } finally {
+    if (instance.trap === null) instance.call('smap_free_map', map.at);
+  }
+}
+
+function decodeTokens(host, mappings, names, sources, out) {
+  const text = textOf(mappings);
+  const limits = [word(names), word(sources)];
+  const to = wordsOf(out);
+  return host.within(
+    () => host.forText(text.length),
+    (it) => {
+      const decode = (lend) => it.call('smap_decode_mappings', ...lend.text(text), ...limits, it.madeAt, it.faultAt);
+      const code = lending(it, decode);
+      return code === 0 ? tokensIn(host, it, to) : host.coded(it, code);
+    },
+  );
+}
+
 function clone(host, handle) {
   const map = mapOf(handle);
   if (map.isNull) return host.told(Code.NULL_HANDLE);
@@ -99,4 +127,4 @@ function free(host, handle) {
   handle.isFreed = true;
 }
 
-module.exports = { fromJson, readAsync, readFound, getMends, fromTokens, decodeMappings, clone, free };
+module.exports = { fromJson, readAsync, readFound, getMends, fromTokens, decodeMappings, decodeTokens, clone, free };

@@ -596,5 +596,5 @@ async function begin() {
 }
 
 begin().catch((error) => {
-  element('answer').textContent = `This page cannot be shown: ${error.message} ${error.placeMessage ?? ''}`;
+  element('answer').textContent = `This page cannot be shown: ${error.message}`;
 });

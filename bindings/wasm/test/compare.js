@@ -23,7 +23,7 @@ const NOTHING = new Uint32Array(0);
 
 /** How many words a call answers. The bytes that a map holds (the last two of getCounts) are left out where maps were copied. */
 const ANSWERS = { getCounts: 6, isSorted: 1, isSound: 1, getToken: 6, getTokens: 1, getIgnoreList: 1, trace: 8, pieces: 1, firstDifference: 2,
-  generated: 7, allGenerated: 1, builderAddName: 1, builderAddSource: 1, getMends: 1 };
+  generated: 7, allGenerated: 1, builderAddName: 1, builderAddSource: 1, getMends: 1, decodeTokens: 2 };
 
 /** The handles of both for one map, builder or join. */
 class Pair {
@@ -171,6 +171,8 @@ function compareMap(path, next) {
     both('write', found, 0, '');
     const mappings = both('write', found, 2, '');
     const decoded = both('decodeMappings', mappings, NO_ID, 3);
+    filled('decodeTokens', 6, mappings, NO_ID, 3);
+    both('decodeTokens', mappings, NO_ID, NO_ID, new Uint32Array(20));
     interrogate(decoded, next, 50);
     both('encodeMappings', addon.getTokens(found.a, NOTHING) === 0 ? tokensOf(found) : NOTHING);
     free(decoded);

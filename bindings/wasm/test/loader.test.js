@@ -238,6 +238,8 @@ test('what is freed leaves nothing in its instance', () => {
   assert.equal(native.readFound('{'), 4);
   assert.equal(native.firstDifference(map, changed), 103);
   assert.equal(native.encodeMappings(new Uint32Array(6)), 'AAAAA');
+  assert.equal(native.decodeTokens('AAAA', 1, 1, new Uint32Array(6)), 0);
+  assert.equal(native.decodeTokens('AA', 1, 1, new Uint32Array(6)), 7);
   assert.equal(native.sourceMappingURL('//# sourceMappingURL=a.map', 0), 'a.map');
   assert.equal(native.message(native.fault).length > 0, true);
   assert.equal(used(instance), before);

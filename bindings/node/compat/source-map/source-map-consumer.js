@@ -2,8 +2,8 @@
 // The consumers of the package source-map. They are functions, since its users call them without `new`, and look at the prototypes.
 
 const { Bias } = require('../../lib/constants.js');
+const { Texts } = require('../texts.js');
 const { required, optional, checkPosition } = require('./arguments.js');
-const { IdList } = require('./id-list.js');
 const { Table } = require('./table.js');
 const { NO_ID, WORDS, Field, TokenList } = require('./tokens.js');
 const urls = require('./urls.js');
@@ -302,17 +302,17 @@ Object.defineProperty(indexed, '_table', {
 
 /** Makes one table of all sections. Sources and names of equal texts get one id. */
 indexed._join = function () {
-  const all = { tokens: new TokenList(), sources: new IdList(), names: new IdList() };
+  const all = { tokens: new TokenList(), sources: new Texts(), names: new Texts() };
   for (const section of this._sections) addSection(section, all);
-  this._absoluteSources = all.sources.toArray();
-  this._names = all.names.toArray();
+  this._absoluteSources = all.sources.list;
+  this._names = all.names.list;
   this._madeTable = Table.ofTokens(all.tokens.words);
 };
 
 function addSection({ line, column, consumer }, { tokens, sources, names }) {
   const { words } = consumer._table;
-  const sourceIds = consumer._absoluteSources.map((source) => sources.add(source));
-  const nameIds = consumer._names.map((name) => names.add(name));
+  const sourceIds = consumer._absoluteSources.map((source) => sources.put(source));
+  const nameIds = consumer._names.map((name) => names.put(name));
   for (let at = 0; at < words.length; at += WORDS) {
     const source = words[at + Field.SOURCE];
     const name = words[at + Field.NAME];

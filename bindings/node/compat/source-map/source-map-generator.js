@@ -2,8 +2,8 @@
 // The generator of the package source-map. It is a function, since its users inherit from it by `call`, too.
 
 const { encodeMappings } = require('../../lib/index.js');
+const { Texts } = require('../texts.js');
 const { required, optional } = require('./arguments.js');
-const { IdList } = require('./id-list.js');
 const { NO_ID, WORDS, Field, TokenList, sortByFields, pick } = require('./tokens.js');
 const urls = require('./urls.js');
 
@@ -16,8 +16,9 @@ function SourceMapGenerator(options) {
   this._file = optional(given, 'file', null);
   this._sourceRoot = optional(given, 'sourceRoot', null);
   this._skipValidation = optional(given, 'skipValidation', false);
-  this._sources = new IdList();
-  this._names = new IdList();
+  this._ignoresInvalid = optional(given, 'ignoreInvalidMapping', false); // of source-map-js
+  this._sources = new Texts();
+  this._names = new Texts();
   this._tokens = new TokenList();
   this._isSorted = true;
   this._lastLine = -1;
@@ -29,11 +30,11 @@ const generator = SourceMapGenerator.prototype;
 
 generator._version = VERSION;
 
-SourceMapGenerator.fromSourceMap = function (consumer) {
-  const made = new SourceMapGenerator({ file: consumer.file, sourceRoot: consumer.sourceRoot });
+SourceMapGenerator.fromSourceMap = function (consumer, options) {
+  const made = new SourceMapGenerator({ ...options, file: consumer.file, sourceRoot: consumer.sourceRoot });
   consumer.eachMapping((mapping) => made._addMappingOf(mapping));
   for (const source of consumer.sources) {
-    made._sources.add(String(made._relative(source)));
+    made._sources.put(String(made._relative(source)));
     const content = consumer.sourceContentFor(source);
     if (content != null) made.setSourceContent(source, content);
   }
@@ -59,8 +60,13 @@ generator._relative = function (source) {
 generator.addMapping = function (args) {
   const generated = required(args, 'generated');
   const { original = null, source = null, name = null } = args;
-  if (!this._skipValidation) this._validateMapping(generated, original, source, name);
-  this._addToken(generated, original, source, name);
+  try {
+    if (!this._skipValidation) this._validateMapping(generated, original, source, name);
+    this._addToken(generated, original, source, name);
+  } catch (error) {
+    if (!this._ignoresInvalid) throw error;
+    console.warn(error.message);
+  }
 };
 
 /** The whole part of a number; -1 if a map can not have it. */
@@ -80,8 +86,8 @@ generator._addToken = function (generated, original, source, name) {
   if (line < 0 || column < 0 || originalLine < 0 || originalColumn < 0) {
     throw invalidMapping(generated, original, source, name);
   }
-  const sourceId = source == null ? NO_ID : this._sources.add(String(source));
-  const nameId = name == null ? NO_ID : this._names.add(String(name));
+  const sourceId = source == null ? NO_ID : this._sources.put(String(source));
+  const nameId = name == null ? NO_ID : this._names.put(String(name));
   this._tokens.add(line, column, originalLine, originalColumn, isMapped ? sourceId : NO_ID, isMapped ? nameId : NO_ID);
   this._noteOrder(line, column);
 };
@@ -132,7 +138,7 @@ generator.applySourceMap = function (consumer, sourceFile, sourceMapPath) {
     );
   }
   const pathOf = (source) => this._relative(sourceMapPath == null ? source : urls.join(sourceMapPath, source));
-  this._retrace(this._sources.idOf(this._relative(applied)), consumer, pathOf);
+  this._retrace(this._sources.ids.get(this._relative(applied)), consumer, pathOf);
   for (const source of consumer.sources) {
     const content = consumer.sourceContentFor(source);
     if (content != null) this.setSourceContent(pathOf(source), content);
@@ -142,10 +148,10 @@ generator.applySourceMap = function (consumer, sourceFile, sourceMapPath) {
 /** Replaces the original positions in one source, and counts ids anew, in the order in which the mappings were added. */
 generator._retrace = function (appliedId, consumer, pathOf) {
   const { words } = this._tokens;
-  const oldSources = this._sources.toArray();
-  const oldNames = this._names.toArray();
-  this._sources = new IdList();
-  this._names = new IdList();
+  const oldSources = this._sources.list;
+  const oldNames = this._names.list;
+  this._sources = new Texts();
+  this._names = new Texts();
   for (let at = 0; at < words.length; at += WORDS) {
     const found = words[at + SOURCE] === appliedId ? originalAt(words, at, consumer) : null;
     this._retraceToken(words, at, found, { oldSources, oldNames, pathOf });
@@ -162,8 +168,8 @@ generator._retraceToken = function (words, at, found, { oldSources, oldNames, pa
   if (words[at + SOURCE] === NO_ID) return;
   const oldName = words[at + NAME] === NO_ID ? null : oldNames[words[at + NAME]];
   const name = found?.name ?? oldName;
-  words[at + NAME] = name === null ? NO_ID : this._names.add(name);
-  words[at + SOURCE] = this._sources.add(found === null ? oldSources[words[at + SOURCE]] : pathOf(found.source));
+  words[at + NAME] = name === null ? NO_ID : this._names.put(name);
+  words[at + SOURCE] = this._sources.put(found === null ? oldSources[words[at + SOURCE]] : pathOf(found.source));
   if (found === null) return;
   words[at + ORIGINAL_LINE] = found.line - 1;
   words[at + ORIGINAL_COLUMN] = found.column;
@@ -182,7 +188,7 @@ function ranksOf(texts) {
 generator._sortedWords = function () {
   const { words } = this._tokens;
   if (this._isSorted) return words;
-  const ranks = { [SOURCE]: ranksOf(this._sources.toArray()), [NAME]: ranksOf(this._names.toArray()) };
+  const ranks = { [SOURCE]: ranksOf(this._sources.list), [NAME]: ranksOf(this._names.list) };
   const fields = [LINE, COLUMN, SOURCE, ORIGINAL_LINE, ORIGINAL_COLUMN, NAME];
   return pick(words, sortByFields(words, fields, ranks));
 };
@@ -194,8 +200,11 @@ function isRepeat(words, at) {
   return true;
 }
 
-/** The tokens without those that say what the one before them says. */
+/** The tokens without those that say what the one before them says; the same ones where there are none. */
 function withoutRepeats(words) {
+  let first = WORDS;
+  while (first < words.length && !isRepeat(words, first)) first += WORDS;
+  if (first >= words.length) return words;
   const kept = new Uint32Array(words.length);
   let to = 0;
   for (let at = 0; at < words.length; at += WORDS) {
@@ -215,9 +224,9 @@ generator._sourcesContentOf = function (sources) {
 
 /** What a consumer is made of. */
 generator._snapshot = function () {
-  const sources = this._sources.toArray();
+  const sources = this._sources.list.slice();
   return {
-    names: this._names.toArray(),
+    names: this._names.list.slice(),
     sources,
     sourcesContent: this._sourcesContentOf(sources),
     words: this._sortedWords().slice(),
@@ -225,8 +234,8 @@ generator._snapshot = function () {
 };
 
 generator.toJSON = function () {
-  const sources = this._sources.toArray();
-  const map = { version: VERSION, sources, names: this._names.toArray(), mappings: this._serializeMappings() };
+  const sources = this._sources.list.slice();
+  const map = { version: VERSION, sources, names: this._names.list.slice(), mappings: this._serializeMappings() };
   if (this._file != null) map.file = this._file;
   if (this._sourceRoot != null) map.sourceRoot = this._sourceRoot;
   if (this._contents.size > 0) map.sourcesContent = this._sourcesContentOf(sources);

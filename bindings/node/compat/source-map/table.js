@@ -1,8 +1,10 @@
 'use strict';
 // The mappings of a consumer, asked both ways.
 
-const { SourceMap, SourceMapBuilder, SourceMapError } = require('../../lib/index.js');
+const { SourceMap, SourceMapError } = require('../../lib/index.js');
+const { Columns } = require('../../lib/columns.js');
 const { Bias } = require('../../lib/constants.js');
+const { mapOf, shortTokens } = require('../mappings.js');
 const { NO_ID, WORDS, Field, sortByFields, pick } = require('./tokens.js');
 
 const { LINE, COLUMN, ORIGINAL_LINE, ORIGINAL_COLUMN, SOURCE, NAME } = Field;
@@ -22,9 +24,13 @@ function faultText(error, mappings) {
   return error.detail === 3 ? 'Found a source and line, but no column' : error.message;
 }
 
+/** The tokens of a mappings text, and the map that was made of it: of a short one none. */
 function readMappings(mappings) {
   try {
-    return SourceMap.fromMappings(mappings);
+    const words = shortTokens(mappings);
+    if (words !== null) return { words, map: null };
+    const map = SourceMap.fromMappings(mappings);
+    return { words: map.tokens(), map };
   } catch (error) {
     if (!(error instanceof SourceMapError)) throw error;
     throw new Error(faultText(error, mappings), { cause: error });
@@ -57,13 +63,12 @@ function firsts(words) {
 
 /** A map that answers with the first of the tokens at one generated position, from wherever it is asked. */
 function mapOfFirst(words) {
-  const builder = new SourceMapBuilder();
-  try {
-    builder.addTokens(areApart(words) ? words : firsts(words));
-    return builder.finish();
-  } finally {
-    builder.free();
-  }
+  return mapOf(areApart(words) ? words : firsts(words));
+}
+
+/** The number of lines up to the last of tokens that are sorted. */
+function lineCount(words) {
+  return words.length === 0 ? 0 : words[words.length - WORDS + LINE] + 1;
 }
 
 function replaceSources(words, ids) {
@@ -90,7 +95,7 @@ class Table {
   #order = null;
   #withSpans = false;
 
-  /** Of tokens that are sorted by their generated positions. */
+  /** Of tokens that are sorted by their generated positions, and a map, or what stands for one in lookups. */
   constructor(words, map = mapOfFirst(words)) {
     this.#words = words;
     this.#map = map;
@@ -98,10 +103,10 @@ class Table {
 
   /** Of a mappings text. Where sources are listed twice, `firstIds` has for each id the first one of its source; else it is null. */
   static ofMappings(mappings, firstIds) {
-    const map = readMappings(mappings);
-    const words = map.tokens();
-    if (firstIds === null && areApart(words)) return new Table(null, map);
-    map.free();
+    const { words, map } = readMappings(mappings);
+    const isReady = firstIds === null && areApart(words);
+    if (isReady) return map === null ? new Table(words, new Columns(words, lineCount(words))) : new Table(null, map);
+    map?.free();
     if (firstIds !== null) replaceSources(words, firstIds);
     return Table.ofTokens(words);
   }

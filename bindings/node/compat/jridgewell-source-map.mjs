@@ -1,0 +1,3 @@
+import api from './jridgewell-source-map.js';
+
+export const { SourceMapConsumer, SourceMapGenerator } = api;

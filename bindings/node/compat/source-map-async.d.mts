@@ -1,0 +1,3 @@
+export * from "./source-map-async.js";
+import * as library from "./source-map-async.js";
+export default library;

@@ -1,0 +1,4 @@
+import library from './source-map-async.js';
+
+export const { SourceMapGenerator, SourceMapConsumer, SourceNode } = library;
+export default library;

@@ -1,0 +1,2 @@
+export * from "./source-map.mjs";
+export { default } from "./source-map.mjs";

@@ -1,0 +1,1 @@
+export { SourceMapGenerator, SourceMapConsumer, SourceNode, default } from './source-map.mjs';

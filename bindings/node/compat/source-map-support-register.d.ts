@@ -1,0 +1,2 @@
+/** Installs source-map-support, with no options. */
+export {};

@@ -1,0 +1,3 @@
+'use strict';
+
+require('./source-map-support.js').install();

@@ -1,0 +1,3 @@
+export * from "./source-map-support.js";
+import * as library from "./source-map-support.js";
+export default library;

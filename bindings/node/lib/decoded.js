@@ -1,0 +1,140 @@
+'use strict';
+// Decoded mappings: an array of lines, each an array of segments of 1, 4 or 5 numbers, as the packages of npm have them; and tokens, six
+// numbers each.
+
+const native = require('./native.js');
+const { NO_ID, Code } = require('./constants.js');
+const { check, made, refusal } = require('./errors.js');
+const { shown } = require('./arguments.js');
+
+const WORDS = 6;
+
+/** A text of at most so many units is read in one call, which makes no map, into room for all tokens that it may have. */
+const SHORT = 2048;
+const ROOM = new Uint32Array((WORDS * SHORT) / 2);
+
+/** The tokens of a mappings text, if it is short; else null. `native.words[1]` is 1 if they are sorted. */
+function decodedShort(text, sources, names) {
+  if (typeof text !== 'string' || text.length > SHORT || !text.isWellFormed()) return null;
+  check(native.decodeTokens(text, names, sources, ROOM), text);
+  return ROOM.slice(0, WORDS * native.words[0]);
+}
+
+/** Whether a list is one of lines, and not of tokens. */
+function isDecoded(it) {
+  return Array.isArray(it) && Array.isArray(it[0]);
+}
+
+// ---- to tokens ----
+
+/** The tokens of decoded mappings. Throws a TypeError or a RangeError where a segment is none. */
+function readDecoded(decoded) {
+  const tokens = new Uint32Array(WORDS * segmentCount(decoded));
+  let at = 0;
+  for (let line = 0; line < decoded.length; line++) at = readLine(tokens, at, decoded[line], line);
+  return tokens;
+}
+
+function segmentCount(decoded) {
+  let count = 0;
+  for (let line = 0; line < decoded.length; line++) count += decoded[line].length;
+  return count;
+}
+
+function readLine(tokens, start, segments, line) {
+  let at = start;
+  for (let i = 0; i < segments.length; i++, at += WORDS) {
+    const segment = segments[i];
+    tokens[at] = line;
+    if (!(segment.length === 1 ? writeUnmapped(tokens, at, segment) : writeMapped(tokens, at, segment))) {
+      throw badSegment(segment, line, i);
+    }
+  }
+  return at;
+}
+
+/** Writes a segment of one number behind its line. Says whether the words have it: others are cut to 32 bits. */
+function writeUnmapped(tokens, at, segment) {
+  const column = segment[0];
+  tokens[at + 1] = column;
+  tokens[at + 4] = NO_ID;
+  tokens[at + 5] = NO_ID;
+  return column >>> 0 === column;
+}
+
+/** The same of a segment of four or five numbers. */
+function writeMapped(tokens, at, segment) {
+  const column = segment[0];
+  const source = segment[1];
+  const originalLine = segment[2];
+  const originalColumn = segment[3];
+  tokens[at + 1] = column;
+  tokens[at + 2] = originalLine;
+  tokens[at + 3] = originalColumn;
+  tokens[at + 4] = source;
+  const arePlaces = column >>> 0 === column && originalLine >>> 0 === originalLine && originalColumn >>> 0 === originalColumn;
+  return arePlaces && isId(source) && writeName(tokens, at, segment);
+}
+
+function writeName(tokens, at, segment) {
+  if (segment.length === 4) {
+    tokens[at + 5] = NO_ID;
+    return true;
+  }
+  const name = segment[4];
+  tokens[at + 5] = name;
+  return segment.length === 5 && isId(name);
+}
+
+function isId(it) {
+  return it >>> 0 === it && it !== NO_ID;
+}
+
+function badSegment(segment, line, index) {
+  const where = `Segment ${index} of line ${line} of the mappings`;
+  const size = segment.length;
+  if (size !== 1 && size !== 4 && size !== 5) return new RangeError(`${where} has ${size} numbers, and not 1, 4 or 5`);
+  const bad = segment.find((it, field) => !(field === 1 || field === 4 ? isId(it) : it >>> 0 === it));
+  const Kind = typeof bad === 'number' ? RangeError : TypeError;
+  return new Kind(`${where} has ${shown(bad)}, which is no column, line or id`);
+}
+
+// ---- of tokens ----
+
+/** The segment of the token at an index of words. */
+function segmentAt(tokens, at) {
+  if (tokens[at + 4] === NO_ID) return [tokens[at + 1]];
+  if (tokens[at + 5] === NO_ID) return [tokens[at + 1], tokens[at + 4], tokens[at + 2], tokens[at + 3]];
+  return [tokens[at + 1], tokens[at + 4], tokens[at + 2], tokens[at + 3], tokens[at + 5]];
+}
+
+/** Decoded mappings, of so many lines, of tokens in the order of lines. */
+function toDecoded(tokens, lines) {
+  const decoded = new Array(lines);
+  let at = 0;
+  for (let line = 0; line < lines; line++) {
+    let end = at;
+    while (end < tokens.length && tokens[end] === line) end += WORDS;
+    decoded[line] = segmentsOf(tokens, at, end);
+    at = end;
+  }
+  return decoded;
+}
+
+function segmentsOf(tokens, from, to) {
+  const segments = new Array((to - from) / WORDS);
+  for (let i = 0, at = from; at < to; i++, at += WORDS) segments[i] = segmentAt(tokens, at);
+  return segments;
+}
+
+// ---- to a text ----
+
+/** The mappings text of tokens, of at most so many bytes, and of so many lines; those past the last token are empty. */
+function toText(tokens, lines, limit) {
+  const last = tokens.length === 0 ? 0 : tokens[tokens.length - WORDS];
+  const empty = Math.max(0, lines - 1 - last);
+  if (limit < empty) throw refusal(Code.TOO_LARGE);
+  return made(native.encodeMappings(tokens, limit === undefined ? undefined : limit - empty)) + ';'.repeat(empty);
+}
+
+module.exports = { WORDS, decodedShort, isDecoded, readDecoded, segmentAt, toDecoded, toText };

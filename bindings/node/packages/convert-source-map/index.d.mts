@@ -1,0 +1,2 @@
+export * from "junketscarp/convert-source-map";
+export { default } from "junketscarp/convert-source-map";

@@ -1,0 +1,1 @@
+export * from "junketscarp/convert-source-map";

@@ -1,0 +1,1 @@
+export * from "junketscarp/jridgewell-source-map";

@@ -1,0 +1,2 @@
+export * from "junketscarp/source-map-support";
+export { default } from "junketscarp/source-map-support";

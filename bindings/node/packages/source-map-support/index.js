@@ -1,0 +1,1 @@
+module.exports = require('junketscarp/source-map-support');

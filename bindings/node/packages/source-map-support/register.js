@@ -1,0 +1,1 @@
+require('junketscarp/source-map-support/register');

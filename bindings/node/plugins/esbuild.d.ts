@@ -1,0 +1,2 @@
+import { esbuild } from "./types";
+export = esbuild;

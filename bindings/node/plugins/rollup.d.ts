@@ -1,0 +1,2 @@
+import { rollup } from "./types";
+export = rollup;

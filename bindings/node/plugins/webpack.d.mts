@@ -1,0 +1,2 @@
+export { JunketscarpPlugin as default } from "./types.js";
+export type { Options } from "./types.js";

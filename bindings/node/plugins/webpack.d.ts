@@ -1,0 +1,2 @@
+import { JunketscarpPlugin } from "./types";
+export = JunketscarpPlugin;

@@ -7,8 +7,8 @@ use Rattle.oxc_sourcemap.specs.Error.TheVariants.{BadSegmentSize, BadSourceRefer
 use Rattle.oxc_sourcemap.specs.Error.TheVariants.{BadNameReference, OutOfMemory, TooLarge}
 use Rattle.oxc_sourcemap.specs.Error.TheVariants.{LineOrder, BadChunks, SeveralSources}
 use Rattle.oxc_sourcemap.specs.Error.TheVariants.{SectionOrder, InputLineOrder}
-use Rattle.oxc_sourcemap.specs.Json.{JsonRecord}
-use Rattle.oxc_sourcemap.specs.Pieces.{writing_fault}
+use Rattle.oxc_sourcemap.specs.JsonRecord.{JsonRecord}
+use Rattle.oxc_sourcemap.specs.ChunkTexts.{writing_fault}
 use Rattle.oxc_sourcemap.specs.Record.{MapRecord}
 use Rattle.oxc_sourcemap.specs.Decoded.{decoded}
 use Rattle.oxc_sourcemap.specs.Errors.{unless}

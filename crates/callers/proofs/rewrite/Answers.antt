@@ -6,7 +6,7 @@ use Rattle.oxc_sourcemap.specs.Canonical.{as_written}
 use Rattle.oxc_sourcemap.specs.DecodedMap.{decoded_map_of}
 use Rattle.oxc_sourcemap.specs.Sound.{IsSound}
 use Rattle.oxc_sourcemap.specs.Decoded.{decoded}
-use Rattle.oxc_sourcemap.specs.Json.{json_record}
+use Rattle.oxc_sourcemap.specs.JsonRecord.{json_record}
 use Rattle.callers.proofs.Back.{back-is, back-error, no-error, only-memory, if_ok, if_err}
 use Rattle.callers.proofs.rewrite.Goals as goal
 

@@ -11,4 +11,4 @@ pub returns-in-Err-2-clause-error : goal.returns-in-Err-2-clause-error
 returns-in-Err-2-clause-error c =
     let other : of_plan c.in-Err.fault.error ≢ out_of_memory = search rules in
     plan_failed (outcome c.args.plan.now) (meaning c.args.plan.now) c.in-Err.fault (lent_items c.args.inputs.now) c.plan_failure.result (λ memory. other (ap of_plan memory))
-    c.in-Err.ensures.same_meaning c.in-Err.ensures.error c.in-Err.ensures.told c.requires c.plan_failure.ensures.error c.plan_failure.ensures.place
+    c.in-Err.ensures.same_meaning c.in-Err.ensures.error c.in-Err.ensures.told c.requires.texts c.plan_failure.ensures.error c.plan_failure.ensures.place

@@ -16,7 +16,10 @@ const ROOM = new Uint32Array((WORDS * SHORT) / 2);
 /** The tokens of a mappings text, if it is short; else null. `native.words[1]` is 1 if they are sorted. */
 function decodedShort(text, sources, names) {
   if (typeof text !== 'string' || text.length > SHORT || !text.isWellFormed()) return null;
-  check(native.decodeTokens(text, names, sources, ROOM), text);
+  const code = native.decodeTokens(text, names, sources, ROOM);
+  // (an instance of the module may be full, while another one has the memory: the usual way finds it)
+  if (code === Code.OUT_OF_MEMORY) return null;
+  check(code, text);
   return ROOM.slice(0, WORDS * native.words[0]);
 }
 

@@ -1,0 +1,7 @@
+pub mod Fields
+pub mod Layout
+pub mod Meaning
+pub mod Messages
+pub mod Numbers
+pub mod Opened
+pub mod Words

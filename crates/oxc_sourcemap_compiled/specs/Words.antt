@@ -1,0 +1,13 @@
+-- The words of this crate's clauses, from one place.
+pub use Rattle.oxc_sourcemap_compiled.specs.Fields.{IsField, value_in, field_in, value_of}
+pub use Rattle.oxc_sourcemap_compiled.specs.Layout.{header_in, layout_in, AreCounts, HasParts}
+pub use Rattle.oxc_sourcemap_compiled.specs.Layout.{block_count, text_count, compiled_fault}
+pub use Rattle.oxc_sourcemap_compiled.specs.Layout.{listed_count}
+pub use Rattle.oxc_sourcemap_compiled.specs.Meaning.{stored_id, token_in, start_in, number_in_list}
+pub use Rattle.oxc_sourcemap_compiled.specs.Meaning.{line_in, entry_begin, entry_end, entry_tokens}
+pub use Rattle.oxc_sourcemap_compiled.specs.Meaning.{tokens_in, offset_in, part_between, text_in}
+pub use Rattle.oxc_sourcemap_compiled.specs.Meaning.{optional_in, ignored_in, compiled_meaning}
+pub use Rattle.oxc_sourcemap_compiled.specs.Meaning.{compiled_in}
+pub use Rattle.oxc_sourcemap_compiled.specs.Messages.{compiled_error_text}
+pub use Rattle.oxc_sourcemap_compiled.specs.Numbers.{number_at}
+pub use Rattle.oxc_sourcemap_compiled.specs.Opened.{IsOpened}

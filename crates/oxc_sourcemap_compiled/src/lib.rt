@@ -1,0 +1,11 @@
+//! Compiled maps: a map as bytes that are made once, opened in constant time, and looked up where they lie. Part of
+//! `oxc_sourcemap`.
+#![tactic(auto)]
+
+mod errors;
+mod fields;
+mod layout;
+mod numbers;
+mod opened;
+
+pub use errors::CompiledError;

@@ -1,7 +1,9 @@
+pub mod Cuts
 pub mod Fields
 pub mod Layout
 pub mod Meaning
 pub mod Messages
 pub mod Numbers
 pub mod Opened
+pub mod Order
 pub mod Words

@@ -1,4 +1,5 @@
 -- The words of this crate's clauses, from one place.
+pub use Rattle.oxc_sourcemap_compiled.specs.Cuts.{IsCut, DoNotFall}
 pub use Rattle.oxc_sourcemap_compiled.specs.Fields.{IsField, value_in, field_in, value_of}
 pub use Rattle.oxc_sourcemap_compiled.specs.Layout.{header_in, layout_in, AreCounts, HasParts}
 pub use Rattle.oxc_sourcemap_compiled.specs.Layout.{block_count, text_count, compiled_fault}
@@ -11,3 +12,5 @@ pub use Rattle.oxc_sourcemap_compiled.specs.Meaning.{compiled_in}
 pub use Rattle.oxc_sourcemap_compiled.specs.Messages.{compiled_error_text}
 pub use Rattle.oxc_sourcemap_compiled.specs.Numbers.{number_at}
 pub use Rattle.oxc_sourcemap_compiled.specs.Opened.{IsOpened}
+pub use Rattle.oxc_sourcemap_compiled.specs.Order.{column_of, least_column_of, AreRowsExact}
+pub use Rattle.oxc_sourcemap_compiled.specs.Order.{AreInOrder, IsInOrder, IsOn, IsOnLine}

@@ -7,5 +7,6 @@ mod fields;
 mod layout;
 mod numbers;
 mod opened;
+mod search;
 
 pub use errors::CompiledError;

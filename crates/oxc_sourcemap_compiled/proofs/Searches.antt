@@ -1,0 +1,93 @@
+-- Searches by halving.
+use Rattle.std.proofs.Common.{◌≡◌, ℕ, suc, ◌+◌, ◌-◌, ◌*◌, ◌/◌, ◌<◌, ◌≤◌, Bool, true, false, nat_lt, if◌then◌else◌}
+use Rattle.std.proofs.Common.{arith, refl, ap, zero, min, max}
+use Rattle.oxc_sourcemap_compiled.specs.Cuts.{IsCut, DoNotFall}
+
+-- a number below the limit lies before the cut
+pub below-cut : (f : ℕ → ℕ) (limit first end cut i : ℕ) → IsCut f limit first end cut → i < end → f i < limit → i < cut
+below-cut f limit first end cut i c h lt = by-order (nat_lt i cut) refl where
+  by-order : (b : Bool) → nat_lt i cut ≡ b → i < cut
+  by-order true e = grind (arith, e)
+  by-order false e =
+      let past : cut ≤ i = grind (arith, e) in
+      absurd (omega (arith, c.after i past h, lt))
+
+-- a number that is not below the limit lies behind the cut
+pub past-cut : (f : ℕ → ℕ) (limit first end cut i : ℕ) → IsCut f limit first end cut → first ≤ i → limit ≤ f i → cut ≤ i
+past-cut f limit first end cut i c h le = by-order (nat_lt i cut) refl where
+  by-order : (b : Bool) → nat_lt i cut ≡ b → cut ≤ i
+  by-order true e =
+      let before : i < cut = grind (arith, e) in
+      absurd (omega (arith, c.before i h before, le))
+  by-order false e = grind (arith, e)
+
+-- one step of the halving, by the number in the middle
+pub halved-cut : (b : Bool) (f : ℕ → ℕ) (limit first end cut start step half : ℕ) → nat_lt (f (start + step - 1)) limit ≡ b
+    → 0 < step → step ≤ suc half → first ≤ start → start + step + half ≤ end → IsCut f limit first end cut → start ≤ cut → cut ≤ start + step + half
+    → (start + (if b then step else 0) ≤ cut) × (cut ≤ start + (if b then step else 0) + half)
+halved-cut true f limit first end cut start step half is some near reached within c low high =
+    let lt : f (start + step - 1) < limit = grind (arith, is) in
+    let more = below-cut f limit first end cut (start + step - 1) c (omega (arith, some, within)) lt in
+    (omega (arith, more, some), omega (arith, high))
+halved-cut false f limit first end cut start step half is some near reached within c low high =
+    let le : limit ≤ f (start + step - 1) = grind (arith, is) in
+    let less = past-cut f limit first end cut (start + step - 1) c (omega (arith, some, reached)) le in
+    (omega (arith, low), omega (arith, less, near, some))
+
+-- Blocks strictly between those of the first and of the last number, by a number that stands for each: the cut of these.
+pub inner-cut : (f g : ℕ → ℕ) (limit first end cut : ℕ) → first / 64 < (end - 1) / 64 → IsCut f limit first end cut
+    → ((b : ℕ) → first / 64 < b → b < (end - 1) / 64 → g b ≡ f (64 * b))
+    → IsCut g limit (first / 64 + 1) (first / 64 + 1 + ((end - 1) / 64 - first / 64 - 1)) (min ((end - 1) / 64) (max (first / 64 + 1) ((cut + 63) / 64)))
+inner-cut f g limit first end cut some c same = record {
+  reached = omega (arith, some);
+  within = omega (arith, some);
+  before = λ i low high.
+      let here : 64 * i < cut = omega (arith, low, high) in
+      let is = same i (omega (arith, low)) (omega (arith, high)) in
+      omega (arith, is, c.before (64 * i) (omega (arith, low)) here);
+  after = λ i low high.
+      let here : cut ≤ 64 * i = omega (arith, low, high, some) in
+      let is = same i (omega (arith, low, some)) (omega (arith, high, some)) in
+      omega (arith, is, c.after (64 * i) here (omega (arith, high, some)));
+}
+
+-- the cut of the numbers of one block, counted from its first
+pub block-cut : (f g : ℕ → ℕ) (limit first end cut base : ℕ) → IsCut f limit first end cut → base ≤ cut → cut ≤ base + 64 → first < base + 64 → base < end
+    → ((j : ℕ) → j < 64 → g j ≡ f (base + j))
+    → IsCut g limit (max base first - base) (max base first - base + (min (base + 64) end - base - (max base first - base))) (cut - base)
+block-cut f g limit first end cut base c low high near some same = record {
+  reached = omega (arith, c.reached, low);
+  within = omega (arith, c.within, high, c.reached, low);
+  before = λ j reached lt.
+      let is = same j (omega (arith, lt, high)) in
+      omega (arith, is, c.before (base + j) (omega (arith, reached)) (omega (arith, lt)));
+  after = λ j le lt.
+      let small : j < 64 = omega (arith, lt, near, some, c.reached, c.within) in
+      let within : base + j < end = omega (arith, lt, near, some, c.reached, c.within) in
+      let is = same j small in
+      omega (arith, is, c.after (base + j) (omega (arith, le, low)) within);
+}
+
+-- numbers that rise from each to the next rise
+pub rises : (f : ℕ → ℕ) (n i d : ℕ) → ((k : ℕ) → k + 1 < n → f k < f (k + 1)) → i + suc d < n → f i < f (i + suc d)
+rises f n i zero up h = 
+    let next : i + 1 ≡ i + suc zero = omega arith in
+    omega (arith, up i (omega (arith, h)), ap f next)
+rises f n i (suc d) up h =
+    let more = rises f n i d up (omega (arith, h)) in
+    let next : i + suc d + 1 ≡ i + suc (suc d) = omega arith in
+    omega (arith, more, up (i + suc d) (omega (arith, h)), ap f next)
+
+-- where numbers rise, one of them is the cut of its own value
+pub own-cut : (f : ℕ → ℕ) (n k : ℕ) → ((k : ℕ) → k + 1 < n → f k < f (k + 1)) → k < n → IsCut f (f k) 0 n k
+own-cut f n k up h = record {
+  reached = omega arith;
+  within = omega (arith, h);
+  before = λ i low lt.
+      let gap : i + suc (k - i - 1) ≡ k = omega (arith, lt) in
+      omega (arith, rises f n i (k - i - 1) up (omega (arith, gap, h)), ap f gap);
+  after = λ i le lt. later i (i - k) (omega (arith, le)) lt;
+} where
+  later : (i d : ℕ) → k + d ≡ i → i < n → f k ≤ f i
+  later i zero e lt = let same : k ≡ i = omega (arith, e) in omega (arith, ap f same)
+  later i (suc d) e lt = omega (arith, rises f n k d up (omega (arith, e, lt)), ap f e)

@@ -1,2 +1,4 @@
 mod Blocks
+mod Entries
+mod Lines
 mod Searches

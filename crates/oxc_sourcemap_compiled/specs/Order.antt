@@ -1,5 +1,6 @@
 -- Compiled maps in which lookups by halving are exact: the lines and columns in their bytes are in order.
-use Rattle.std.specs.Prelude.{◌≡◌, ◌≢◌, ℕ, ◌+◌, ◌*◌, ◌/◌, ◌<◌, ◌≤◌, true, List}
+use Rattle.std.specs.Prelude.{◌≡◌, ◌≢◌, ℕ, ◌+◌, ◌*◌, ◌/◌, ◌<◌, ◌≤◌, true, List, map}
+use Rattle.std.specs.List.{range_with_len}
 use Rattle.oxc_sourcemap_parts.specs.Sorted.{token_column}
 use Rattle.oxc_sourcemap_lookup.specs.Lookup.{no_column_goes_back}
 use Rattle.oxc_sourcemap_compiled.specs.Numbers.{number_at}
@@ -11,6 +12,10 @@ use Rattle.oxc_sourcemap_compiled.specs.declared.layout.Header.{Header}
 -- the generated column of a token
 abbrev pub column_of : List ℕ → Header → ℕ → ℕ
 column_of bytes h i = value_of bytes h 0 i
+
+-- the generated columns of so many tokens from an index on
+abbrev pub columns_in : List ℕ → Header → ℕ → ℕ → List ℕ
+columns_in bytes h first count = map (column_of bytes h) (range_with_len first count)
 
 -- the least column that the row of a block has
 abbrev pub least_column_of : List ℕ → Header → ℕ → ℕ

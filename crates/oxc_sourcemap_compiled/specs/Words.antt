@@ -12,5 +12,5 @@ pub use Rattle.oxc_sourcemap_compiled.specs.Meaning.{compiled_in}
 pub use Rattle.oxc_sourcemap_compiled.specs.Messages.{compiled_error_text}
 pub use Rattle.oxc_sourcemap_compiled.specs.Numbers.{number_at}
 pub use Rattle.oxc_sourcemap_compiled.specs.Opened.{IsOpened}
-pub use Rattle.oxc_sourcemap_compiled.specs.Order.{column_of, least_column_of, AreRowsExact}
+pub use Rattle.oxc_sourcemap_compiled.specs.Order.{columns_in, column_of, least_column_of, AreRowsExact}
 pub use Rattle.oxc_sourcemap_compiled.specs.Order.{AreInOrder, IsInOrder, IsOn, IsOnLine}

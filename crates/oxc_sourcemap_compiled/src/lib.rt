@@ -5,6 +5,7 @@
 mod errors;
 mod fields;
 mod layout;
+mod lookup;
 mod numbers;
 mod opened;
 mod search;

@@ -1,8 +1,10 @@
 -- The tokens of a compiled map in order: those of its entries, one entry after the other.
 use Rattle.std.proofs.Common.{◌≡◌, ◌≢◌, ℕ, zero, suc, ◌+◌, ◌-◌, ◌<◌, ◌≤◌, Bool, true, false, List, [], ◌∷◌, ◌++◌, map}
-use Rattle.std.proofs.Common.{length, nat_lt, ◌==◌, refl, sym, ap, ◌∙◌, arith, if◌then◌else◌, Option, None, option_map, length-append, append-nil}
+use Rattle.std.proofs.Common.{length, nat_lt, ◌==◌, refl, sym, ap, ◌∙◌, arith, if◌then◌else◌, Option, None, option_map, length-append, append-nil, get_or, slice_get, Some}
+use Rattle.std.proofs.lemmas.List.{get_or_append_left, get_or-append_right}
+use Rattle.std.proofs.lemmas.Option.{slice_get-get_or}
 use Rattle.std.specs.List.{range_with_len}
-use Rattle.std.proofs.lemmas.List.FromFn.{length-map-range_with_len}
+use Rattle.std.proofs.lemmas.List.FromFn.{length-map-range_with_len, get_or-map-range_with_len}
 use Rattle.oxc_sourcemap_tokens.specs.Token.{TokenRecord}
 use Rattle.oxc_sourcemap_tokens.specs.LineOrder.{IsInLineOrder}
 use Rattle.oxc_sourcemap_parts.specs.Sorted.{token_line}
@@ -14,7 +16,8 @@ use Rattle.oxc_sourcemap_lookup.proofs.LineIndices.{from_line, index_for-own, cl
 use Rattle.oxc_sourcemap_compiled.specs.Meaning.{joined, token_in, start_in, line_in, entry_begin, entry_end, entry_tokens, tokens_in}
 use Rattle.oxc_sourcemap_compiled.specs.Order.{AreInOrder}
 use Rattle.oxc_sourcemap_compiled.specs.declared.layout.Header.{Header}
-use Rattle.oxc_sourcemap_compiled.proofs.Searches.{rises}
+use Rattle.oxc_sourcemap_compiled.proofs.Searches.{rises, has-cut}
+use Rattle.oxc_sourcemap_compiled.specs.Cuts.{IsCut}
 use Rattle.oxc_sourcemap_compiled.proofs.Lines.{none-found, none-found-clamped, none-found-after}
 
 -- ---- tokens that are all on one line, in front of others
@@ -189,3 +192,85 @@ module _ (bytes : List ℕ) (h : Header) (order : AreInOrder bytes h) where
   pub not-found-after : (n col : ℕ) → ((k : ℕ) → k < h.lines → line_in bytes h k ≢ n) → None ≡ index_after (tokens_in bytes h) n col
   not-found-after n col other =
       sym (ap (from_line n (tokens_in bytes h)) (none-found-after (on_line token_line n (tokens_in bytes h)) col (none-in n other))) ∙ index_after-own n col (tokens_in bytes h) in-order
+
+  -- ---- tokens by their index
+  pub entries-length : (k m : ℕ) → k + m ≤ h.lines → start_in bytes k + length (from_entry k m) ≡ start_in bytes (k + m)
+  entries-length k zero within = 
+      let same : k ≡ k + 0 = omega arith in
+      omega (arith, ap (start_in bytes) same)
+  entries-length k (suc m) within =
+      let size = length-append (entry_tokens bytes h k) (from_entry (k + 1) m) in
+      let more = entries-length (k + 1) m (omega (arith, within)) in
+      let same : k + 1 + m ≡ k + suc m = omega arith in
+      omega (arith, size, more, entry-length k (omega (arith, within)), ap (start_in bytes) same)
+
+  pub tokens-length : length (tokens_in bytes h) ≡ h.tokens
+  tokens-length =
+      let same : 0 + h.lines ≡ h.lines = omega arith in
+      omega (arith, entries-length 0 h.lines (omega arith), order.first, order.last, ap (start_in bytes) same)
+
+  entry-token-by : (b : Bool) (j k m i : ℕ) (d : TokenRecord) → nat_lt k j ≡ b → k ≤ j → j < k + suc m → k + suc m ≤ h.lines → start_in bytes j ≤ i → i < start_in bytes (j + 1)
+      → (k < j → (start_in bytes (k + 1) ≤ i) × (get_or (from_entry (k + 1) m) (i - start_in bytes (k + 1)) d ≡ token_in bytes h (line_in bytes h j) i))
+      → (start_in bytes k ≤ i) × (get_or (from_entry k (suc m)) (i - start_in bytes k) d ≡ token_in bytes h (line_in bytes h j) i)
+  entry-token-by true j k m i d e low high within le lt more =
+      let less : k < j = grind (arith, e) in
+      let size = entry-length k (omega (arith, within)) in
+      let start = more less in
+      let up = order.starts k (omega (arith, within)) in
+      let n = length (entry_tokens bytes h k) in
+      let rest : i - start_in bytes k - n ≡ i - start_in bytes (k + 1) = omega (arith, size) in
+      (omega (arith, start.0, up), get_or-append_right (entry_tokens bytes h k) (from_entry (k + 1) m) n (i - start_in bytes k) d refl (omega (arith, size, start.0))
+      ∙ ap (λ n. get_or (from_entry (k + 1) m) n d) rest ∙ start.1)
+  entry-token-by false j k m i d e low high within le lt more =
+      let same : k ≡ j = grind (arith, e, low) in
+      let starts = ap (start_in bytes) same in
+      let next = ap (λ n. start_in bytes (n + 1)) same in
+      let there : k < h.lines = omega (arith, within) in
+      let size = entry-length k there in
+      let reached : start_in bytes k ≤ i = omega (arith, le, starts) in
+      let here : i - start_in bytes k < length (entry_tokens bytes h k) = omega (arith, lt, next, size, reached) in
+      let count = length-map-range_with_len (token_in bytes h (line_in bytes h k)) (entry_begin bytes h k) (entry_end bytes h k - entry_begin bytes h k) in
+      let at : entry_begin bytes h k + (i - start_in bytes k) ≡ i = omega (arith, begin-is k there, reached) in
+      (reached, get_or_append_left (entry_tokens bytes h k) (from_entry (k + 1) m) d (i - start_in bytes k) here
+      ∙ get_or-map-range_with_len (token_in bytes h (line_in bytes h k)) (entry_begin bytes h k) (entry_end bytes h k - entry_begin bytes h k) (i - start_in bytes k) i d (omega (arith, here, count)) at
+      ∙ ap (λ n. token_in bytes h (line_in bytes h n) i) same)
+
+  entry-token : (j k m i : ℕ) (d : TokenRecord) → k ≤ j → j < k + m → k + m ≤ h.lines → start_in bytes j ≤ i → i < start_in bytes (j + 1)
+      → (start_in bytes k ≤ i) × (get_or (from_entry k m) (i - start_in bytes k) d ≡ token_in bytes h (line_in bytes h j) i)
+  entry-token j k zero i d low high within le lt = absurd (omega (arith, low, high))
+  entry-token j k (suc m) i d low high within le lt =
+      entry-token-by (nat_lt k j) j k m i d refl low high within le lt (λ less. entry-token j (k + 1) m i d (omega (arith, less)) (omega (arith, high)) (omega (arith, within)) le lt)
+
+  pub token-is : (j i : ℕ) → j < h.lines → start_in bytes j ≤ i → i < start_in bytes (j + 1) → slice_get (tokens_in bytes h) i ≡ Some (token_in bytes h (line_in bytes h j) i)
+  token-is j i there le lt =
+      let t = token_in bytes h (line_in bytes h j) i in
+      let same : i ≡ i - start_in bytes 0 = omega (arith, order.first) in
+      let read = ap (λ n. get_or (tokens_in bytes h) n t) same ∙ (entry-token j 0 h.lines i t (omega arith) (omega (arith, there)) (omega arith) le lt).1 in
+      let rest : j + 1 + (h.lines - (j + 1)) ≡ h.lines = omega (arith, there) in
+      let within : i < length (tokens_in bytes h) = omega (arith, tokens-length, starts-below (h.lines - (j + 1)) (j + 1) rest, lt) in
+      slice_get-get_or (tokens_in bytes h) i t within ∙ ap Some read
+
+  -- ---- the entry that has a token
+  abbrev ends : ℕ → ℕ
+  ends k = start_in bytes (k + 1)
+
+  entry-reached : (i j m : ℕ) → IsCut ends (i + 1) 0 h.lines j → m ≤ j → start_in bytes m ≤ i
+  entry-reached i j zero is le = omega (arith, order.first)
+  entry-reached i j (suc m) is le =
+      let next : m + 1 ≡ suc m = omega arith in
+      omega (arith, is.before m (omega arith) (omega (arith, le)), ap (start_in bytes) next)
+
+  entry-there : (b : Bool) (i j : ℕ) → nat_lt j h.lines ≡ b → i < h.tokens → IsCut ends (i + 1) 0 h.lines j → j < h.lines
+  entry-there true i j e lt is = grind (arith, e)
+  entry-there false i j e lt is =
+      let full : h.lines ≤ j = grind (arith, e) in
+      absurd (omega (arith, entry-reached i j h.lines is full, order.last, lt))
+
+  -- it is where the entries that end up to the token stop
+  pub entry-of : (i : ℕ) → i < h.tokens → (j : ℕ) × (j < h.lines) × IsCut (λ k. start_in bytes (k + 1)) (i + 1) 0 h.lines j × (start_in bytes j ≤ i) × (i < start_in bytes (j + 1))
+  entry-of i lt =
+      let found = has-cut ends (i + 1) h.lines (λ k less. order.starts (k + 1) less) in
+      let j = found.0 in
+      let is = found.1 in
+      let there = entry-there (nat_lt j h.lines) i j refl lt is in
+      (j, there, is, entry-reached i j j is (omega arith), omega (arith, is.after j (omega arith) there))

@@ -1,4 +1,5 @@
 mod Blocks
 mod Entries
 mod Lines
+mod Ranges
 mod Searches

@@ -1,6 +1,6 @@
 -- Searches by halving.
 use Rattle.std.proofs.Common.{◌≡◌, ℕ, suc, ◌+◌, ◌-◌, ◌*◌, ◌/◌, ◌<◌, ◌≤◌, Bool, true, false, nat_lt, if◌then◌else◌}
-use Rattle.std.proofs.Common.{arith, refl, ap, zero, min, max}
+use Rattle.std.proofs.Common.{arith, refl, ap, zero, min, max, ◌⊎◌, inl, inr}
 use Rattle.oxc_sourcemap_compiled.specs.Cuts.{IsCut, DoNotFall}
 
 -- a number below the limit lies before the cut
@@ -91,3 +91,51 @@ own-cut f n k up h = record {
   later : (i d : ℕ) → k + d ≡ i → i < n → f k ≤ f i
   later i zero e lt = let same : k ≡ i = omega (arith, e) in omega (arith, ap f same)
   later i (suc d) e lt = omega (arith, rises f n k d up (omega (arith, e, lt)), ap f e)
+
+-- numbers that do not fall have a cut
+cut-more : (f : ℕ → ℕ) (limit n : ℕ) → ((k : ℕ) → k < n → f k ≤ f (k + 1)) → (c : ℕ) → IsCut f limit 0 n c → (b : Bool) → nat_lt (f n) limit ≡ b → (n ≤ c ⊎ c < n) → (k : ℕ) × IsCut f limit 0 (suc n) k
+cut-more f limit n up c is true e (inl full) = (suc n, record {
+  reached = omega arith;
+  within = omega arith;
+  before = λ i low lt. below i (nat_lt i n) refl lt;
+  after = λ i le lt. absurd (omega (arith, le, lt));
+}) where
+  below : (i : ℕ) (b : Bool) → nat_lt i n ≡ b → i < suc n → f i < limit
+  below i true h lt = let less : i < n = grind (arith, h) in is.before i (omega arith) (omega (arith, less, full))
+  below i false h lt =
+      let more : n ≤ i = grind (arith, h) in
+      let same : i ≡ n = omega (arith, more, lt) in
+      let here : f n < limit = grind (arith, e) in
+      omega (arith, here, ap f same)
+cut-more f limit n up c is false e (inl full) = (n, record {
+  reached = omega arith;
+  within = omega arith;
+  before = λ i low lt. is.before i low (omega (arith, lt, full));
+  after = λ i le lt.
+      let same : n ≡ i = omega (arith, le, lt) in
+      let here : limit ≤ f n = grind (arith, e) in
+      omega (arith, here, ap f same);
+})
+cut-more f limit n up c is b e (inr some) = (c, record {
+  reached = omega arith;
+  within = omega (arith, some);
+  before = is.before;
+  after = λ i le lt. above i (nat_lt i n) refl le lt;
+}) where
+  above : (i : ℕ) (b : Bool) → nat_lt i n ≡ b → c ≤ i → i < suc n → limit ≤ f i
+  above i true h le lt = let less : i < n = grind (arith, h) in is.after i le less
+  above i false h le lt =
+      let more : n ≤ i = grind (arith, h) in
+      let last : n - 1 + 1 ≡ i = omega (arith, more, lt, some) in
+      let before = is.after (n - 1) (omega (arith, some)) (omega (arith, some)) in
+      omega (arith, before, up (n - 1) (omega (arith, some)), ap f last)
+
+split : (b : Bool) (n c : ℕ) → nat_lt c n ≡ b → n ≤ c ⊎ c < n
+split true n c e = let lt : c < n = grind (arith, e) in inr lt
+split false n c e = let le : n ≤ c = grind (arith, e) in inl le
+
+pub has-cut : (f : ℕ → ℕ) (limit n : ℕ) → ((k : ℕ) → k + 1 < n → f k ≤ f (k + 1)) → (k : ℕ) × IsCut f limit 0 n k
+has-cut f limit zero up = (0, record { reached = omega arith; within = omega arith; before = λ i low lt. absurd (omega (arith, lt)); after = λ i le lt. absurd (omega (arith, lt)) })
+has-cut f limit (suc n) up =
+    let more = has-cut f limit n (λ k lt. up k (omega (arith, lt))) in
+    cut-more f limit n (λ k lt. up k (omega (arith, lt))) more.0 more.1 (nat_lt (f n) limit) refl (split (nat_lt more.0 n) n more.0 refl)

@@ -1,8 +1,9 @@
 -- What the bytes of a compiled map mean.
 use Rattle.std.specs.Prelude.{ℕ, ◌+◌, ◌-◌, ◌*◌, ◌≡◌, ◌==◌, Bool, List, [], ◌∷◌, ◌++◌, map, take, drop, length}
-use Rattle.std.specs.Prelude.{Option, Some, None, Result, Ok, Err, nat_le, nat_lt, min, ◌&&◌, if◌then◌else◌}
+use Rattle.std.specs.Prelude.{Option, Some, None, Result, Ok, Err, nat_le, nat_lt, min, slice_get, ◌&&◌, if◌then◌else◌}
 use Rattle.std.specs.List.{range_with_len}
 use Rattle.std.specs.Option.{option_and_then, unwrap_or}
+use Rattle.std.specs.Str.{is_utf8}
 use Rattle.oxc_sourcemap_tokens.specs.Token.{TokenRecord}
 use Rattle.oxc_sourcemap_parts.specs.Record.{MapRecord, Text}
 use Rattle.oxc_sourcemap_compiled.specs.declared.errors.CompiledError.{CompiledError}
@@ -86,6 +87,17 @@ optional_in bytes h t = option_and_then optional (text_in bytes h t)
 -- the text of a source or a name; empty where the bytes have none
 abbrev pub listed_in : List ℕ → Header → ℕ → Text
 listed_in bytes h t = unwrap_or (text_in bytes h t) []
+
+-- bytes as a text; none where they are not UTF-8
+abbrev pub utf8_text : Text → Option Text
+utf8_text bytes = if is_utf8 bytes then Some bytes else None
+
+-- a text that a call lends, by its index in a list of this length; none past the list, and where it is not UTF-8
+abbrev pub listed_text : List Text → ℕ → Option Text
+listed_text texts i = option_and_then utf8_text (slice_get texts i)
+
+abbrev pub optional_text : Option Text → Option Text
+optional_text text = option_and_then utf8_text text
 
 -- ---- the whole
 -- an entry of the ignore list

@@ -1,12 +1,13 @@
 -- Compiled maps in which lookups by halving are exact: the lines and columns in their bytes are in order.
 use Rattle.std.specs.Prelude.{◌≡◌, ◌≢◌, ℕ, ◌+◌, ◌*◌, ◌/◌, ◌<◌, ◌≤◌, true, List, map}
 use Rattle.std.specs.List.{range_with_len}
+use Rattle.oxc_sourcemap_tokens.specs.Token.{TokenRecord}
 use Rattle.oxc_sourcemap_parts.specs.Sorted.{token_column}
 use Rattle.oxc_sourcemap_lookup.specs.Lookup.{no_column_goes_back}
 use Rattle.oxc_sourcemap_compiled.specs.Numbers.{number_at}
 use Rattle.oxc_sourcemap_compiled.specs.Layout.{header_in, block_count}
 use Rattle.oxc_sourcemap_compiled.specs.Fields.{value_of, row_base}
-use Rattle.oxc_sourcemap_compiled.specs.Meaning.{start_in, line_in, entry_tokens, entry_begin, entry_end}
+use Rattle.oxc_sourcemap_compiled.specs.Meaning.{token_in, start_in, line_in, entry_tokens, entry_begin, entry_end}
 use Rattle.oxc_sourcemap_compiled.specs.declared.layout.Header.{Header}
 
 -- the generated column of a token
@@ -50,3 +51,11 @@ pub record IsOn (bytes : List ℕ) (h : Header) (line i k : ℕ) : Type 0 where
 -- a token is on a line: an entry of this line has it
 abbrev pub IsOnLine : List ℕ → Header → ℕ → ℕ → Type 0
 IsOnLine bytes h line i = (k : ℕ) × IsOn bytes h line i k
+
+-- a token is that of an index, on a line of some entry
+abbrev pub IsTokenAt : List ℕ → Header → ℕ → TokenRecord → Type 0
+IsTokenAt bytes h i t = (k : ℕ) × (k < h.lines) × (t ≡ token_in bytes h (line_in bytes h k) i)
+
+-- a token is on a line: it is that of an index that an entry of this line has
+abbrev pub IsTokenOn : List ℕ → Header → ℕ → TokenRecord → Type 0
+IsTokenOn bytes h line t = (i : ℕ) × IsOnLine bytes h line i × (t ≡ token_in bytes h line i)

@@ -8,9 +8,10 @@ pub use Rattle.oxc_sourcemap_compiled.specs.Meaning.{stored_id, token_in, start_
 pub use Rattle.oxc_sourcemap_compiled.specs.Meaning.{line_in, entry_begin, entry_end, entry_tokens}
 pub use Rattle.oxc_sourcemap_compiled.specs.Meaning.{tokens_in, offset_in, part_between, text_in}
 pub use Rattle.oxc_sourcemap_compiled.specs.Meaning.{optional_in, ignored_in, compiled_meaning}
-pub use Rattle.oxc_sourcemap_compiled.specs.Meaning.{compiled_in}
+pub use Rattle.oxc_sourcemap_compiled.specs.Meaning.{compiled_in, listed_in, utf8_text, listed_text, optional_text, ignore_list_in}
 pub use Rattle.oxc_sourcemap_compiled.specs.Messages.{compiled_error_text}
 pub use Rattle.oxc_sourcemap_compiled.specs.Numbers.{number_at}
 pub use Rattle.oxc_sourcemap_compiled.specs.Opened.{IsOpened}
 pub use Rattle.oxc_sourcemap_compiled.specs.Order.{columns_in, column_of, least_column_of, AreRowsExact}
 pub use Rattle.oxc_sourcemap_compiled.specs.Order.{AreInOrder, IsInOrder, IsOn, IsOnLine}
+pub use Rattle.oxc_sourcemap_compiled.specs.Order.{IsTokenAt, IsTokenOn}

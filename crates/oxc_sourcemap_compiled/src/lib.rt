@@ -6,8 +6,10 @@ mod errors;
 mod fields;
 mod layout;
 mod lookup;
+mod map;
 mod numbers;
 mod opened;
 mod search;
 
 pub use errors::CompiledError;
+pub use map::CompiledMap;

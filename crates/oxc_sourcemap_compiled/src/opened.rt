@@ -6,7 +6,9 @@ ghost use Rattle.oxc_sourcemap_compiled.specs.Words.{IsOpened, IsField, block_co
 ghost use Rattle.oxc_sourcemap_compiled.specs.Words.{field_in, value_of, token_in, start_in};
 ghost use Rattle.oxc_sourcemap_compiled.specs.Words.{ignored_in, text_in, optional_in, offset_in};
 ghost use Rattle.oxc_sourcemap_compiled.specs.Words.{part_between, stored_id, compiled_fault};
-ghost use Rattle.oxc_sourcemap_compiled.specs.Words.{number_in_list};
+ghost use Rattle.oxc_sourcemap_compiled.specs.Words.{number_in_list, listed_in};
+ghost use Rattle.std.specs.List.{range_with_len, Contains};
+ghost use Rattle.std.specs.Prelude.{map, IsTrue, ◌↔◌};
 
 use crate::errors::CompiledError;
 use crate::fields::Field;
@@ -172,6 +174,20 @@ impl<'a> Opened<'a> {
         u32_at(self.bytes, self.layout.ignored + 4 * i)
     }
 
+    /// Whether the ignore list has this id of a source.
+    pub(crate) fn has_ignored(&self, id: u32) -> bool
+        requires opened { IsOpened self.now }
+        ensures { IsTrue result ↔ Contains (map (ignored_in self.now.bytes.now self.now.header)
+            (range_with_len 0 self.now.header.ignored)) id }
+    {
+        for i in 0..self.header.ignored {
+            if self.ignored_at(i) == id {
+                return true;
+            }
+        }
+        false
+    }
+
     /// Where a text begins in the last part, or the last one ends.
     #[inline(always)]
     fn offset(&self, t: usize) -> usize
@@ -191,6 +207,18 @@ impl<'a> Opened<'a> {
     {
         let bytes = self.bytes;
         part_between(&bytes[self.layout.texts..], self.offset(t), self.offset(t + 1))
+    }
+
+    /// The text of a source or a name, by its number among all; empty where the bytes have none.
+    pub(crate) fn listed_text(&self, t: usize) -> &'a [u8]
+        requires opened { IsOpened self.now }
+        requires there { t < text_count self.now.header }
+        ensures { result.now ≡ listed_in self.now.bytes.now self.now.header t }
+    {
+        match self.text(t) {
+            Some(text) => text,
+            None => &[],
+        }
     }
 
     /// A text that may be absent, by its number among all.

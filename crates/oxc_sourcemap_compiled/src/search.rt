@@ -1,12 +1,14 @@
 //! Searches by halving: of a line, of a block, and of a token in a block.
 ghost use Rattle.std.specs.Prelude.{◌≡◌, ◌+◌, ◌*◌, ◌/◌, ◌≤◌, ◌<◌, ℕ, true, nat_lt, if◌then◌else◌};
-ghost use Rattle.std.specs.Prelude.{IfSome, IsNone, ◌≢◌};
+ghost use Rattle.std.specs.Prelude.{IfSome, IsNone, ◌≢◌, slice_get};
 ghost use Rattle.oxc_sourcemap_compiled.specs.Words.{IsOpened, IsField, IsCut, DoNotFall, AreRowsExact};
 ghost use Rattle.oxc_sourcemap_compiled.specs.Words.{value_in, column_of, least_column_of, block_count};
-ghost use Rattle.oxc_sourcemap_compiled.specs.Words.{number_in_list, line_in, AreInOrder};
+ghost use Rattle.oxc_sourcemap_compiled.specs.Words.{number_in_list, line_in, AreInOrder, start_in};
+ghost use Rattle.oxc_sourcemap_compiled.specs.Words.{tokens_in, IsTokenAt};
 
 use crate::fields::Field;
 use crate::opened::Opened;
+use oxc_sourcemap_tokens::Token;
 
 /// All binary digits set if x is less than y, else 0.
 fn mask_if_less(x: u32, y: u64) -> usize
@@ -164,6 +166,61 @@ impl<'a> Opened<'a> {
         let k = self.line_cut(line);
         if k < lines && self.line_number(k) == line {
             Some(k)
+        } else {
+            None
+        }
+    }
+}
+
+impl<'a> Opened<'a> {
+    /// How many entries of lines end up to this token, found by halving.
+    #[inline(always)]
+    fn entry_cut(&self, i: usize) -> usize
+        requires opened { IsOpened self.now }
+        ensures within { result ≤ self.now.header.lines }
+        ensures cut { (cut : ℕ) → IsCut (λ k. start_in self.now.bytes.now (k + 1)) (i + 1) 0
+            self.now.header.lines cut → result ≡ cut }
+    {
+        let mut start = 0;
+        let mut size = self.header.lines;
+        while size > 0 {
+            let half = size / 2;
+            let step = size - half;
+            if self.line_start(start + step) <= i {
+                start += step;
+            }
+            size = half;
+        }
+        start
+    }
+
+    /// The line of an entry.
+    #[inline(always)]
+    pub(crate) fn line_of(&self, k: usize) -> u32
+        requires opened { IsOpened self.now }
+        requires there { k < self.now.header.lines }
+        ensures { result ≡ line_in self.now.bytes.now self.now.header k }
+    {
+        if self.header.has_line_numbers {
+            self.line_number(k)
+        } else {
+            k as u32
+        }
+    }
+
+    /// The token at an index; None past the last one, or where lines are not in order and no line has it.
+    pub(crate) fn token(&self, i: usize) -> Option<Token>
+        requires opened { IsOpened self.now }
+        ensures found { AreInOrder self.now.bytes.now self.now.header
+            → result ≡ slice_get (tokens_in self.now.bytes.now self.now.header) i }
+        ensures among { IfSome result (IsTokenAt self.now.bytes.now self.now.header i) }
+    {
+        if i >= self.header.tokens {
+            return None;
+        }
+        let k = self.entry_cut(i);
+        if k < self.header.lines {
+            Some(self.token_on(self.line_of(k), i))
         } else {
             None
         }

@@ -12,4 +12,4 @@ mod opened;
 mod search;
 
 pub use errors::CompiledError;
-pub use map::CompiledMap;
+pub use map::{CompiledMap, CompiledOriginal};

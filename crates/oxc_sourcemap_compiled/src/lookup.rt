@@ -8,9 +8,12 @@ ghost use Rattle.oxc_sourcemap_lookup.specs.Words.{index_before, index_for, clam
 ghost use Rattle.oxc_sourcemap_lookup.specs.Words.{index_after};
 ghost use Rattle.oxc_sourcemap_compiled.specs.Words.{IsOpened, AreRowsExact, AreInOrder, column_of};
 ghost use Rattle.oxc_sourcemap_compiled.specs.Words.{entry_begin, entry_end, entry_tokens, tokens_in};
-ghost use Rattle.oxc_sourcemap_compiled.specs.Words.{IsOnLine, columns_in};
+ghost use Rattle.oxc_sourcemap_compiled.specs.Words.{IsOnLine, IsTokenOn, columns_in};
+ghost use Rattle.oxc_sourcemap_lookup.specs.Words.{token_for, clamped_token_for};
+ghost use Rattle.oxc_sourcemap_lookup.specs.Lookup.{token_after};
 
 use crate::opened::Opened;
+use oxc_sourcemap_tokens::Token;
 
 /// The tokens from one index to before another.
 #[derive(Clone, Copy)]
@@ -168,6 +171,45 @@ impl<'a> Opened<'a> {
     {
         match self.entry(line) {
             Some(k) => self.index_in_after(k, col),
+            None => None,
+        }
+    }
+
+    /// The token that a lookup finds.
+    pub(crate) fn lookup_token(&self, line: u32, col: u32) -> Option<Token>
+        requires opened { IsOpened self.now }
+        ensures found { AreInOrder self.now.bytes.now self.now.header
+            → result ≡ token_for (tokens_in self.now.bytes.now self.now.header) line col }
+        ensures among { IfSome result (IsTokenOn self.now.bytes.now self.now.header line) }
+    {
+        match self.lookup_index(line, col) {
+            Some(i) => Some(self.token_on(line, i)),
+            None => None,
+        }
+    }
+
+    /// The token that a clamped lookup finds.
+    pub(crate) fn lookup_token_clamped(&self, line: u32, col: u32) -> Option<Token>
+        requires opened { IsOpened self.now }
+        ensures found { AreInOrder self.now.bytes.now self.now.header
+            → result ≡ clamped_token_for (tokens_in self.now.bytes.now self.now.header) line col }
+        ensures among { IfSome result (IsTokenOn self.now.bytes.now self.now.header line) }
+    {
+        match self.lookup_index_clamped(line, col) {
+            Some(i) => Some(self.token_on(line, i)),
+            None => None,
+        }
+    }
+
+    /// The token that a lookup from a position on finds.
+    pub(crate) fn lookup_token_after(&self, line: u32, col: u32) -> Option<Token>
+        requires opened { IsOpened self.now }
+        ensures found { AreInOrder self.now.bytes.now self.now.header
+            → result ≡ token_after (tokens_in self.now.bytes.now self.now.header) line col }
+        ensures among { IfSome result (IsTokenOn self.now.bytes.now self.now.header line) }
+    {
+        match self.lookup_index_after(line, col) {
+            Some(i) => Some(self.token_on(line, i)),
             None => None,
         }
     }

@@ -1,5 +1,5 @@
 //! Compiled maps that are opened.
-ghost use Rattle.std.specs.Prelude.{◌≡◌, ◌+◌, ◌*◌, ◌<◌, IfSome, IfOk, IsTrue, ◌↔◌, length, option_map, []};
+ghost use Rattle.std.specs.Prelude.{◌≡◌, ◌+◌, ◌*◌, ◌<◌, IfSome, IfOk, IsTrue, ◌↔◌, length, option_map, [], is_some};
 ghost use Rattle.std.specs.List.{Contains};
 ghost use Rattle.std.specs.Option.{option_and_then, unwrap_or};
 ghost use Rattle.std.specs.Prelude.{slice_get, Some};
@@ -7,6 +7,8 @@ ghost use Rattle.oxc_sourcemap_tokens.specs.Results.{Gives, lent_item};
 ghost use Rattle.oxc_sourcemap_lookup.specs.Words.{index_for, clamped_index_for, index_after};
 ghost use Rattle.oxc_sourcemap_compiled.specs.Words.{compiled_meaning, compiled_in, IsInOrder};
 ghost use Rattle.oxc_sourcemap_compiled.specs.Words.{header_in, IsOnLine, IsTokenAt, IsTokenOn};
+ghost use Rattle.oxc_sourcemap_lookup.specs.Words.{token_for, clamped_token_for};
+ghost use Rattle.oxc_sourcemap_lookup.specs.Lookup.{token_after};
 ghost use Rattle.oxc_sourcemap_compiled.specs.Words.{optional_text, listed_text, utf8_text};
 
 use crate::errors::CompiledError;
@@ -30,6 +32,20 @@ impl<'a> Model for CompiledMap<'a> {
     ghost view = { λ m. m.opened.bytes.now };
 
     ghost invariant = { λ m. IsOpened m.opened };
+}
+
+/// What a token of a compiled map points to: a position in a source (line and column from 0, the column in UTF-16 code
+/// units), and a name where there is one.
+#[derive(Clone, Copy)]
+pub struct CompiledOriginal<'a> {
+    /// The source.
+    pub source: &'a str,
+    /// The line in the source.
+    pub src_line: u32,
+    /// The column in the source.
+    pub src_col: u32,
+    /// The name; None without one, or where its id is past the last name.
+    pub name: Option<&'a str>,
 }
 
 /// Bytes as a text; None if they are not UTF-8.
@@ -93,6 +109,64 @@ impl<'a> CompiledMap<'a> {
         ensures among { IfSome result (IsOnLine self.now (header_in self.now) line) }
     {
         self.opened.lookup_index_after(line, col)
+    }
+
+    /// The token of the index that `lookup_token_index` finds.
+    pub fn lookup_token(&self, line: u32, col: u32) -> Option<Token>
+        ensures found { IsInOrder self.now
+            → result ≡ token_for (compiled_in self.now).content.tokens line col }
+        ensures among { IfSome result (IsTokenOn self.now (header_in self.now) line) }
+    {
+        self.opened.lookup_token(line, col)
+    }
+
+    /// The token of the index that `lookup_token_index_approx` finds.
+    pub fn lookup_token_approx(&self, line: u32, col: u32) -> Option<Token>
+        ensures found { IsInOrder self.now
+            → result ≡ clamped_token_for (compiled_in self.now).content.tokens line col }
+        ensures among { IfSome result (IsTokenOn self.now (header_in self.now) line) }
+    {
+        self.opened.lookup_token_clamped(line, col)
+    }
+
+    /// The token of the index that `lookup_token_index_after` finds.
+    pub fn lookup_token_after(&self, line: u32, col: u32) -> Option<Token>
+        ensures found { IsInOrder self.now
+            → result ≡ token_after (compiled_in self.now).content.tokens line col }
+        ensures among { IfSome result (IsTokenOn self.now (header_in self.now) line) }
+    {
+        self.opened.lookup_token_after(line, col)
+    }
+
+    /// What a token points to, lent from the bytes: the source and its content, and the name. A token without a source, or
+    /// with an id past the last source, points to nothing.
+    pub fn original_of(&self, token: Token) -> Option<CompiledOriginal<'a>>
+        ensures there { IsTrue (is_some result) ↔ IsTrue (is_some (option_and_then
+            (listed_text (compiled_in self.now).content.sources) token.source_id)) }
+        ensures source { IfSome result (λ original. Some original.source.now ≡ option_and_then
+            (listed_text (compiled_in self.now).content.sources) token.source_id) }
+        ensures line { IfSome result (λ original. original.src_line ≡ token.src_line) }
+        ensures column { IfSome result (λ original. original.src_col ≡ token.src_col) }
+        ensures name { IfSome result (λ original. lent_item original.name ≡ option_and_then
+            (listed_text (compiled_in self.now).content.names) token.name_id) }
+    {
+        let source = match token.get_source_id() {
+            Some(id) => self.get_source(id),
+            None => None,
+        };
+        let name = match token.get_name_id() {
+            Some(id) => self.get_name(id),
+            None => None,
+        };
+        match source {
+            Some(source) => Some(CompiledOriginal {
+                source,
+                src_line: token.get_src_line(),
+                src_col: token.get_src_col(),
+                name,
+            }),
+            None => None,
+        }
     }
 
     /// The token at an index; None past the last. Where bytes are not in order, its line is that of some entry, or it is None.

@@ -1,7 +1,9 @@
 mod Blocks
+mod Bytes
 mod Entries
 mod Found
 mod Lines
 mod Ranges
 mod Searches
+mod Slices
 mod Worked

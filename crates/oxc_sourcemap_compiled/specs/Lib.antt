@@ -1,3 +1,4 @@
+pub mod Compiled
 pub mod Cuts
 pub mod Fields
 pub mod Layout

@@ -10,6 +10,8 @@ mod map;
 mod numbers;
 mod opened;
 mod search;
+mod writing;
 
 pub use errors::CompiledError;
+pub use writing::compile;
 pub use map::{CompiledMap, CompiledOriginal};

@@ -1,0 +1,146 @@
+-- The bytes of a compiled map.
+use Rattle.std.specs.Prelude.{◌≡◌, ℕ, zero, suc, ◌+◌, ◌-◌, ◌*◌, ◌/◌, ◌%◌, ◌^◌, ◌<◌, ◌≤◌, List, [], ◌∷◌, ◌++◌, map, take, drop, length}
+use Rattle.std.specs.Prelude.{get_or, slice_get, Option, Some, None, min, sum, if◌then◌else◌, Bool}
+use Rattle.std.specs.List.{flat_map, range_with_len}
+use Rattle.std.specs.Option.{option_and_then, unwrap_or}
+use Rattle.oxc_sourcemap_tokens.specs.Token.{TokenRecord}
+use Rattle.oxc_sourcemap_parts.specs.Record.{MapRecord, Text}
+use Rattle.oxc_sourcemap_parts.specs.Views.{record_of_parts}
+use Rattle.oxc_sourcemap_parts.specs.declared.parts.SourceMapParts.{SourceMapParts}
+use Rattle.oxc_sourcemap_lookup.specs.LineSpans.{count_before_line}
+use Rattle.oxc_sourcemap_compiled.specs.declared.writing.blocks.Packing.{Packing}
+use Rattle.oxc_sourcemap_compiled.specs.declared.writing.blocks.Block.{Block}
+
+-- a number as this many bytes, the lowest first
+unfoldable pub bytes_of : ℕ → ℕ → List ℕ
+bytes_of zero n = []
+bytes_of (suc width) n = n % 256 ∷ bytes_of width (n / 256)
+
+-- numbers of four bytes each
+abbrev pub table : List ℕ → List ℕ
+table numbers = flat_map (bytes_of 4) numbers
+
+-- ---- lines
+-- lines that rise, and that have those of all tokens
+pub record AreLinesOf (tokens : List TokenRecord) (lines : List ℕ) : Type 0 where
+  pub rise : (k : ℕ) → k + 1 < length lines → get_or lines k 0 < get_or lines (k + 1) 0
+  pub each : (i : ℕ) (d : TokenRecord) → i < length tokens → (k : ℕ) × (k < length lines) × (get_or lines k 0 ≡ (get_or tokens i d).dst_line)
+
+-- where the tokens of each line begin, and where all tokens end
+abbrev pub line_starts : List TokenRecord → List ℕ → List ℕ
+line_starts tokens lines = map (λ n. count_before_line n tokens) lines ++ length tokens ∷ []
+
+-- ---- blocks
+-- an id as it is stored: one more, and 0 for none
+abbrev pub id_number : Option ℕ → ℕ
+id_number None = 0
+id_number (Some n) = n + 1
+
+-- a field of a token, by its number
+abbrev pub field_number : ℕ → TokenRecord → ℕ
+field_number zero t = t.dst_col
+field_number (suc zero) t = id_number t.source_id
+field_number (suc (suc zero)) t = t.src_line
+field_number (suc (suc (suc zero))) t = t.src_col
+field_number (suc (suc (suc (suc k)))) t = id_number t.name_id
+
+-- How a field of these tokens is written: from each value the least one is taken, which one of the tokens has, and what is left
+-- fits into the bits of the width.
+pub record IsPacked (k : ℕ) (tokens : List TokenRecord) (p : Packing) : Type 0 where
+  pub width : p.width ≤ 16
+  pub least : (i : ℕ) (d : TokenRecord) → i < length tokens → p.least ≤ field_number k (get_or tokens i d)
+  pub fits : (i : ℕ) (d : TokenRecord) → i < length tokens → field_number k (get_or tokens i d) - p.least < 2 ^ (2 * p.width)
+  pub reached : (d : TokenRecord) → (i : ℕ) × (i < length tokens) × (p.least ≡ field_number k (get_or tokens i d))
+
+-- how all fields of these tokens are written
+pub record ArePacked (tokens : List TokenRecord) (b : Block) : Type 0 where
+  pub column : IsPacked 0 tokens b.column
+  pub source : IsPacked 1 tokens b.source
+  pub src_line : IsPacked 2 tokens b.src_line
+  pub src_col : IsPacked 3 tokens b.src_col
+  pub name : IsPacked 4 tokens b.name
+
+-- the blocks of tokens, 64 in each but for the last
+pub record AreBlocksOf (tokens : List TokenRecord) (blocks : List Block) : Type 0 where
+  pub count : length blocks ≡ (length tokens + 63) / 64
+  pub each : (b : ℕ) (d : Block) → b < length blocks → ArePacked (take 64 (drop (64 * b) tokens)) (get_or blocks b d)
+
+-- how the fields of a block are written, in the order of their numbers
+abbrev pub packings : Block → List Packing
+packings b = b.column ∷ b.source ∷ b.src_line ∷ b.src_col ∷ b.name ∷ []
+
+abbrev pub widths_of : Block → List ℕ
+widths_of b = b.column.width ∷ b.source.width ∷ b.src_line.width ∷ b.src_col.width ∷ b.name.width ∷ []
+
+-- how many bytes a group of a block takes
+abbrev pub stride_of : Block → ℕ
+stride_of b = b.column.width + b.source.width + b.src_line.width + b.src_col.width + b.name.width
+
+-- how many bytes the groups of blocks take: sixteen in each but for the last, and this many in all
+abbrev pub group_bytes_of : ℕ → List Block → ℕ
+group_bytes_of groups [] = 0
+group_bytes_of groups (b ∷ bs) = min groups 16 * stride_of b + group_bytes_of (groups - 16) bs
+
+-- the row of a block
+abbrev pub row_of : ℕ → Block → List ℕ
+row_of place b = bytes_of 4 place ++ bytes_of 4 b.column.least ++ bytes_of 4 b.source.least ++ bytes_of 4 b.src_line.least
+    ++ bytes_of 4 b.src_col.least ++ bytes_of 4 b.name.least ++ widths_of b
+
+-- the rows of blocks whose groups begin at this place, this many in all
+abbrev pub rows_of : ℕ → ℕ → List Block → List ℕ
+rows_of place groups [] = []
+rows_of place groups (b ∷ bs) = row_of place b ++ rows_of (place + min groups 16 * stride_of b) (groups - 16) bs
+
+-- what is written of a field in a token; 0 where there is none
+abbrev pub above_in : ℕ → Packing → Option TokenRecord → ℕ
+above_in k p None = 0
+above_in k p (Some t) = field_number k t - p.least
+
+-- four numbers in one, the first lowest, each below this factor
+abbrev pub four_in : ℕ → ℕ → ℕ → ℕ → ℕ → ℕ
+four_in factor a b c d = a + factor * (b + factor * (c + factor * d))
+
+-- the values of a field in up to four tokens, in one number, the first token's lowest
+abbrev pub packed : ℕ → Packing → List TokenRecord → ℕ
+packed k p ts = four_in (2 ^ (2 * p.width)) (above_in k p (slice_get ts 0)) (above_in k p (slice_get ts 1)) (above_in k p (slice_get ts 2)) (above_in k p (slice_get ts 3))
+
+-- all widths of a block are those of numbers of 32 bits
+pub record AreNarrow (b : Block) : Type 0 where
+  pub column : b.column.width ≤ 16
+  pub source : b.source.width ≤ 16
+  pub src_line : b.src_line.width ≤ 16
+  pub src_col : b.src_col.width ≤ 16
+  pub name : b.name.width ≤ 16
+
+-- the bytes of a group of tokens
+abbrev pub group_of : Block → List TokenRecord → List ℕ
+group_of b ts = bytes_of b.column.width (packed 0 b.column ts) ++ bytes_of b.source.width (packed 1 b.source ts)
+    ++ bytes_of b.src_line.width (packed 2 b.src_line ts) ++ bytes_of b.src_col.width (packed 3 b.src_col ts)
+    ++ bytes_of b.name.width (packed 4 b.name ts)
+
+-- a block, for reads past the end
+abbrev pub no_packing : Packing
+no_packing = record { least = 0; width = 0 }
+
+abbrev pub no_block : Block
+no_block = record { column = no_packing; source = no_packing; src_line = no_packing; src_col = no_packing; name = no_packing }
+
+-- the groups of all tokens
+abbrev pub groups_of : List Block → List TokenRecord → List ℕ
+groups_of blocks tokens =
+    flat_map (λ g. group_of (get_or blocks (g / 16) no_block) (take 4 (drop (4 * g) tokens))) (range_with_len 0 ((length tokens + 3) / 4))
+
+-- ---- the whole
+-- the entries of the ignore list; none where there is no list
+abbrev pub ignored_of : MapRecord → List ℕ
+ignored_of r = unwrap_or r.ignore_list []
+
+-- all that a header counts of a map has 32 bits
+pub record AreSmall (r : MapRecord) : Type 0 where
+  pub tokens : length r.tokens ≤ 4294967295
+  pub sources : length r.sources ≤ 4294967295
+  pub names : length r.names ≤ 4294967295
+  pub ignored : length (ignored_of r) ≤ 4294967295
+
+abbrev pub AreCountsOf : SourceMapParts → Type 0
+AreCountsOf parts = AreSmall (record_of_parts parts)

@@ -3,6 +3,7 @@ mod Bytes
 mod Entries
 mod Found
 mod Lines
+mod Listings
 mod Ranges
 mod Searches
 mod Slices

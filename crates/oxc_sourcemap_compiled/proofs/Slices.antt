@@ -1,6 +1,9 @@
 -- Parts of lists, and what holds of their elements.
 use Rattle.std.proofs.Common.{◌≡◌, ℕ, zero, suc, ◌+◌, ◌-◌, ◌*◌, ◌/◌, ◌<◌, ◌≤◌, Bool, true, false, List, [], ◌∷◌, ◌++◌, take, drop, length, get_or, nat_lt, min}
-use Rattle.std.proofs.Common.{refl, sym, ap, ◌∙◌, arith, subst, length-drop, ◌⊎◌, inl, inr, Some, append-nil}
+use Rattle.std.proofs.Common.{refl, sym, ap, ◌∙◌, arith, subst, length-drop, ◌⊎◌, inl, inr, Some, append-nil, append_assoc, map}
+use Rattle.std.proofs.lemmas.List.FromFn.{map-range_with_len_more}
+use Rattle.oxc_sourcemap_parts.specs.Record.{MapRecord}
+use Rattle.oxc_sourcemap_compiled.specs.Compiled.{table, bytes_of, text_offset, stored_text}
 use Rattle.std.proofs.lemmas.List.{take_all, get_or_append_left, get_or-append-add}
 use Rattle.std.proofs.lemmas.Option.{slice_get-get_or}
 use Rattle.std.specs.List.{range_with_len, flat_map}
@@ -79,3 +82,32 @@ line-below ts i d sorted h =
     let end = last_at ts ∙ slice_get-get_or ts n d (omega (arith, h)) in
     let through : lines_through (last ts) ≡ (get_or ts n d).dst_line + 1 = ap lines_through end in
     omega (arith, through, lines-rise ts (sorted_in_order ts sorted) i n d (omega (arith, h)) (omega (arith, h)))
+
+-- a table of one number more
+pub table-more : (f : ℕ → ℕ) (n : ℕ) → table (map f (range_with_len 0 (n + 1))) ≡ table (map f (range_with_len 0 n)) ++ bytes_of 4 (f n)
+table-more f n =
+    let zero_plus : 0 + n ≡ n = omega arith in
+    ap table (map-range_with_len_more f 0 n n zero_plus) ∙ flat_map-append (bytes_of 4) (map f (range_with_len 0 n)) (f n ∷ []) ∙ ap (λ xs. table (map f (range_with_len 0 n)) ++ xs) (append-nil (bytes_of 4 (f n)))
+
+-- one part appended after another
+pub appended : {A : Type 0} (o p q a b : List A) → p ≡ o ++ a → q ≡ p ++ b → q ≡ o ++ (a ++ b)
+appended o p q a b first second = second ∙ ap (λ xs. xs ++ b) first ∙ append_assoc o a b
+
+-- texts begin one after the other
+offsets-by : (d t : ℕ) (r : MapRecord) → text_offset r t ≤ text_offset r (t + d)
+offsets-by zero t r =
+    let same : t + 0 ≡ t = omega arith in
+    omega (arith, ap (text_offset r) same)
+offsets-by (suc d) t r =
+    let next : t + suc d ≡ suc (t + d) = omega arith in
+    omega (arith, offsets-by d t r, ap (text_offset r) next)
+
+pub offsets-grow : (r : MapRecord) (t n : ℕ) → t ≤ n → text_offset r t ≤ text_offset r n
+offsets-grow r t n h =
+    let gap : t + (n - t) ≡ n = omega (arith, h) in
+    omega (arith, offsets-by (n - t) t r, ap (text_offset r) gap)
+
+pub offset-next : (r : MapRecord) (t : ℕ) → text_offset r (t + 1) ≡ text_offset r t + length (stored_text r t)
+offset-next r t =
+    let next : t + 1 ≡ suc t = omega arith in
+    ap (text_offset r) next

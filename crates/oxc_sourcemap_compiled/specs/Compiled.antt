@@ -1,6 +1,6 @@
 -- The bytes of a compiled map.
 use Rattle.std.specs.Prelude.{◌≡◌, ℕ, zero, suc, ◌+◌, ◌-◌, ◌*◌, ◌/◌, ◌%◌, ◌^◌, ◌<◌, ◌≤◌, List, [], ◌∷◌, ◌++◌, map, take, drop, length}
-use Rattle.std.specs.Prelude.{get_or, slice_get, Option, Some, None, min, sum, if◌then◌else◌, Bool}
+use Rattle.std.specs.Prelude.{get_or, slice_get, Option, Some, None, min, sum, if◌then◌else◌, Bool, true, false, is_some, nat_lt, ◌==◌}
 use Rattle.std.specs.List.{flat_map, range_with_len}
 use Rattle.std.specs.Option.{option_and_then, unwrap_or}
 use Rattle.oxc_sourcemap_tokens.specs.Token.{TokenRecord}
@@ -8,6 +8,9 @@ use Rattle.oxc_sourcemap_parts.specs.Record.{MapRecord, Text}
 use Rattle.oxc_sourcemap_parts.specs.Views.{record_of_parts}
 use Rattle.oxc_sourcemap_parts.specs.declared.parts.SourceMapParts.{SourceMapParts}
 use Rattle.oxc_sourcemap_lookup.specs.LineSpans.{count_before_line}
+use Rattle.oxc_sourcemap_parts.specs.Sorted.{are_tokens_sorted}
+use Rattle.oxc_sourcemap_compiled.specs.Layout.{texts_base}
+use Rattle.oxc_sourcemap_compiled.specs.declared.layout.Header.{Header}
 use Rattle.oxc_sourcemap_compiled.specs.declared.writing.blocks.Packing.{Packing}
 use Rattle.oxc_sourcemap_compiled.specs.declared.writing.blocks.Block.{Block}
 
@@ -130,6 +133,37 @@ abbrev pub groups_of : List Block → List TokenRecord → List ℕ
 groups_of blocks tokens =
     flat_map (λ g. group_of (get_or blocks (g / 16) no_block) (take 4 (drop (4 * g) tokens))) (range_with_len 0 ((length tokens + 3) / 4))
 
+-- ---- texts
+-- a text that may be absent, with one byte in front of it where it is there
+abbrev pub marked : Option Text → Text
+marked None = []
+marked (Some text) = 1 ∷ text
+
+-- the content that is listed for a source
+abbrev pub content_at : List (Option Text) → ℕ → Option Text
+content_at contents i = option_and_then (λ text. text) (slice_get contents i)
+
+-- how many texts are stored: sources, contents, names, file, source root and debug id
+abbrev pub stored_count : MapRecord → ℕ
+stored_count r = 2 * length r.sources + length r.names + 3
+
+-- a text as it is stored, by its number among all
+unfoldable pub stored_text : MapRecord → ℕ → Text
+stored_text r t =
+    let sources = length r.sources in
+    let names = length r.names in
+    if nat_lt t sources then unwrap_or (slice_get r.sources t) []
+    else if nat_lt t (2 * sources) then marked (content_at r.source_contents (t - sources))
+    else if nat_lt t (2 * sources + names) then unwrap_or (slice_get r.names (t - 2 * sources)) []
+    else if t == 2 * sources + names then marked r.file
+    else if t == 2 * sources + names + 1 then marked r.source_root
+    else marked r.debug_id
+
+-- where a text begins among all
+abbrev pub text_offset : MapRecord → ℕ → ℕ
+text_offset r zero = 0
+text_offset r (suc t) = text_offset r t + length (stored_text r t)
+
 -- ---- the whole
 -- the entries of the ignore list; none where there is no list
 abbrev pub ignored_of : MapRecord → List ℕ
@@ -144,3 +178,59 @@ pub record AreSmall (r : MapRecord) : Type 0 where
 
 abbrev pub AreCountsOf : SourceMapParts → Type 0
 AreCountsOf parts = AreSmall (record_of_parts parts)
+
+-- 1 for true, 0 for false
+abbrev pub flag_of : Bool → ℕ
+flag_of true = 1
+flag_of false = 0
+
+-- the header of a compiled map of this length
+abbrev pub header_bytes : Header → ℕ → ℕ → List ℕ → List ℕ
+header_bytes h length text_length stamp =
+    bytes_of 4 1885433203 ++ bytes_of 4 1 ++ bytes_of 8 length ++ bytes_of 8 text_length ++ stamp ++ bytes_of 4 h.tokens
+    ++ bytes_of 4 h.lines ++ bytes_of 4 h.sources ++ bytes_of 4 h.names ++ bytes_of 4 h.ignored ++ bytes_of 4 (flag_of h.has_ignore_list)
+    ++ bytes_of 4 (flag_of h.has_line_numbers) ++ bytes_of 4 h.group_bytes
+
+-- the numbers of lines, where they are listed
+abbrev pub listed_table : Bool → List ℕ → List ℕ
+listed_table true lines = table lines
+listed_table false lines = []
+
+-- the parts behind the header
+abbrev pub parts_bytes : MapRecord → List ℕ → Bool → List Block → List ℕ
+parts_bytes r lines listed blocks =
+    table (line_starts r.tokens lines) ++ rows_of 0 ((length r.tokens + 3) / 4) blocks ++ table (ignored_of r)
+    ++ table (map (text_offset r) (range_with_len 0 (stored_count r + 1))) ++ listed_table listed lines ++ groups_of blocks r.tokens
+    ++ flat_map (stored_text r) (range_with_len 0 (stored_count r)) ++ bytes_of 16 0
+
+-- what the header of a map counts
+abbrev pub header_of_map : MapRecord → List ℕ → Bool → List Block → Header
+header_of_map r lines listed blocks = record {
+  tokens = length r.tokens;
+  lines = length lines;
+  sources = length r.sources;
+  names = length r.names;
+  ignored = length (ignored_of r);
+  has_ignore_list = is_some r.ignore_list;
+  has_line_numbers = listed;
+  group_bytes = group_bytes_of ((length r.tokens + 3) / 4) blocks;
+}
+
+-- how long the compiled map of a map is
+abbrev pub compiled_length : MapRecord → List ℕ → Bool → List Block → ℕ
+compiled_length r lines listed blocks = texts_base (header_of_map r lines listed blocks) + text_offset r (stored_count r) + 16
+
+-- The bytes are those of a map, with some lines and blocks of its tokens.
+pub record AreBytesOf (r : MapRecord) (text_length : ℕ) (stamp bytes : List ℕ) : Type 0 where
+  pub lines : List ℕ
+  pub listed : Bool
+  pub blocks : List Block
+  pub small : AreSmall r
+  pub sorted : are_tokens_sorted r.tokens ≡ true
+  pub lines_of : AreLinesOf r.tokens lines
+  pub few_lines : length lines ≤ 4294967295
+  pub all_listed : listed ≡ false → (k : ℕ) → k < length lines → get_or lines k 0 ≡ k
+  pub blocks_of : AreBlocksOf r.tokens blocks
+  pub few_groups : group_bytes_of ((length r.tokens + 3) / 4) blocks ≤ 4294967295
+  pub few_texts : text_offset r (stored_count r) ≤ 4294967295
+  pub are : bytes ≡ header_bytes (header_of_map r lines listed blocks) (compiled_length r lines listed blocks) text_length stamp ++ parts_bytes r lines listed blocks

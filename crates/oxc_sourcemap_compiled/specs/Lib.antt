@@ -8,3 +8,4 @@ pub mod Numbers
 pub mod Opened
 pub mod Order
 pub mod Words
+pub mod Stored

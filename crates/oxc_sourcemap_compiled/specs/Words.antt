@@ -3,7 +3,11 @@ pub use Rattle.oxc_sourcemap_compiled.specs.Compiled.{bytes_of, table, AreLinesO
 pub use Rattle.oxc_sourcemap_compiled.specs.Compiled.{id_number, field_number, IsPacked, ArePacked}
 pub use Rattle.oxc_sourcemap_compiled.specs.Compiled.{AreBlocksOf, stride_of, group_bytes_of, row_of}
 pub use Rattle.oxc_sourcemap_compiled.specs.Compiled.{rows_of, packed, group_of, above_in, AreNarrow}
-pub use Rattle.oxc_sourcemap_compiled.specs.Compiled.{groups_of, ignored_of, AreCountsOf}
+pub use Rattle.oxc_sourcemap_compiled.specs.Compiled.{groups_of, ignored_of, AreCountsOf, stored_text}
+pub use Rattle.oxc_sourcemap_compiled.specs.Compiled.{stored_count, text_offset, header_bytes}
+pub use Rattle.oxc_sourcemap_compiled.specs.Compiled.{parts_bytes, header_of_map, AreBytesOf}
+pub use Rattle.oxc_sourcemap_compiled.specs.Compiled.{listed_table, content_at, compiled_length}
+pub use Rattle.oxc_sourcemap_compiled.specs.Stored.{stored_bytes}
 pub use Rattle.oxc_sourcemap_compiled.specs.Cuts.{IsCut, DoNotFall}
 pub use Rattle.oxc_sourcemap_compiled.specs.Fields.{IsField, value_in, field_in, value_of}
 pub use Rattle.oxc_sourcemap_compiled.specs.Layout.{header_in, layout_in, AreCounts, HasParts}

@@ -1,0 +1,4 @@
+use Rattle.oxc_sourcemap_compiled.proofs.writing.push_header.Goals as goal
+
+pub returns : goal.returns
+returns c = ?

@@ -187,9 +187,9 @@ flag_of false = 0
 -- the header of a compiled map of this length
 abbrev pub header_bytes : Header → ℕ → ℕ → List ℕ → List ℕ
 header_bytes h length text_length stamp =
-    bytes_of 4 1885433203 ++ bytes_of 4 1 ++ bytes_of 8 length ++ bytes_of 8 text_length ++ stamp ++ bytes_of 4 h.tokens
-    ++ bytes_of 4 h.lines ++ bytes_of 4 h.sources ++ bytes_of 4 h.names ++ bytes_of 4 h.ignored ++ bytes_of 4 (flag_of h.has_ignore_list)
-    ++ bytes_of 4 (flag_of h.has_line_numbers) ++ bytes_of 4 h.group_bytes
+    bytes_of 4 1885433203 ++ (bytes_of 4 1 ++ (bytes_of 8 length ++ (bytes_of 8 text_length ++ (stamp ++ (bytes_of 4 h.tokens
+    ++ (bytes_of 4 h.lines ++ (bytes_of 4 h.sources ++ (bytes_of 4 h.names ++ (bytes_of 4 h.ignored ++ (bytes_of 4 (flag_of h.has_ignore_list)
+    ++ (bytes_of 4 (flag_of h.has_line_numbers) ++ bytes_of 4 h.group_bytes)))))))))))
 
 -- the numbers of lines, where they are listed
 abbrev pub listed_table : Bool → List ℕ → List ℕ
@@ -199,9 +199,9 @@ listed_table false lines = []
 -- the parts behind the header
 abbrev pub parts_bytes : MapRecord → List ℕ → Bool → List Block → List ℕ
 parts_bytes r lines listed blocks =
-    table (line_starts r.tokens lines) ++ rows_of 0 ((length r.tokens + 3) / 4) blocks ++ table (ignored_of r)
-    ++ table (map (text_offset r) (range_with_len 0 (stored_count r + 1))) ++ listed_table listed lines ++ groups_of blocks r.tokens
-    ++ flat_map (stored_text r) (range_with_len 0 (stored_count r)) ++ bytes_of 16 0
+    table (line_starts r.tokens lines) ++ (rows_of 0 ((length r.tokens + 3) / 4) blocks ++ (table (ignored_of r)
+    ++ (table (map (text_offset r) (range_with_len 0 (stored_count r + 1))) ++ (listed_table listed lines ++ (groups_of blocks r.tokens
+    ++ (flat_map (stored_text r) (range_with_len 0 (stored_count r)) ++ bytes_of 16 0))))))
 
 -- what the header of a map counts
 abbrev pub header_of_map : MapRecord → List ℕ → Bool → List Block → Header
@@ -220,6 +220,11 @@ header_of_map r lines listed blocks = record {
 abbrev pub compiled_length : MapRecord → List ℕ → Bool → List Block → ℕ
 compiled_length r lines listed blocks = texts_base (header_of_map r lines listed blocks) + text_offset r (stored_count r) + 16
 
+-- the bytes of a map, with these lines and blocks
+abbrev pub map_bytes : MapRecord → List ℕ → Bool → List Block → ℕ → List ℕ → List ℕ
+map_bytes r lines listed blocks text_length stamp =
+    header_bytes (header_of_map r lines listed blocks) (compiled_length r lines listed blocks) text_length stamp ++ parts_bytes r lines listed blocks
+
 -- The bytes are those of a map, with some lines and blocks of its tokens.
 pub record AreBytesOf (r : MapRecord) (text_length : ℕ) (stamp bytes : List ℕ) : Type 0 where
   pub lines : List ℕ
@@ -233,4 +238,4 @@ pub record AreBytesOf (r : MapRecord) (text_length : ℕ) (stamp bytes : List �
   pub blocks_of : AreBlocksOf r.tokens blocks
   pub few_groups : group_bytes_of ((length r.tokens + 3) / 4) blocks ≤ 4294967295
   pub few_texts : text_offset r (stored_count r) ≤ 4294967295
-  pub are : bytes ≡ header_bytes (header_of_map r lines listed blocks) (compiled_length r lines listed blocks) text_length stamp ++ parts_bytes r lines listed blocks
+  pub are : bytes ≡ map_bytes r lines listed blocks text_length stamp

@@ -8,7 +8,10 @@ ghost use Rattle.oxc_sourcemap_tokens.specs.declared.errors.plan_error.PlanError
 ghost use Rattle.oxc_sourcemap_parts.specs.Words.{are_tokens_sorted, record_of_parts};
 ghost use Rattle.oxc_sourcemap_compiled.specs.Words.{AreLinesOf, AreBlocksOf, AreCountsOf};
 ghost use Rattle.oxc_sourcemap_compiled.specs.Words.{AreBytesOf, ignored_of, header_bytes};
-ghost use Rattle.oxc_sourcemap_compiled.specs.Words.{parts_bytes, stored_count, text_offset};
+ghost use Rattle.oxc_sourcemap_compiled.specs.Words.{parts_bytes, stored_count, text_offset, header_of_map};
+ghost use Rattle.oxc_sourcemap_compiled.specs.Words.{group_bytes_of};
+ghost use Rattle.oxc_sourcemap_compiled.specs.Compiled.{map_bytes};
+ghost use Rattle.std.specs.Prelude.{◌+◌, ◌/◌};
 ghost use Rattle.oxc_sourcemap_compiled.specs.Compiled.{flag_of, listed_table};
 
 mod blocks;
@@ -65,7 +68,8 @@ fn push_header(
     push_u32(out, header.ignored)?;
     push_u32(out, flag(header.has_ignore_list))?;
     push_u32(out, flag(header.has_line_numbers))?;
-    push_u32(out, header.group_bytes)
+    push_u32(out, header.group_bytes)?;
+    Ok(())
 }
 
 /// Whether something is counted that does not fit into 32 bits.
@@ -133,7 +137,67 @@ fn push_parts(
     push_listed(out, lines, has_line_numbers)?;
     push_groups(out, blocks, tokens)?;
     push_texts(out, parts)?;
-    push_number(out, 0, 16)
+    push_number(out, 0, 16)?;
+    Ok(())
+}
+
+/// What is made of the parts of a map before they are written.
+#[derive(Clone, Copy)]
+struct Made<'m> {
+    lines: &'m [u32],
+    has_line_numbers: bool,
+    blocks: &'m [Block],
+    group_bytes: usize,
+    text_bytes: usize,
+}
+
+/// The header of a compiled map.
+fn header_for(parts: &SourceMapParts<'_>, made: Made<'_>) -> Header
+    requires { made.group_bytes ≡ group_bytes_of
+        ((length (record_of_parts parts.now).tokens + 3) / 4) made.blocks.now }
+    ensures { result ≡ header_of_map (record_of_parts parts.now) made.entry.lines.now
+        made.entry.has_line_numbers made.entry.blocks.now }
+{
+    Header {
+        tokens: parts.tokens.as_slice().len(),
+        lines: made.lines.len(),
+        sources: parts.sources.len(),
+        names: parts.names.len(),
+        ignored: ignored_ids(parts).len(),
+        has_ignore_list: parts.ignore_list.is_some(),
+        has_line_numbers: made.has_line_numbers,
+        group_bytes: made.group_bytes,
+    }
+}
+
+/// The bytes of a map.
+fn write_map(
+    alloc: Global,
+    parts: &SourceMapParts<'_>,
+    made: Made<'_>,
+    text_length: u64,
+    stamp: &[u8; 32],
+) -> Memory<Vec<u8>>
+    requires sorted { are_tokens_sorted (record_of_parts parts.now).tokens ≡ true }
+    requires small { AreCountsOf parts.now }
+    requires few_lines { length made.lines.now ≤ 4294967295 }
+    requires few_groups { made.group_bytes ≤ 4294967295 }
+    requires few_texts { made.text_bytes ≤ 4294967295 }
+    requires blocks { AreBlocksOf (record_of_parts parts.now).tokens made.blocks.now }
+    requires group_bytes { made.group_bytes ≡ group_bytes_of
+        ((length (record_of_parts parts.now).tokens + 3) / 4) made.blocks.now }
+    requires text_bytes { made.text_bytes ≡ text_offset (record_of_parts parts.now)
+        (stored_count (record_of_parts parts.now)) }
+    ensures { IfOk result (λ bytes. bytes.items ≡ map_bytes (record_of_parts parts.now)
+        made.entry.lines.now made.entry.has_line_numbers made.entry.blocks.now text_length
+        stamp.now) }
+{
+    let header = header_for(parts, made);
+    let length = layout_of(&header).texts + made.text_bytes + 16;
+    let mut out = Vec::with_capacity(alloc, length)?;
+    push_header(&mut out, &header, length as u64, text_length, stamp)?;
+    push_parts(&mut out, parts, made.lines, made.has_line_numbers, made.blocks)?;
+    Ok(out)
 }
 
 /// The compiled map of these parts, whose text had `text_length` bytes (0 if there was none), with 32 bytes that are kept as they
@@ -169,19 +233,18 @@ pub fn compile(
     if group_bytes > 4294967295 || text_bytes > 4294967295 {
         return Err(PlanError::Map(Error::TooLarge));
     }
-    let header = Header {
-        tokens: tokens.len(),
-        lines: lines.len(),
-        sources: parts.sources.len(),
-        names: parts.names.len(),
-        ignored: ignored_ids(parts).len(),
-        has_ignore_list: parts.ignore_list.is_some(),
-        has_line_numbers,
-        group_bytes,
-    };
-    let length = layout_of(&header).texts + text_bytes + 16;
-    let mut out = Vec::with_capacity(alloc, length)?;
-    push_header(&mut out, &header, length as u64, text_length, stamp)?;
-    push_parts(&mut out, parts, lines.as_slice(), has_line_numbers, blocks.as_slice())?;
-    Ok(out)
+    let made = write_map(
+        alloc,
+        parts,
+        Made {
+            lines: lines.as_slice(),
+            has_line_numbers,
+            blocks: blocks.as_slice(),
+            group_bytes,
+            text_bytes,
+        },
+        text_length,
+        stamp,
+    )?;
+    Ok(made)
 }

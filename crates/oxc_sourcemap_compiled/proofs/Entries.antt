@@ -130,6 +130,7 @@ module _ (bytes : List ℕ) (h : Header) (order : AreInOrder bytes h) where
   entries-on j k zero low high within = absurd (omega (arith, low, high))
   entries-on j k (suc m) low high within =
       entries-on-by (nat_lt k j) j k m refl low high within (λ lt. entries-on j (k + 1) m (omega (arith, lt)) (omega (arith, high)) (omega (arith, within)))
+
   entries-before-by : (b : Bool) (j k m : ℕ) → nat_lt k j ≡ b → k ≤ j → j < k + suc m → k + suc m ≤ h.lines
       → (k < j → start_in bytes (k + 1) + count_before_line (line_in bytes h j) (from_entry (k + 1) m) ≡ start_in bytes j)
       → start_in bytes k + count_before_line (line_in bytes h j) (from_entry k (suc m)) ≡ start_in bytes j
@@ -139,7 +140,7 @@ module _ (bytes : List ℕ) (h : Header) (order : AreInOrder bytes h) where
       let lt : k < j = grind (arith, e) in
       let numbers = range_with_len (entry_begin bytes h k) (entry_end bytes h k - entry_begin bytes h k) in
       let count : count_before_line n (from_entry k (suc m)) ≡ length (entry_tokens bytes h k) + count_before_line n (from_entry (k + 1) m) =
-          counts-made n line (token_in bytes h line) numbers (from_entry (k + 1) m) (lines-differ k j lt (omega (arith, high, within))) (made-on bytes h line) in
+      counts-made n line (token_in bytes h line) numbers (from_entry (k + 1) m) (lines-differ k j lt (omega (arith, high, within))) (made-on bytes h line) in
       omega (arith, count, more lt, entry-length k (omega (arith, within)))
   entries-before-by false j k m e low high within more =
       let n = line_in bytes h j in
@@ -163,7 +164,7 @@ module _ (bytes : List ℕ) (h : Header) (order : AreInOrder bytes h) where
   from-entry j there F =
       let on = entries-on j 0 h.lines (omega arith) (omega (arith, there)) (omega arith) in
       let count : entry_begin bytes h j ≡ count_before_line (line_in bytes h j) (tokens_in bytes h) =
-          omega (arith, begin-is j there, entries-before j 0 h.lines (omega arith) (omega (arith, there)) (omega arith), order.first) in
+      omega (arith, begin-is j there, entries-before j 0 h.lines (omega arith) (omega (arith, there)) (omega arith), order.first) in
       ap (λ s. option_map (λ i. s + i) (F (entry_tokens bytes h j))) count ∙ ap (λ ts. from_line (line_in bytes h j) (tokens_in bytes h) (F ts)) (sym on)
 
   pub found-in : (j col n : ℕ) → j < h.lines → line_in bytes h j ≡ n → option_map (λ i. entry_begin bytes h j + i) (index_at (entry_tokens bytes h j) col) ≡ index_for (tokens_in bytes h) n col
@@ -195,7 +196,7 @@ module _ (bytes : List ℕ) (h : Header) (order : AreInOrder bytes h) where
 
   -- ---- tokens by their index
   pub entries-length : (k m : ℕ) → k + m ≤ h.lines → start_in bytes k + length (from_entry k m) ≡ start_in bytes (k + m)
-  entries-length k zero within = 
+  entries-length k zero within =
       let same : k ≡ k + 0 = omega arith in
       omega (arith, ap (start_in bytes) same)
   entries-length k (suc m) within =
@@ -218,9 +219,11 @@ module _ (bytes : List ℕ) (h : Header) (order : AreInOrder bytes h) where
       let start = more less in
       let up = order.starts k (omega (arith, within)) in
       let n = length (entry_tokens bytes h k) in
-      let rest : i - start_in bytes k - n ≡ i - start_in bytes (k + 1) = omega (arith, size) in
-      (omega (arith, start.0, up), get_or-append_right (entry_tokens bytes h k) (from_entry (k + 1) m) n (i - start_in bytes k) d refl (omega (arith, size, start.0))
-      ∙ ap (λ n. get_or (from_entry (k + 1) m) n d) rest ∙ start.1)
+      let rest : i - start_in bytes k - n ≡ i - start_in bytes (k + 1) = omega (arith, size) in (
+        omega (arith, start.0, up),
+        get_or-append_right (entry_tokens bytes h k) (from_entry (k + 1) m) n (i - start_in bytes k) d refl (omega (arith, size, start.0))
+            ∙ ap (λ n. get_or (from_entry (k + 1) m) n d) rest ∙ start.1,
+      )
   entry-token-by false j k m i d e low high within le lt more =
       let same : k ≡ j = grind (arith, e, low) in
       let starts = ap (start_in bytes) same in
@@ -230,10 +233,12 @@ module _ (bytes : List ℕ) (h : Header) (order : AreInOrder bytes h) where
       let reached : start_in bytes k ≤ i = omega (arith, le, starts) in
       let here : i - start_in bytes k < length (entry_tokens bytes h k) = omega (arith, lt, next, size, reached) in
       let count = length-map-range_with_len (token_in bytes h (line_in bytes h k)) (entry_begin bytes h k) (entry_end bytes h k - entry_begin bytes h k) in
-      let at : entry_begin bytes h k + (i - start_in bytes k) ≡ i = omega (arith, begin-is k there, reached) in
-      (reached, get_or_append_left (entry_tokens bytes h k) (from_entry (k + 1) m) d (i - start_in bytes k) here
-      ∙ get_or-map-range_with_len (token_in bytes h (line_in bytes h k)) (entry_begin bytes h k) (entry_end bytes h k - entry_begin bytes h k) (i - start_in bytes k) i d (omega (arith, here, count)) at
-      ∙ ap (λ n. token_in bytes h (line_in bytes h n) i) same)
+      let at : entry_begin bytes h k + (i - start_in bytes k) ≡ i = omega (arith, begin-is k there, reached) in (
+        reached,
+        get_or_append_left (entry_tokens bytes h k) (from_entry (k + 1) m) d (i - start_in bytes k) here
+            ∙ get_or-map-range_with_len (token_in bytes h (line_in bytes h k)) (entry_begin bytes h k) (entry_end bytes h k - entry_begin bytes h k) (i - start_in bytes k) i d (omega (arith, here, count)) at
+            ∙ ap (λ n. token_in bytes h (line_in bytes h n) i) same,
+      )
 
   entry-token : (j k m i : ℕ) (d : TokenRecord) → k ≤ j → j < k + m → k + m ≤ h.lines → start_in bytes j ≤ i → i < start_in bytes (j + 1)
       → (start_in bytes k ≤ i) × (get_or (from_entry k m) (i - start_in bytes k) d ≡ token_in bytes h (line_in bytes h j) i)

@@ -1,11 +1,11 @@
 -- The token that a lookup finds is that of the index that it finds.
-use Rattle.std.proofs.Common.{◌≡◌, ℕ, zero, suc, ◌+◌, Bool, true, false, List, [], ◌∷◌, map, filter, drop, length, slice_get, nat_le, ◌==◌}
-use Rattle.std.proofs.Common.{Option, Some, None, option_map, IfSome, refl, sym, ap, ◌∙◌, arith, if◌then◌else◌, min, max}
+use Rattle.std.proofs.Common.{◌≡◌, ℕ, suc, ◌+◌, Bool, true, false, List, [], ◌∷◌, map, filter, slice_get, nat_le, ◌==◌}
+use Rattle.std.proofs.Common.{Option, Some, None, option_map, IfSome, refl, sym, ap, ◌∙◌, arith, if◌then◌else◌}
 use Rattle.std.specs.Option.{option_and_then, option_or}
 use Rattle.std.specs.List.{last_or}
 use Rattle.oxc_sourcemap_tokens.specs.Token.{TokenRecord, last}
 use Rattle.oxc_sourcemap_parts.specs.Sorted.{token_line, token_column}
-use Rattle.oxc_sourcemap_lookup.specs.Lookup.{on_line, at, clamped_at, at_or_after, first, greatest, least, not_past, not_before, in_column, numbered, numbered_from, numbered_line, numbered_column}
+use Rattle.oxc_sourcemap_lookup.specs.Lookup.{on_line, at, clamped_at, at_or_after, first, greatest, least, not_past, not_before, numbered, numbered_from, numbered_line, numbered_column}
 use Rattle.oxc_sourcemap_lookup.specs.Lookup.{token_for, clamped_token_for, token_after, index_for, clamped_index_for, index_after}
 use Rattle.oxc_sourcemap_lookup.proofs.Picks.{at-map, clamped_at-map, at_or_after-map}
 
@@ -67,7 +67,6 @@ stand-shifted t ts i (u ∷ us) are =
 stand : (ts : List TokenRecord) → AreAll (StandsAt ts) (numbered ts)
 stand [] = tt
 stand (t ∷ ts) = (refl, stand-shifted t ts 0 ts (stand ts))
-
 
 on_line-by : (b : Bool) (n i : ℕ) (t : TokenRecord) (ts : List TokenRecord) → (t.dst_line == n) ≡ b → on_line token_line n ts ≡ map (λ (p : ℕ × TokenRecord). p.1) (on_line numbered_line n (numbered_from (i + 1) ts))
     → on_line token_line n (t ∷ ts) ≡ map (λ (p : ℕ × TokenRecord). p.1) (on_line numbered_line n (numbered_from i (t ∷ ts)))

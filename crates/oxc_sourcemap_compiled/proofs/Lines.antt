@@ -10,7 +10,7 @@ use Rattle.std.specs.List.{range_with_len}
 use Rattle.oxc_sourcemap_tokens.specs.Token.{TokenRecord}
 use Rattle.oxc_sourcemap_parts.specs.Sorted.{token_column}
 use Rattle.oxc_sourcemap_lookup.specs.Lookup.{no_column_goes_back, first, index_at, clamped_index_at, index_at_or_after, index_before}
-use Rattle.oxc_sourcemap_lookup.proofs.Halving.{before, before-later, before-earlier, before-all, front-goes_on, drop-goes_on}
+use Rattle.oxc_sourcemap_lookup.proofs.Halving.{before, before-later, before-earlier, before-all}
 use Rattle.oxc_sourcemap_lookup.proofs.Lookups.{goes_on, not_before, not_before-at}
 use Rattle.oxc_sourcemap_compiled.specs.Cuts.{IsCut, DoNotFall}
 use Rattle.oxc_sourcemap_compiled.specs.Order.{columns_in, column_of}
@@ -78,15 +78,18 @@ line-cut f limit start end line e g are = record {
   below-by false j is h lt =
       let le : limit ≤ (get_or line j some-token).dst_col = grind (arith, is) in
       absurd (omega (arith, before-earlier limit line j some-token h le, lt))
+
   below : (j i : ℕ) → start + j ≡ i → j < before limit line → f i < limit
   below j i at lt =
       let h : j < length line = omega (arith, lt, before-all limit line) in
       omega (arith, below-by (nat_lt (get_or line j some-token).dst_col limit) j refl h lt, ap f (sym at) ∙ are j some-token h)
+
   above-by : (b : Bool) (j : ℕ) → nat_lt (get_or line j some-token).dst_col limit ≡ b → j < length line → before limit line ≤ j → limit ≤ (get_or line j some-token).dst_col
   above-by true j is h le =
       let lt : (get_or line j some-token).dst_col < limit = grind (arith, is) in
       absurd (omega (arith, before-later limit line j some-token g h lt, le))
   above-by false j is h le = grind (arith, is)
+
   above : (j i : ℕ) → start + j ≡ i → j < length line → before limit line ≤ j → limit ≤ f i
   above j i at h le = omega (arith, above-by (nat_lt (get_or line j some-token).dst_col limit) j refl h le, ap f (sym at) ∙ are j some-token h)
 
@@ -119,7 +122,7 @@ none-found-after (t ∷ ts) col e = absurd (omega (arith, e))
 
 -- ---- an index on a line, and among all tokens
 within-by : (b : Bool) (start i n end : ℕ) → nat_lt i n ≡ b → end ≡ start + n → (if nat_lt (start + i) end then Some (start + i - start) else None) ≡ (if nat_lt i n then Some i else None)
-within-by true start i n end is e = 
+within-by true start i n end is e =
     let lt : i < n = grind (arith, is) in
     let less : nat_lt (start + i) end ≡ true = grind (arith, lt, e) in
     let back : start + i - start ≡ i = omega arith in

@@ -1,6 +1,5 @@
 -- The lines that have tokens, listed token by token.
-use Rattle.std.proofs.Common.{◌≡◌, ℕ, zero, suc, ◌+◌, ◌-◌, ◌<◌, ◌≤◌, Bool, true, false, List, [], ◌∷◌, ◌++◌, length, get_or, nat_lt, refl, sym, ap, ◌∙◌, arith, length-append}
-use Rattle.std.proofs.lemmas.List.{get_or_default}
+use Rattle.std.proofs.Common.{◌≡◌, ℕ, ◌+◌, ◌-◌, ◌<◌, ◌≤◌, Bool, true, false, List, [], ◌∷◌, ◌++◌, length, get_or, nat_lt, refl, sym, ap, ◌∙◌, arith, length-append}
 use Rattle.oxc_sourcemap_tokens.specs.Token.{TokenRecord}
 use Rattle.oxc_sourcemap_parts.specs.Sorted.{are_tokens_sorted}
 use Rattle.oxc_sourcemap_parts.proofs.Order.{sorted_in_order}
@@ -66,8 +65,10 @@ module _ (ts : List TokenRecord) (n line next : ℕ) (lines : List ℕ) (there :
     some-by false e =
         let none : n ≡ 0 = grind (arith, e) in
         absurd (omega (arith, h.start none, lt))
+
     some : 0 < n
     some = some-by (nat_lt 0 n) refl
+
     same : (d : TokenRecord) → (get_or ts (n - 1) d).dst_line ≡ (get_or ts n d).dst_line
     same d =
         let up = lines-rise ts (sorted_in_order ts sorted) (n - 1) n d (omega arith) there in

@@ -1,7 +1,7 @@
 -- Searches by halving.
 use Rattle.std.proofs.Common.{◌≡◌, ℕ, suc, ◌+◌, ◌-◌, ◌*◌, ◌/◌, ◌<◌, ◌≤◌, Bool, true, false, nat_lt, if◌then◌else◌}
 use Rattle.std.proofs.Common.{arith, refl, ap, zero, min, max, ◌⊎◌, inl, inr}
-use Rattle.oxc_sourcemap_compiled.specs.Cuts.{IsCut, DoNotFall}
+use Rattle.oxc_sourcemap_compiled.specs.Cuts.{IsCut}
 
 -- a number below the limit lies before the cut
 pub below-cut : (f : ℕ → ℕ) (limit first end cut i : ℕ) → IsCut f limit first end cut → i < end → f i < limit → i < cut
@@ -70,7 +70,7 @@ block-cut f g limit first end cut base c low high near some same = record {
 
 -- numbers that rise from each to the next rise
 pub rises : (f : ℕ → ℕ) (n i d : ℕ) → ((k : ℕ) → k + 1 < n → f k < f (k + 1)) → i + suc d < n → f i < f (i + suc d)
-rises f n i zero up h = 
+rises f n i zero up h =
     let next : i + 1 ≡ i + suc zero = omega arith in
     omega (arith, up i (omega (arith, h)), ap f next)
 rises f n i (suc d) up h =
@@ -94,12 +94,15 @@ own-cut f n k up h = record {
 
 -- numbers that do not fall have a cut
 cut-more : (f : ℕ → ℕ) (limit n : ℕ) → ((k : ℕ) → k < n → f k ≤ f (k + 1)) → (c : ℕ) → IsCut f limit 0 n c → (b : Bool) → nat_lt (f n) limit ≡ b → (n ≤ c ⊎ c < n) → (k : ℕ) × IsCut f limit 0 (suc n) k
-cut-more f limit n up c is true e (inl full) = (suc n, record {
-  reached = omega arith;
-  within = omega arith;
-  before = λ i low lt. below i (nat_lt i n) refl lt;
-  after = λ i le lt. absurd (omega (arith, le, lt));
-}) where
+cut-more f limit n up c is true e (inl full) = (
+  suc n,
+  record {
+    reached = omega arith;
+    within = omega arith;
+    before = λ i low lt. below i (nat_lt i n) refl lt;
+    after = λ i le lt. absurd (omega (arith, le, lt));
+  },
+) where
   below : (i : ℕ) (b : Bool) → nat_lt i n ≡ b → i < suc n → f i < limit
   below i true h lt = let less : i < n = grind (arith, h) in is.before i (omega arith) (omega (arith, less, full))
   below i false h lt =
@@ -107,21 +110,27 @@ cut-more f limit n up c is true e (inl full) = (suc n, record {
       let same : i ≡ n = omega (arith, more, lt) in
       let here : f n < limit = grind (arith, e) in
       omega (arith, here, ap f same)
-cut-more f limit n up c is false e (inl full) = (n, record {
-  reached = omega arith;
-  within = omega arith;
-  before = λ i low lt. is.before i low (omega (arith, lt, full));
-  after = λ i le lt.
-      let same : n ≡ i = omega (arith, le, lt) in
-      let here : limit ≤ f n = grind (arith, e) in
-      omega (arith, here, ap f same);
-})
-cut-more f limit n up c is b e (inr some) = (c, record {
-  reached = omega arith;
-  within = omega (arith, some);
-  before = is.before;
-  after = λ i le lt. above i (nat_lt i n) refl le lt;
-}) where
+cut-more f limit n up c is false e (inl full) = (
+  n,
+  record {
+    reached = omega arith;
+    within = omega arith;
+    before = λ i low lt. is.before i low (omega (arith, lt, full));
+    after = λ i le lt.
+        let same : n ≡ i = omega (arith, le, lt) in
+        let here : limit ≤ f n = grind (arith, e) in
+        omega (arith, here, ap f same);
+  },
+)
+cut-more f limit n up c is b e (inr some) = (
+  c,
+  record {
+    reached = omega arith;
+    within = omega (arith, some);
+    before = is.before;
+    after = λ i le lt. above i (nat_lt i n) refl le lt;
+  },
+) where
   above : (i : ℕ) (b : Bool) → nat_lt i n ≡ b → c ≤ i → i < suc n → limit ≤ f i
   above i true h le lt = let less : i < n = grind (arith, h) in is.after i le less
   above i false h le lt =

@@ -1,6 +1,6 @@
 -- Parts of lists, and what holds of their elements.
-use Rattle.std.proofs.Common.{◌≡◌, ℕ, zero, suc, ◌+◌, ◌-◌, ◌*◌, ◌/◌, ◌<◌, ◌≤◌, Bool, true, false, List, [], ◌∷◌, ◌++◌, take, drop, length, get_or, nat_lt, min}
-use Rattle.std.proofs.Common.{refl, sym, ap, ◌∙◌, arith, subst, length-drop, ◌⊎◌, inl, inr, Some, append-nil, append_assoc, map}
+use Rattle.std.proofs.Common.{◌≡◌, ℕ, zero, suc, ◌+◌, ◌-◌, ◌<◌, ◌≤◌, Bool, true, false, List, [], ◌∷◌, ◌++◌, take, drop, length, get_or, nat_lt, min}
+use Rattle.std.proofs.Common.{refl, sym, ap, ◌∙◌, arith, subst, length-drop, ◌⊎◌, inl, inr, append-nil, append_assoc, map}
 use Rattle.std.proofs.lemmas.List.FromFn.{map-range_with_len_more}
 use Rattle.oxc_sourcemap_parts.specs.Record.{MapRecord}
 use Rattle.oxc_sourcemap_compiled.specs.Compiled.{table, bytes_of, text_offset, stored_text}
@@ -9,7 +9,7 @@ use Rattle.std.proofs.lemmas.Option.{slice_get-get_or}
 use Rattle.std.specs.List.{range_with_len, flat_map}
 use Rattle.std.proofs.lemmas.Grind.{flat_map-append}
 use Rattle.oxc_sourcemap_tokens.specs.Token.{TokenRecord, last}
-use Rattle.oxc_sourcemap_parts.specs.Sorted.{are_tokens_sorted, token_line}
+use Rattle.oxc_sourcemap_parts.specs.Sorted.{are_tokens_sorted}
 use Rattle.oxc_sourcemap_parts.proofs.Order.{sorted_in_order}
 use Rattle.oxc_sourcemap_lookup.specs.Lookup.{lines_through}
 use Rattle.oxc_sourcemap_lookup.proofs.Tables.{last_at}

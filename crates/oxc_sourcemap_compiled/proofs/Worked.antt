@@ -1,6 +1,5 @@
 -- Worked examples of compiled maps, computed by the definitions themselves. The bytes were written by hand after the rules.
-use Rattle.std.specs.Prelude.{◌≡◌, refl, ℕ, List, [], ◌∷◌, codes, Ok, Err, Option, Some, None, take, drop, ◌++◌}
-use Rattle.oxc_sourcemap_tokens.specs.Token.{TokenRecord}
+use Rattle.std.specs.Prelude.{◌≡◌, refl, ℕ, List, [], ◌∷◌, codes, Err, Some, None, take, drop, ◌++◌}
 use Rattle.oxc_sourcemap_compiled.specs.Numbers.{number_at}
 use Rattle.oxc_sourcemap_compiled.specs.Layout.{header_in, compiled_fault}
 use Rattle.oxc_sourcemap_compiled.specs.Fields.{value_in, field_in}

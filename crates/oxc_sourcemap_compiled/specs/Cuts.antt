@@ -1,5 +1,5 @@
 -- Where numbers in a row stop being below a limit.
-use Rattle.std.specs.Prelude.{ℕ, ◌+◌, ◌<◌, ◌≤◌}
+use Rattle.std.specs.Prelude.{ℕ, ◌<◌, ◌≤◌}
 
 -- the numbers from one index to before another are below the limit exactly before this index
 pub record IsCut (f : ℕ → ℕ) (limit first end cut : ℕ) : Type 0 where

@@ -57,7 +57,11 @@ pub(crate) fn header_of(bytes: &[u8]) -> Header
 fn listed_lines(header: &Header) -> usize
     ensures { result ≡ listed_count header.now }
 {
-    if header.has_line_numbers { header.lines } else { 0 }
+    if header.has_line_numbers {
+        header.lines
+    } else {
+        0
+    }
 }
 
 /// Where the parts begin.

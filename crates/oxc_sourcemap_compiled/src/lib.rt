@@ -13,5 +13,5 @@ mod search;
 mod writing;
 
 pub use errors::CompiledError;
-pub use writing::compile;
 pub use map::{CompiledMap, CompiledOriginal};
+pub use writing::compile;

@@ -90,7 +90,7 @@ impl<'a> Opened<'a> {
         ensures within { IfSome result (λ i. i < entry_end self.now.bytes.now self.now.header k) }
         ensures found { AreInOrder self.now.bytes.now self.now.header
             → result ≡ option_map (λ i. entry_begin self.now.bytes.now self.now.header k + i)
-                (index_at (entry_tokens self.now.bytes.now self.now.header k) col) }
+            (index_at (entry_tokens self.now.bytes.now self.now.header k) col) }
     {
         let span = self.span(k);
         let end = self.end_of_found(span, col);
@@ -110,7 +110,7 @@ impl<'a> Opened<'a> {
         ensures within { IfSome result (λ i. i < entry_end self.now.bytes.now self.now.header k) }
         ensures found { AreInOrder self.now.bytes.now self.now.header
             → result ≡ option_map (λ i. entry_begin self.now.bytes.now self.now.header k + i)
-                (clamped_index_at (entry_tokens self.now.bytes.now self.now.header k) col) }
+            (clamped_index_at (entry_tokens self.now.bytes.now self.now.header k) col) }
     {
         let span = self.span(k);
         if span.start == span.end {
@@ -129,7 +129,7 @@ impl<'a> Opened<'a> {
         ensures within { IfSome result (λ i. i < entry_end self.now.bytes.now self.now.header k) }
         ensures found { AreInOrder self.now.bytes.now self.now.header
             → result ≡ option_map (λ i. entry_begin self.now.bytes.now self.now.header k + i)
-                (index_at_or_after (entry_tokens self.now.bytes.now self.now.header k) col) }
+            (index_at_or_after (entry_tokens self.now.bytes.now self.now.header k) col) }
     {
         let span = self.span(k);
         let found = self.found_after(span, col);

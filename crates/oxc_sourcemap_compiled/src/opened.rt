@@ -206,7 +206,11 @@ impl<'a> Opened<'a> {
         ensures { lent_item result ≡ text_in self.now.bytes.now self.now.header t }
     {
         let bytes = self.bytes;
-        part_between(&bytes[self.layout.texts..], self.offset(t), self.offset(t + 1))
+        part_between(
+            &bytes[self.layout.texts..],
+            self.offset(t),
+            self.offset(t + 1),
+        )
     }
 
     /// The text of a source or a name, by its number among all; empty where the bytes have none.

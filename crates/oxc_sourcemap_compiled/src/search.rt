@@ -126,7 +126,9 @@ impl<'a> Opened<'a> {
         let base = 64 * block;
         let start = base.max(first) - base;
         let stop = (base + 64).min(end) - base;
-        base + self.field(block, 0).cut(self.bytes, start, stop - start, limit)
+        base + self
+            .field(block, 0)
+            .cut(self.bytes, start, stop - start, limit)
     }
 
     /// Where the numbers of lines stop being below `line`.

@@ -196,7 +196,13 @@ fn write_map(
     let length = layout_of(&header).texts + made.text_bytes + 16;
     let mut out = Vec::with_capacity(alloc, length)?;
     push_header(&mut out, &header, length as u64, text_length, stamp)?;
-    push_parts(&mut out, parts, made.lines, made.has_line_numbers, made.blocks)?;
+    push_parts(
+        &mut out,
+        parts,
+        made.lines,
+        made.has_line_numbers,
+        made.blocks,
+    )?;
     Ok(out)
 }
 

@@ -255,7 +255,11 @@ fn push_field(out: &mut Vec<u8>, tokens: &[Token], k: usize, packing: Packing) -
     ensures { OnOk result (out.new.items
         ≡ out.old.items ++ bytes_of packing.width (packed k packing tokens.now)) }
 {
-    push_number(out, packed_values(tokens, k, packing), usize::from(packing.width))
+    push_number(
+        out,
+        packed_values(tokens, k, packing),
+        usize::from(packing.width),
+    )
 }
 
 /// Appends the groups of all tokens.

@@ -1,8 +1,7 @@
-use Rattle.std.proofs.Common.{◌≡◌, ◌≤◌, ◌+◌, ◌/◌, ◌++◌, length, ap, ◌∙◌, sym, subst, arith, true}
+use Rattle.std.proofs.Common.{◌≤◌, ◌+◌, ◌/◌, length, ap, ◌∙◌, sym, subst}
 use Rattle.oxc_sourcemap_parts.specs.Views.{record_of_parts}
 use Rattle.oxc_sourcemap_parts.specs.Sorted.{are_tokens_sorted}
 use Rattle.oxc_sourcemap_compiled.specs.Compiled.{AreLinesOf, AreBlocksOf, group_bytes_of, map_bytes}
-use Rattle.oxc_sourcemap_compiled.proofs.Slices.{appended}
 use Rattle.oxc_sourcemap_compiled.proofs.writing.compile.Goals as goal
 
 pub returns-clause-bytes : goal.returns-clause-bytes
@@ -16,7 +15,7 @@ returns-clause-bytes c =
     let number = c.args.text_length in
     let stamp = c.args.stamp.now in
     let groups = c.group_bytes-group_bytes.ensures.value ∙ ap (λ ts. group_bytes_of ((length ts + 3) / 4) c.as_slice.result.now) tokens
-        ∙ ap (group_bytes_of ((length (record_of_parts c.args.parts.now).tokens + 3) / 4)) c.as_slice.ensures.value in
+    ∙ ap (group_bytes_of ((length (record_of_parts c.args.parts.now).tokens + 3) / 4)) c.as_slice.ensures.value in
     record {
       lines = lines;
       listed = c.in_ok-lines.has_line_numbers;

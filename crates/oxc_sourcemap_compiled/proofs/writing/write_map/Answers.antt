@@ -1,7 +1,7 @@
-use Rattle.std.proofs.Common.{◌≡◌, ◌+◌, ◌++◌, length, ap, ◌∙◌}
+use Rattle.std.proofs.Common.{◌+◌, ◌++◌, ap, ◌∙◌}
 use Rattle.oxc_sourcemap_parts.specs.Views.{record_of_parts}
 use Rattle.oxc_sourcemap_compiled.specs.Layout.{texts_base}
-use Rattle.oxc_sourcemap_compiled.specs.Compiled.{header_bytes, header_of_map, compiled_length, parts_bytes}
+use Rattle.oxc_sourcemap_compiled.specs.Compiled.{header_bytes, header_of_map, parts_bytes}
 use Rattle.oxc_sourcemap_compiled.proofs.writing.write_map.Goals as goal
 
 pub returns : goal.returns
@@ -18,5 +18,5 @@ returns c =
     let header = c.header_for-header.ensures in
     let length = ap (λ l. l.texts + made.text_bytes + 16) c.layout_of.ensures ∙ ap (λ h. texts_base h + made.text_bytes + 16) header ∙ ap (λ n. texts_base head + n + 16) c.requires.text_bytes in
     let front = c.in_ok-push_header.ensures ∙ ap (λ xs. xs ++ header_bytes c.header_for-header.result long number stamp) c.in_ok-out.ensures.items
-        ∙ ap (λ h. header_bytes h long number stamp) header ∙ ap (λ n. header_bytes head n number stamp) length in
+    ∙ ap (λ h. header_bytes h long number stamp) header ∙ ap (λ n. header_bytes head n number stamp) length in
     c.in_ok-push_parts.ensures ∙ ap (λ xs. xs ++ parts_bytes r lines listed blocks) front

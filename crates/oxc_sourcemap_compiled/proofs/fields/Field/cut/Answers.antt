@@ -1,5 +1,4 @@
 use Rattle.std.proofs.Common.{◌≡◌, ◌+◌, ◌-◌, ◌/◌, nat_lt, arith, refl, ap, ◌∙◌, if◌then◌else◌}
-use Rattle.std.proofs.lemmas.Grind.{common_steps}
 use Rattle.oxc_sourcemap_lookup.proofs.Halving.{chosen}
 use Rattle.oxc_sourcemap_compiled.specs.Words.{value_in}
 use Rattle.oxc_sourcemap_compiled.proofs.Searches.{halved-cut}

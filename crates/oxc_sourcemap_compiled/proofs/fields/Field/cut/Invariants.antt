@@ -1,6 +1,6 @@
 use Rattle.std.proofs.Common.{◌≤◌, ◌+◌, ℕ}
 use Rattle.oxc_sourcemap_compiled.specs.Cuts.{IsCut}
-use Rattle.oxc_sourcemap_compiled.specs.Words.{value_in, least_column_of}
+use Rattle.oxc_sourcemap_compiled.specs.Words.{value_in}
 use Rattle.oxc_sourcemap_compiled.proofs.fields.Field.cut.Given as goal
 
 abbrev pub invariant-loop-size : goal.invariant-loop-size

@@ -1,4 +1,4 @@
-use Rattle.std.proofs.Common.{◌≡◌, ◌+◌, ◌*◌, ◌<◌, ◌≤◌, ap, ◌∙◌, sym, arith}
+use Rattle.std.proofs.Common.{◌<◌, ◌≤◌, ap, ◌∙◌, sym, arith}
 use Rattle.std.specs.Option.{option_and_then}
 use Rattle.oxc_sourcemap_compiled.specs.Words.{header_in, listed_in, utf8_text}
 use Rattle.oxc_sourcemap_compiled.proofs.Ranges.{made-get, made-past}

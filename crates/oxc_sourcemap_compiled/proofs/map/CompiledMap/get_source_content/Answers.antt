@@ -1,6 +1,6 @@
-use Rattle.std.proofs.Common.{◌≡◌, ◌+◌, ◌*◌, ◌<◌, ◌≤◌, ap, ◌∙◌, sym, arith}
+use Rattle.std.proofs.Common.{◌+◌, ◌<◌, ◌≤◌, ap, ◌∙◌, sym, arith}
 use Rattle.std.specs.Option.{option_and_then}
-use Rattle.oxc_sourcemap_compiled.specs.Words.{header_in, optional_in, utf8_text, optional_text}
+use Rattle.oxc_sourcemap_compiled.specs.Words.{header_in, optional_in, optional_text}
 use Rattle.oxc_sourcemap_compiled.proofs.Ranges.{made-get, made-past}
 use Rattle.oxc_sourcemap_compiled.proofs.map.CompiledMap.get_source_content.Goals as goal
 

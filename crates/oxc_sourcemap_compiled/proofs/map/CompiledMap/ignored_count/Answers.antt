@@ -1,7 +1,7 @@
-use Rattle.std.proofs.Common.{◌≡◌, ap, ◌∙◌, sym, true, length, option_map, Some, None, map, refl, if◌then◌else◌}
+use Rattle.std.proofs.Common.{◌≡◌, ap, ◌∙◌, sym, true, length, option_map, Some, None, map, if◌then◌else◌}
 use Rattle.std.specs.List.{range_with_len}
 use Rattle.std.proofs.lemmas.List.FromFn.{length-map-range_with_len}
-use Rattle.oxc_sourcemap_compiled.specs.Words.{header_in, ignored_in, ignore_list_in}
+use Rattle.oxc_sourcemap_compiled.specs.Words.{header_in, ignored_in}
 use Rattle.oxc_sourcemap_compiled.proofs.map.CompiledMap.ignored_count.Goals as goal
 
 pub returns-then-self : goal.returns-then-self

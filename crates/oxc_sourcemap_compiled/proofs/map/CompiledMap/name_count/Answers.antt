@@ -1,4 +1,4 @@
-use Rattle.std.proofs.Common.{◌≡◌, ◌+◌, ◌*◌, ap, ◌∙◌, sym}
+use Rattle.std.proofs.Common.{◌+◌, ◌*◌, ap, ◌∙◌, sym}
 use Rattle.std.proofs.lemmas.List.FromFn.{length-map-range_with_len}
 use Rattle.oxc_sourcemap_compiled.specs.Words.{header_in, listed_in}
 use Rattle.oxc_sourcemap_compiled.proofs.map.CompiledMap.name_count.Goals as goal

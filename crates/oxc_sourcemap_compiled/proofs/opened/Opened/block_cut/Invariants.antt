@@ -1,6 +1,6 @@
 use Rattle.std.proofs.Common.{◌≤◌, ◌+◌, ℕ}
 use Rattle.oxc_sourcemap_compiled.specs.Cuts.{IsCut}
-use Rattle.oxc_sourcemap_compiled.specs.Words.{value_in, least_column_of}
+use Rattle.oxc_sourcemap_compiled.specs.Words.{least_column_of}
 use Rattle.oxc_sourcemap_compiled.proofs.opened.Opened.block_cut.Given as goal
 
 abbrev pub invariant-loop-size : goal.invariant-loop-size

@@ -1,4 +1,4 @@
-use Rattle.std.proofs.Common.{◌≡◌, ◌+◌, ◌-◌, ◌*◌, ◌/◌, ◌%◌, ◌<◌, ◌≤◌, ℕ, min, max, arith, ap, ◌∙◌, sym, subst}
+use Rattle.std.proofs.Common.{◌≡◌, ◌+◌, ◌-◌, ◌*◌, ◌/◌, ◌%◌, ◌<◌, ℕ, min, arith, ap, ◌∙◌, sym, subst}
 use Rattle.oxc_sourcemap_compiled.specs.Cuts.{IsCut}
 use Rattle.oxc_sourcemap_compiled.specs.Words.{column_of, value_in, field_in}
 use Rattle.oxc_sourcemap_compiled.proofs.Searches.{block-cut}
@@ -17,10 +17,10 @@ returns-clause-cut c = λ exact rise cut is.
     let g = value_in bytes c.field.result in
     let found = c.block_with_cut-block.ensures.cut exact rise cut is in
     let same = λ (j : ℕ) (small : j < 64).
-        let quotient : block ≡ (base + j) / 64 = omega (arith, small) in
-        let rest : j ≡ (base + j) % 64 = omega (arith, small) in
-        ap (λ x. value_in bytes x j) c.field.ensures.value ∙ ap (λ b. value_in bytes (field_in bytes h b 0) j) quotient
-        ∙ ap (value_in bytes (field_in bytes h ((base + j) / 64) 0)) rest in
+    let quotient : block ≡ (base + j) / 64 = omega (arith, small) in
+    let rest : j ≡ (base + j) % 64 = omega (arith, small) in
+    ap (λ x. value_in bytes x j) c.field.ensures.value ∙ ap (λ b. value_in bytes (field_in bytes h b 0) j) quotient
+    ∙ ap (value_in bytes (field_in bytes h ((base + j) / 64) 0)) rest in
     let made = block-cut f g limit first end cut base is found.0 found.1 (omega (arith, c.block_with_cut-block.ensures.reached)) c.block_with_cut-block.ensures.within same in
     let started = subst (λ m. IsCut g limit (m - base) (m - base + (min (base + 64) end - base - (m - base))) (cut - base)) (sym c.max.ensures) made in
     let stopped = subst (λ m. IsCut g limit (c.max.result - base) (c.max.result - base + (m - base - (c.max.result - base))) (cut - base)) (sym c.min.ensures) started in

@@ -1,4 +1,4 @@
-use Rattle.std.proofs.Common.{◌≡◌, ◌+◌, ◌-◌, ◌/◌, ◌<◌, ◌≤◌, ℕ, nat_lt, true, false, arith, refl, ap, ◌∙◌, sym}
+use Rattle.std.proofs.Common.{◌≡◌, ◌+◌, ◌-◌, ◌/◌, ℕ, nat_lt, true, false, arith, ap, ◌∙◌, sym}
 use Rattle.oxc_sourcemap_compiled.specs.Words.{start_in}
 use Rattle.oxc_sourcemap_compiled.proofs.Searches.{halved-cut}
 use Rattle.oxc_sourcemap_compiled.proofs.opened.Opened.entry_cut.Goals as goal

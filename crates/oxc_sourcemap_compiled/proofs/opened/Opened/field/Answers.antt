@@ -1,7 +1,6 @@
-use Rattle.std.proofs.Common.{◌≡◌, ◌+◌, ◌-◌, ◌*◌, ap, ◌∙◌, arith, take, drop, sum, get_or, min, length}
-use Rattle.std.proofs.lemmas.Grind.{common_steps}
+use Rattle.std.proofs.Common.{◌≡◌, ◌+◌, ◌-◌, ◌*◌, ap, ◌∙◌, arith, take, drop, sum, get_or, min}
 use Rattle.oxc_sourcemap_compiled.specs.Numbers.{number_at}
-use Rattle.oxc_sourcemap_compiled.specs.Layout.{rows_base, groups_base}
+use Rattle.oxc_sourcemap_compiled.specs.Layout.{groups_base}
 use Rattle.oxc_sourcemap_compiled.specs.Fields.{field_in, widths_in, row_base}
 use Rattle.oxc_sourcemap_compiled.proofs.Blocks.{same-field}
 use Rattle.oxc_sourcemap_compiled.proofs.opened.Opened.field.Goals as goal

@@ -1,4 +1,4 @@
-use Rattle.std.proofs.Common.{◌≡◌, ◌+◌, ◌-◌, ◌<◌, ℕ, drop, length, get_or, nat_lt, arith, ap, ◌∙◌, sym, refl, false, length-drop, if◌then◌else◌, Some, None}
+use Rattle.std.proofs.Common.{◌≡◌, ◌+◌, ◌-◌, ◌<◌, drop, length, get_or, nat_lt, arith, ap, ◌∙◌, sym, refl, false, length-drop, if◌then◌else◌, Some, None}
 use Rattle.std.proofs.lemmas.Grind.{common_steps}
 use Rattle.std.proofs.lemmas.List.FromFn.{get_or-map-range_with_len}
 use Rattle.oxc_sourcemap_lookup.proofs.Halving.{before, before-all, drop-goes_on}

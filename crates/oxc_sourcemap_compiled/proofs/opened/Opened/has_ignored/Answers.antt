@@ -1,6 +1,4 @@
-use Rattle.std.proofs.Common.{◌≡◌, ◌∙◌, sym, refl, arith, map}
-use Rattle.std.specs.List.{range_with_len}
-use Rattle.std.proofs.lemmas.List.FromFn.{get_or-map-range_with_len, length-map-range_with_len}
+use Rattle.std.proofs.Common.{◌∙◌, sym, refl, arith}
 use Rattle.oxc_sourcemap_compiled.specs.Words.{ignored_in}
 use Rattle.oxc_sourcemap_compiled.proofs.Ranges.{contains-made, made-contains}
 use Rattle.oxc_sourcemap_compiled.proofs.opened.Opened.has_ignored.Goals as goal

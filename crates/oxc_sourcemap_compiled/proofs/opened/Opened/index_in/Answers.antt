@@ -1,7 +1,4 @@
-use Rattle.std.proofs.Common.{◌≡◌, ◌+◌, ◌-◌, ap, ◌∙◌, sym, option_map, arith, map}
-use Rattle.std.specs.List.{range_with_len}
-use Rattle.oxc_sourcemap_lookup.specs.Lookup.{index_at}
-use Rattle.oxc_sourcemap_parts.specs.Sorted.{token_column}
+use Rattle.std.proofs.Common.{◌+◌, ◌-◌, ap, ◌∙◌, option_map}
 use Rattle.oxc_sourcemap_compiled.specs.Words.{entry_begin, entry_end, entry_tokens, line_in, columns_in}
 use Rattle.oxc_sourcemap_compiled.proofs.Lines.{token-columns, last-of-some, last-of-none}
 use Rattle.oxc_sourcemap_compiled.proofs.opened.Opened.index_in.Goals as goal
@@ -13,7 +10,7 @@ returns-then-end-span-clause-found c = λ order.
     let k = c.args.k in
     let begin = entry_begin bytes h k in
     let is = ap (λ s. columns_in bytes h s (c.span-span.result.end - s)) c.span-span.ensures.start ∙ ap (λ e. columns_in bytes h begin (e - begin)) c.span-span.ensures.end
-        ∙ token-columns bytes h (line_in bytes h k) begin (entry_end bytes h k - begin) in
+    ∙ token-columns bytes h (line_in bytes h k) begin (entry_end bytes h k - begin) in
     let found = c.end_of_found-end.ensures.index (entry_tokens bytes h k) is (order.columns k c.requires.there) order.rows in
     last-of-some begin c.span-span.result.start c.end_of_found-end.result c.span-span.ensures.start c.if-end-span.true ∙ ap (option_map (λ i. begin + i)) found
 
@@ -24,6 +21,6 @@ returns-else-end-span-clause-found c = λ order.
     let k = c.args.k in
     let begin = entry_begin bytes h k in
     let is = ap (λ s. columns_in bytes h s (c.span-span.result.end - s)) c.span-span.ensures.start ∙ ap (λ e. columns_in bytes h begin (e - begin)) c.span-span.ensures.end
-        ∙ token-columns bytes h (line_in bytes h k) begin (entry_end bytes h k - begin) in
+    ∙ token-columns bytes h (line_in bytes h k) begin (entry_end bytes h k - begin) in
     let found = c.end_of_found-end.ensures.index (entry_tokens bytes h k) is (order.columns k c.requires.there) order.rows in
     last-of-none begin c.span-span.result.start c.end_of_found-end.result c.if-end-span.false ∙ ap (option_map (λ i. begin + i)) found

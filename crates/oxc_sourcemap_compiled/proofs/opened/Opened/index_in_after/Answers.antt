@@ -1,5 +1,4 @@
-use Rattle.std.proofs.Common.{◌≡◌, ◌+◌, ◌-◌, ap, ◌∙◌, sym, option_map, arith, map, nat_lt, true, false, Some, None, if◌then◌else◌}
-use Rattle.oxc_sourcemap_lookup.specs.Lookup.{index_at_or_after}
+use Rattle.std.proofs.Common.{◌≡◌, ◌+◌, ◌-◌, ap, ◌∙◌, sym, option_map, arith, nat_lt, true, false, Some, None, if◌then◌else◌}
 use Rattle.oxc_sourcemap_compiled.specs.Words.{entry_begin, entry_end, entry_tokens, line_in, columns_in}
 use Rattle.oxc_sourcemap_compiled.proofs.Lines.{token-columns}
 use Rattle.oxc_sourcemap_compiled.proofs.opened.Opened.index_in_after.Goals as goal
@@ -11,7 +10,7 @@ returns-then-found-span-clause-found c = λ order.
     let k = c.args.k in
     let begin = entry_begin bytes h k in
     let is = ap (λ s. columns_in bytes h s (c.span-span.result.end - s)) c.span-span.ensures.start ∙ ap (λ e. columns_in bytes h begin (e - begin)) c.span-span.ensures.end
-        ∙ token-columns bytes h (line_in bytes h k) begin (entry_end bytes h k - begin) in
+    ∙ token-columns bytes h (line_in bytes h k) begin (entry_end bytes h k - begin) in
     let found = c.found_after-found.ensures.index (entry_tokens bytes h k) is (order.columns k c.requires.there) order.rows in
     let i = c.found_after-found.result in
     let lt : nat_lt i c.span-span.result.end ≡ true = grind (arith, c.if-found-span.true) in
@@ -26,7 +25,7 @@ returns-else-found-span-clause-found c = λ order.
     let k = c.args.k in
     let begin = entry_begin bytes h k in
     let is = ap (λ s. columns_in bytes h s (c.span-span.result.end - s)) c.span-span.ensures.start ∙ ap (λ e. columns_in bytes h begin (e - begin)) c.span-span.ensures.end
-        ∙ token-columns bytes h (line_in bytes h k) begin (entry_end bytes h k - begin) in
+    ∙ token-columns bytes h (line_in bytes h k) begin (entry_end bytes h k - begin) in
     let found = c.found_after-found.ensures.index (entry_tokens bytes h k) is (order.columns k c.requires.there) order.rows in
     let i = c.found_after-found.result in
     let le : nat_lt i c.span-span.result.end ≡ false = grind (arith, c.if-found-span.false) in

@@ -1,6 +1,5 @@
-use Rattle.std.proofs.Common.{◌≡◌, ◌+◌, ◌-◌, ◌<◌, ap, ◌∙◌, sym, option_map, arith, map, nat_lt, true, length, Some, None, if◌then◌else◌}
+use Rattle.std.proofs.Common.{◌≡◌, ◌+◌, ◌-◌, ◌<◌, ap, ◌∙◌, sym, option_map, arith, nat_lt, true, length, Some, None, if◌then◌else◌}
 use Rattle.std.specs.Option.{option_or}
-use Rattle.oxc_sourcemap_lookup.specs.Lookup.{clamped_index_at}
 use Rattle.oxc_sourcemap_lookup.proofs.Indices.{index-clamped, index_within, clamped-through}
 use Rattle.oxc_sourcemap_compiled.specs.Words.{column_of, entry_begin, entry_end, entry_tokens, line_in, columns_in}
 use Rattle.oxc_sourcemap_compiled.proofs.Lines.{token-columns, columns-length}
@@ -17,7 +16,7 @@ returns-clause-found c = λ order.
     let n = c.end_of_found-end.result - start in
     let ts = entry_tokens bytes h k in
     let is = ap (λ s. columns_in bytes h s (c.span-span.result.end - s)) c.span-span.ensures.start ∙ ap (λ e. columns_in bytes h begin (e - begin)) c.span-span.ensures.end
-        ∙ token-columns bytes h (line_in bytes h k) begin (entry_end bytes h k - begin) in
+    ∙ token-columns bytes h (line_in bytes h k) begin (entry_end bytes h k - begin) in
     let found = c.end_of_found-end.ensures.index ts is (order.columns k c.requires.there) order.rows in
     let size : length ts ≡ c.span-span.result.end - start = columns-length (column_of bytes h) start (c.span-span.result.end - start) ts is in
     let through = clamped-through ts n (omega (arith, size, c.end_of_found-end.ensures.within)) ∙ ap (λ o. option_or o (index_within ts 0)) found ∙ sym (index-clamped col ts) in

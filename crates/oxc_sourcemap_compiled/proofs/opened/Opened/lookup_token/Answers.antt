@@ -1,4 +1,4 @@
-use Rattle.std.proofs.Common.{◌≡◌, ◌+◌, ◌<◌, ◌≤◌, ap, ◌∙◌, sym, refl, arith, Some, slice_get}
+use Rattle.std.proofs.Common.{◌+◌, ◌<◌, ◌≤◌, ap, ◌∙◌, sym, arith, Some, slice_get}
 use Rattle.std.specs.Option.{option_and_then}
 use Rattle.oxc_sourcemap_compiled.specs.Words.{tokens_in, token_in, start_in}
 use Rattle.oxc_sourcemap_compiled.proofs.Entries.{begin-is, end-is, token-is}

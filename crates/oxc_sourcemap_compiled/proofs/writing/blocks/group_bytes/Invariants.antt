@@ -1,4 +1,4 @@
-use Rattle.std.proofs.Common.{◌≡◌, ◌≤◌, ◌+◌, ◌-◌, ◌*◌, drop}
+use Rattle.std.proofs.Common.{◌≡◌, ◌≤◌, ◌+◌, ◌*◌, drop}
 use Rattle.oxc_sourcemap_compiled.specs.Words.{group_bytes_of}
 use Rattle.oxc_sourcemap_compiled.proofs.writing.blocks.group_bytes.Given as goal
 

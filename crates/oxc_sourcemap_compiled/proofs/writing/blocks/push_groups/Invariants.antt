@@ -1,4 +1,4 @@
-use Rattle.std.proofs.Common.{◌≡◌, ◌++◌, ◌+◌, ◌*◌, ◌/◌, take, drop, get_or}
+use Rattle.std.proofs.Common.{◌≡◌, ◌++◌, ◌*◌, ◌/◌, take, drop, get_or}
 use Rattle.std.specs.List.{flat_map, range_with_len}
 use Rattle.oxc_sourcemap_compiled.specs.Compiled.{group_of, no_block}
 use Rattle.oxc_sourcemap_compiled.proofs.writing.blocks.push_groups.Given as goal

@@ -1,4 +1,4 @@
-use Rattle.std.proofs.Common.{◌≡◌, ◌<◌, ◌+◌, get_or, arith, ◌∙◌, sym, ap}
+use Rattle.std.proofs.Common.{◌+◌, get_or, arith}
 use Rattle.oxc_sourcemap_compiled.proofs.Slices.{line-below}
 use Rattle.oxc_sourcemap_compiled.proofs.writing.lines.all_lines.Goals as goal
 

@@ -1,4 +1,4 @@
-use Rattle.std.proofs.Common.{◌≡◌, ◌<◌, ◌≤◌, ℕ, length, get_or}
+use Rattle.std.proofs.Common.{◌≡◌, ◌<◌, ℕ, length, get_or}
 use Rattle.oxc_sourcemap_compiled.proofs.writing.lines.all_lines.Given as goal
 
 abbrev pub invariant-loop-line : goal.invariant-loop-line

@@ -1,8 +1,8 @@
-use Rattle.std.proofs.Common.{◌≡◌, ◌≤◌, ◌+◌, ◌++◌, map, length, refl, ap, ◌∙◌, sym, arith, append_assoc, append-nil}
+use Rattle.std.proofs.Common.{◌++◌, ap, ◌∙◌, sym, append_assoc}
 use Rattle.std.specs.List.{flat_map, range_with_len}
 use Rattle.oxc_sourcemap_parts.specs.Views.{record_of_parts}
-use Rattle.oxc_sourcemap_compiled.specs.Compiled.{text_offset, table, bytes_of, stored_text, stored_count}
-use Rattle.oxc_sourcemap_compiled.proofs.Slices.{table-more, offsets-grow, offset-next, flat_map-more}
+use Rattle.oxc_sourcemap_compiled.specs.Compiled.{stored_text}
+use Rattle.oxc_sourcemap_compiled.proofs.Slices.{flat_map-more}
 use Rattle.oxc_sourcemap_compiled.proofs.writing.texts.push_texts.Goals as goal
 
 pub loop-t-preserved : goal.loop-t-preserved

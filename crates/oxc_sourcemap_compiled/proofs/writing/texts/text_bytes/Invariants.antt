@@ -1,7 +1,6 @@
-use Rattle.std.proofs.Common.{◌≡◌, ◌≤◌, ◌+◌, ◌++◌, map}
-use Rattle.std.specs.List.{flat_map, range_with_len}
+use Rattle.std.proofs.Common.{◌≡◌, ◌≤◌}
 use Rattle.oxc_sourcemap_parts.specs.Views.{record_of_parts}
-use Rattle.oxc_sourcemap_compiled.specs.Compiled.{text_offset, table, stored_text}
+use Rattle.oxc_sourcemap_compiled.specs.Compiled.{text_offset}
 use Rattle.oxc_sourcemap_compiled.proofs.writing.texts.text_bytes.Given as goal
 
 abbrev pub invariant-loop-t : goal.invariant-loop-t

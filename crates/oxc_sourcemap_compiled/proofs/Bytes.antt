@@ -1,5 +1,6 @@
 -- Numbers as bytes.
-use Rattle.std.proofs.Common.{◌≡◌, ℕ, zero, suc, ◌-◌, ◌/◌, ◌%◌, ◌<◌, [], ◌∷◌, length, arith, refl, ap}
+use Rattle.std.proofs.Common.{◌≡◌, ℕ, zero, suc, ◌-◌, ◌/◌, ◌%◌, ◌<◌, [], ◌∷◌, length, arith, refl}
+use Rattle.std.proofs.Common.{ap}
 use Rattle.oxc_sourcemap_compiled.specs.Compiled.{bytes_of}
 
 -- the lowest byte, and the others

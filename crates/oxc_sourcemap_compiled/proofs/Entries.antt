@@ -1,6 +1,9 @@
 -- The tokens of a compiled map in order: those of its entries, one entry after the other.
-use Rattle.std.proofs.Common.{◌≡◌, ◌≢◌, ℕ, zero, suc, ◌+◌, ◌-◌, ◌<◌, ◌≤◌, Bool, true, false, List, [], ◌∷◌, ◌++◌, map}
-use Rattle.std.proofs.Common.{length, nat_lt, ◌==◌, refl, sym, ap, ◌∙◌, arith, if◌then◌else◌, Option, None, option_map, length-append, append-nil, get_or, slice_get, Some}
+use Rattle.std.proofs.Common.{◌≡◌, ◌≢◌, ℕ, zero, suc, ◌+◌, ◌-◌, ◌<◌, ◌≤◌, Bool, true, false, List}
+use Rattle.std.proofs.Common.{[], ◌∷◌, ◌++◌, map}
+use Rattle.std.proofs.Common.{length, nat_lt, ◌==◌, refl, sym, ap, ◌∙◌, arith, if◌then◌else◌}
+use Rattle.std.proofs.Common.{Option, None, option_map, length-append, append-nil, get_or}
+use Rattle.std.proofs.Common.{slice_get, Some}
 use Rattle.std.proofs.lemmas.List.{get_or_append_left, get_or-append_right}
 use Rattle.std.proofs.lemmas.Option.{slice_get-get_or}
 use Rattle.std.specs.List.{range_with_len}
@@ -8,12 +11,16 @@ use Rattle.std.proofs.lemmas.List.FromFn.{length-map-range_with_len, get_or-map-
 use Rattle.oxc_sourcemap_tokens.specs.Token.{TokenRecord}
 use Rattle.oxc_sourcemap_tokens.specs.LineOrder.{IsInLineOrder}
 use Rattle.oxc_sourcemap_parts.specs.Sorted.{token_line}
-use Rattle.oxc_sourcemap_lookup.specs.Lookup.{on_line, index_at, clamped_index_at, index_at_or_after, index_for, clamped_index_for, index_after}
+use Rattle.oxc_sourcemap_lookup.specs.Lookup.{on_line, index_at, clamped_index_at}
+use Rattle.oxc_sourcemap_lookup.specs.Lookup.{index_at_or_after, index_for, clamped_index_for}
+use Rattle.oxc_sourcemap_lookup.specs.Lookup.{index_after}
 use Rattle.oxc_sourcemap_lookup.specs.LineSpans.{count_before_line}
 use Rattle.oxc_sourcemap_lookup.proofs.Tables.{IsFrom, IsFrom-le, from-in_order}
 use Rattle.oxc_sourcemap_lookup.proofs.LineStarts.{counts-one, none-before}
-use Rattle.oxc_sourcemap_lookup.proofs.LineIndices.{from_line, index_for-own, clamped_index_for-own, index_after-own}
-use Rattle.oxc_sourcemap_compiled.specs.Meaning.{joined, token_in, start_in, line_in, entry_begin, entry_end, entry_tokens, tokens_in}
+use Rattle.oxc_sourcemap_lookup.proofs.LineIndices.{from_line, index_for-own, clamped_index_for-own}
+use Rattle.oxc_sourcemap_lookup.proofs.LineIndices.{index_after-own}
+use Rattle.oxc_sourcemap_compiled.specs.Meaning.{joined, token_in, start_in, line_in, entry_begin}
+use Rattle.oxc_sourcemap_compiled.specs.Meaning.{entry_end, entry_tokens, tokens_in}
 use Rattle.oxc_sourcemap_compiled.specs.Order.{AreInOrder}
 use Rattle.oxc_sourcemap_compiled.specs.declared.layout.Header.{Header}
 use Rattle.oxc_sourcemap_compiled.proofs.Searches.{rises, has-cut}

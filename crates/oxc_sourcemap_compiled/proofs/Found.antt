@@ -1,12 +1,17 @@
 -- The token that a lookup finds is that of the index that it finds.
-use Rattle.std.proofs.Common.{◌≡◌, ℕ, suc, ◌+◌, Bool, true, false, List, [], ◌∷◌, map, filter, slice_get, nat_le, ◌==◌}
-use Rattle.std.proofs.Common.{Option, Some, None, option_map, IfSome, refl, sym, ap, ◌∙◌, arith, if◌then◌else◌}
+use Rattle.std.proofs.Common.{◌≡◌, ℕ, suc, ◌+◌, Bool, true, false, List, [], ◌∷◌, map, filter}
+use Rattle.std.proofs.Common.{slice_get, nat_le, ◌==◌}
+use Rattle.std.proofs.Common.{Option, Some, None, option_map, IfSome, refl, sym, ap, ◌∙◌, arith}
+use Rattle.std.proofs.Common.{if◌then◌else◌}
 use Rattle.std.specs.Option.{option_and_then, option_or}
 use Rattle.std.specs.List.{last_or}
 use Rattle.oxc_sourcemap_tokens.specs.Token.{TokenRecord, last}
 use Rattle.oxc_sourcemap_parts.specs.Sorted.{token_line, token_column}
-use Rattle.oxc_sourcemap_lookup.specs.Lookup.{on_line, at, clamped_at, at_or_after, first, greatest, least, not_past, not_before, numbered, numbered_from, numbered_line, numbered_column}
-use Rattle.oxc_sourcemap_lookup.specs.Lookup.{token_for, clamped_token_for, token_after, index_for, clamped_index_for, index_after}
+use Rattle.oxc_sourcemap_lookup.specs.Lookup.{on_line, at, clamped_at, at_or_after, first, greatest}
+use Rattle.oxc_sourcemap_lookup.specs.Lookup.{least, not_past, not_before, numbered, numbered_from}
+use Rattle.oxc_sourcemap_lookup.specs.Lookup.{numbered_line, numbered_column}
+use Rattle.oxc_sourcemap_lookup.specs.Lookup.{token_for, clamped_token_for, token_after, index_for}
+use Rattle.oxc_sourcemap_lookup.specs.Lookup.{clamped_index_for, index_after}
 use Rattle.oxc_sourcemap_lookup.proofs.Picks.{at-map, clamped_at-map, at_or_after-map}
 
 -- all items are like this

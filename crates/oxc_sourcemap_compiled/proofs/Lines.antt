@@ -1,6 +1,8 @@
 -- The tokens of a line, and the cuts of their columns.
-use Rattle.std.proofs.Common.{◌≡◌, ℕ, zero, suc, ◌+◌, ◌-◌, ◌<◌, ◌≤◌, Bool, true, false, List, [], ◌∷◌, map, take, drop}
-use Rattle.std.proofs.Common.{length, get_or, nat_lt, refl, sym, ap, ◌∙◌, arith, length-take, length-drop}
+use Rattle.std.proofs.Common.{◌≡◌, ℕ, zero, suc, ◌+◌, ◌-◌, ◌<◌, ◌≤◌, Bool, true, false, List, []}
+use Rattle.std.proofs.Common.{◌∷◌, map, take, drop}
+use Rattle.std.proofs.Common.{length, get_or, nat_lt, refl, sym, ap, ◌∙◌, arith, length-take}
+use Rattle.std.proofs.Common.{length-drop}
 use Rattle.std.proofs.Common.{None, Some, option_map, ◌==◌, if◌then◌else◌}
 use Rattle.std.specs.Option.{option_or}
 use Rattle.oxc_sourcemap_tokens.specs.Token.{last}
@@ -9,7 +11,8 @@ use Rattle.std.proofs.lemmas.List.FromFn.{get_or-map-range_with_len, length-map-
 use Rattle.std.specs.List.{range_with_len}
 use Rattle.oxc_sourcemap_tokens.specs.Token.{TokenRecord}
 use Rattle.oxc_sourcemap_parts.specs.Sorted.{token_column}
-use Rattle.oxc_sourcemap_lookup.specs.Lookup.{no_column_goes_back, first, index_at, clamped_index_at, index_at_or_after, index_before}
+use Rattle.oxc_sourcemap_lookup.specs.Lookup.{no_column_goes_back, first, index_at}
+use Rattle.oxc_sourcemap_lookup.specs.Lookup.{clamped_index_at, index_at_or_after, index_before}
 use Rattle.oxc_sourcemap_lookup.proofs.Halving.{before, before-later, before-earlier, before-all}
 use Rattle.oxc_sourcemap_lookup.proofs.Lookups.{goes_on, not_before, not_before-at}
 use Rattle.oxc_sourcemap_compiled.specs.Cuts.{IsCut, DoNotFall}

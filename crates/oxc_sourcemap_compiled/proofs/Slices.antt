@@ -1,6 +1,8 @@
 -- Parts of lists, and what holds of their elements.
-use Rattle.std.proofs.Common.{◌≡◌, ℕ, zero, suc, ◌+◌, ◌-◌, ◌<◌, ◌≤◌, Bool, true, false, List, [], ◌∷◌, ◌++◌, take, drop, length, get_or, nat_lt, min}
-use Rattle.std.proofs.Common.{refl, sym, ap, ◌∙◌, arith, subst, length-drop, ◌⊎◌, inl, inr, append-nil, append_assoc, map}
+use Rattle.std.proofs.Common.{◌≡◌, ℕ, zero, suc, ◌+◌, ◌-◌, ◌<◌, ◌≤◌, Bool, true, false, List, []}
+use Rattle.std.proofs.Common.{◌∷◌, ◌++◌, take, drop, length, get_or, nat_lt, min}
+use Rattle.std.proofs.Common.{refl, sym, ap, ◌∙◌, arith, subst, length-drop, ◌⊎◌, inl, inr}
+use Rattle.std.proofs.Common.{append-nil, append_assoc, map}
 use Rattle.std.proofs.lemmas.List.FromFn.{map-range_with_len_more}
 use Rattle.oxc_sourcemap_parts.specs.Record.{MapRecord}
 use Rattle.oxc_sourcemap_compiled.specs.Compiled.{table, bytes_of, text_offset, stored_text}

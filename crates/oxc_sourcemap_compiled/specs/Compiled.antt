@@ -1,6 +1,8 @@
 -- The bytes of a compiled map.
-use Rattle.std.specs.Prelude.{◌≡◌, ℕ, zero, suc, ◌+◌, ◌-◌, ◌*◌, ◌/◌, ◌%◌, ◌^◌, ◌<◌, ◌≤◌, List, [], ◌∷◌, ◌++◌, map, take, drop, length}
-use Rattle.std.specs.Prelude.{get_or, slice_get, Option, Some, None, min, if◌then◌else◌, Bool, true, false, is_some, nat_lt, ◌==◌}
+use Rattle.std.specs.Prelude.{◌≡◌, ℕ, zero, suc, ◌+◌, ◌-◌, ◌*◌, ◌/◌, ◌%◌, ◌^◌, ◌<◌, ◌≤◌, List, []}
+use Rattle.std.specs.Prelude.{◌∷◌, ◌++◌, map, take, drop, length}
+use Rattle.std.specs.Prelude.{get_or, slice_get, Option, Some, None, min, if◌then◌else◌, Bool, true}
+use Rattle.std.specs.Prelude.{false, is_some, nat_lt, ◌==◌}
 use Rattle.std.specs.List.{flat_map, range_with_len}
 use Rattle.std.specs.Option.{option_and_then, unwrap_or}
 use Rattle.oxc_sourcemap_tokens.specs.Token.{TokenRecord}

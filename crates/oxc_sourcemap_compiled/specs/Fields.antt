@@ -1,6 +1,7 @@
 -- The values of fields of tokens. Tokens stand in blocks of 64 and in groups of four. A group has the fields one after the other;
 -- four values of a field take a whole number of bytes, its width, and are numbers of twice as many bits, the first token's lowest.
-use Rattle.std.specs.Prelude.{ℕ, ◌+◌, ◌*◌, ◌/◌, ◌%◌, ◌^◌, ◌≤◌, List, length, take, drop, get_or, min, sum, nat_le, if◌then◌else◌}
+use Rattle.std.specs.Prelude.{ℕ, ◌+◌, ◌*◌, ◌/◌, ◌%◌, ◌^◌, ◌≤◌, List, length, take, drop, get_or}
+use Rattle.std.specs.Prelude.{min, sum, nat_le, if◌then◌else◌}
 use Rattle.oxc_sourcemap_compiled.specs.Numbers.{number_at}
 use Rattle.oxc_sourcemap_compiled.specs.Layout.{rows_base, groups_base}
 use Rattle.oxc_sourcemap_compiled.specs.declared.fields.Field.{Field}

@@ -1,6 +1,7 @@
 -- What the bytes of a compiled map mean.
 use Rattle.std.specs.Prelude.{ℕ, ◌+◌, ◌-◌, ◌*◌, List, [], ◌∷◌, ◌++◌, map, take, drop, length}
-use Rattle.std.specs.Prelude.{Option, Some, None, Result, Ok, Err, nat_le, nat_lt, min, slice_get, ◌&&◌, if◌then◌else◌}
+use Rattle.std.specs.Prelude.{Option, Some, None, Result, Ok, Err, nat_le, nat_lt, min, slice_get}
+use Rattle.std.specs.Prelude.{◌&&◌, if◌then◌else◌}
 use Rattle.std.specs.List.{range_with_len}
 use Rattle.std.specs.Option.{option_and_then, unwrap_or}
 use Rattle.std.specs.Str.{is_utf8}
@@ -9,7 +10,8 @@ use Rattle.oxc_sourcemap_parts.specs.Record.{MapRecord, Text}
 use Rattle.oxc_sourcemap_compiled.specs.declared.errors.CompiledError.{CompiledError}
 use Rattle.oxc_sourcemap_compiled.specs.declared.layout.Header.{Header}
 use Rattle.oxc_sourcemap_compiled.specs.Numbers.{number_at}
-use Rattle.oxc_sourcemap_compiled.specs.Layout.{header_in, offsets_base, ignored_base, texts_base, line_numbers_base, compiled_fault}
+use Rattle.oxc_sourcemap_compiled.specs.Layout.{header_in, offsets_base, ignored_base, texts_base}
+use Rattle.oxc_sourcemap_compiled.specs.Layout.{line_numbers_base, compiled_fault}
 use Rattle.oxc_sourcemap_compiled.specs.Fields.{value_of}
 
 -- ---- tokens

@@ -2,7 +2,9 @@
 use Rattle.std.specs.Prelude.{ℕ, List, ◌++◌, codes}
 use Rattle.std.specs.Fmt.{decimal}
 use Rattle.oxc_sourcemap_compiled.specs.declared.errors.CompiledError.{CompiledError}
-use Rattle.oxc_sourcemap_compiled.specs.declared.errors.CompiledError.TheVariants.{NotCompiled, Version, Length, Sizes}
+use Rattle.oxc_sourcemap_compiled.specs.declared.errors.CompiledError.TheVariants.{NotCompiled}
+use Rattle.oxc_sourcemap_compiled.specs.declared.errors.CompiledError.TheVariants.{Version, Length}
+use Rattle.oxc_sourcemap_compiled.specs.declared.errors.CompiledError.TheVariants.{Sizes}
 
 -- the message of an error
 abbrev pub compiled_error_text : CompiledError → List ℕ

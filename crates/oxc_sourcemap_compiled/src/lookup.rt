@@ -1,5 +1,6 @@
 //! Lookups of generated positions.
-ghost use Rattle.std.specs.Prelude.{◌≡◌, ◌+◌, ◌-◌, ◌*◌, ◌≤◌, ◌<◌, ℕ, List, true, map, option_map, IfSome};
+ghost use Rattle.std.specs.Prelude.{◌≡◌, ◌+◌, ◌-◌, ◌*◌, ◌≤◌, ◌<◌, ℕ, List, true, map, option_map};
+ghost use Rattle.std.specs.Prelude.{IfSome};
 ghost use Rattle.std.specs.Prelude.{nat_lt, Some, None, if◌then◌else◌};
 ghost use Rattle.std.specs.List.{range_with_len};
 ghost use Rattle.oxc_sourcemap_lookup.specs.Words.{TokenRecord, token_column, no_column_goes_back};
@@ -7,7 +8,8 @@ ghost use Rattle.oxc_sourcemap_lookup.specs.Words.{index_at, clamped_index_at, i
 ghost use Rattle.oxc_sourcemap_lookup.specs.Words.{index_before, index_for, clamped_index_for};
 ghost use Rattle.oxc_sourcemap_lookup.specs.Words.{index_after};
 ghost use Rattle.oxc_sourcemap_compiled.specs.Words.{IsOpened, AreRowsExact, AreInOrder, column_of};
-ghost use Rattle.oxc_sourcemap_compiled.specs.Words.{entry_begin, entry_end, entry_tokens, tokens_in};
+ghost use Rattle.oxc_sourcemap_compiled.specs.Words.{entry_begin, entry_end, entry_tokens};
+ghost use Rattle.oxc_sourcemap_compiled.specs.Words.{tokens_in};
 ghost use Rattle.oxc_sourcemap_compiled.specs.Words.{IsOnLine, IsTokenOn, columns_in};
 ghost use Rattle.oxc_sourcemap_lookup.specs.Words.{token_for, clamped_token_for};
 ghost use Rattle.oxc_sourcemap_lookup.specs.Lookup.{token_after};
@@ -86,8 +88,10 @@ impl<'a> Opened<'a> {
     fn index_in(&self, k: usize, col: u32) -> Option<usize>
         requires opened { IsOpened self.now }
         requires there { k < self.now.header.lines }
-        ensures reached { IfSome result (λ i. entry_begin self.now.bytes.now self.now.header k ≤ i) }
-        ensures within { IfSome result (λ i. i < entry_end self.now.bytes.now self.now.header k) }
+        ensures reached { IfSome result
+            (λ i. entry_begin self.now.bytes.now self.now.header k ≤ i) }
+        ensures within { IfSome result
+            (λ i. i < entry_end self.now.bytes.now self.now.header k) }
         ensures found { AreInOrder self.now.bytes.now self.now.header
             → result ≡ option_map (λ i. entry_begin self.now.bytes.now self.now.header k + i)
             (index_at (entry_tokens self.now.bytes.now self.now.header k) col) }
@@ -106,8 +110,10 @@ impl<'a> Opened<'a> {
     fn index_in_clamped(&self, k: usize, col: u32) -> Option<usize>
         requires opened { IsOpened self.now }
         requires there { k < self.now.header.lines }
-        ensures reached { IfSome result (λ i. entry_begin self.now.bytes.now self.now.header k ≤ i) }
-        ensures within { IfSome result (λ i. i < entry_end self.now.bytes.now self.now.header k) }
+        ensures reached { IfSome result
+            (λ i. entry_begin self.now.bytes.now self.now.header k ≤ i) }
+        ensures within { IfSome result
+            (λ i. i < entry_end self.now.bytes.now self.now.header k) }
         ensures found { AreInOrder self.now.bytes.now self.now.header
             → result ≡ option_map (λ i. entry_begin self.now.bytes.now self.now.header k + i)
             (clamped_index_at (entry_tokens self.now.bytes.now self.now.header k) col) }
@@ -125,8 +131,10 @@ impl<'a> Opened<'a> {
     fn index_in_after(&self, k: usize, col: u32) -> Option<usize>
         requires opened { IsOpened self.now }
         requires there { k < self.now.header.lines }
-        ensures reached { IfSome result (λ i. entry_begin self.now.bytes.now self.now.header k ≤ i) }
-        ensures within { IfSome result (λ i. i < entry_end self.now.bytes.now self.now.header k) }
+        ensures reached { IfSome result
+            (λ i. entry_begin self.now.bytes.now self.now.header k ≤ i) }
+        ensures within { IfSome result
+            (λ i. i < entry_end self.now.bytes.now self.now.header k) }
         ensures found { AreInOrder self.now.bytes.now self.now.header
             → result ≡ option_map (λ i. entry_begin self.now.bytes.now self.now.header k + i)
             (index_at_or_after (entry_tokens self.now.bytes.now self.now.header k) col) }

@@ -1,5 +1,6 @@
 //! Compiled maps that are opened.
-ghost use Rattle.std.specs.Prelude.{◌≡◌, ◌+◌, ◌*◌, ◌<◌, IfSome, IfOk, IsTrue, ◌↔◌, length, option_map, [], is_some};
+ghost use Rattle.std.specs.Prelude.{◌≡◌, ◌+◌, ◌*◌, ◌<◌, IfSome, IfOk, IsTrue, ◌↔◌, length};
+ghost use Rattle.std.specs.Prelude.{option_map, [], is_some};
 ghost use Rattle.std.specs.List.{Contains};
 ghost use Rattle.std.specs.Option.{option_and_then, unwrap_or};
 ghost use Rattle.std.specs.Prelude.{slice_get, Some};
@@ -214,7 +215,8 @@ impl<'a> CompiledMap<'a> {
     /// The content of a source, lent from the bytes; None where it is not known, or not UTF-8.
     pub fn get_source_content(&self, id: u32) -> Option<&'a str>
         ensures { lent_item result ≡ optional_text
-            (option_and_then (λ text. text) (slice_get (compiled_in self.now).content.source_contents id)) }
+            (option_and_then (λ text. text)
+            (slice_get (compiled_in self.now).content.source_contents id)) }
     {
         let opened = self.opened;
         if (id as usize) < opened.header.sources {
@@ -288,7 +290,8 @@ impl<'a> CompiledMap<'a> {
 
     /// Whether the ignore list has this id of a source.
     pub fn is_ignored(&self, id: u32) -> bool
-        ensures { IsTrue result ↔ Contains (unwrap_or (compiled_in self.now).content.ignore_list []) id }
+        ensures { IsTrue result
+            ↔ Contains (unwrap_or (compiled_in self.now).content.ignore_list []) id }
     {
         self.opened.header.has_ignore_list && self.opened.has_ignored(id)
     }

@@ -1,5 +1,6 @@
 //! What is opened: bytes, and where the parts of the map lie in them.
-ghost use Rattle.std.specs.Prelude.{◌≡◌, ◌+◌, ◌*◌, ◌≤◌, ◌<◌, length, sum, take, IfOk, IfErr, None, true};
+ghost use Rattle.std.specs.Prelude.{◌≡◌, ◌+◌, ◌*◌, ◌≤◌, ◌<◌, length, sum, take, IfOk, IfErr, None};
+ghost use Rattle.std.specs.Prelude.{true};
 ghost use Rattle.std.specs.Prelude.{Some};
 ghost use Rattle.oxc_sourcemap_tokens.specs.Results.{lent_item};
 ghost use Rattle.oxc_sourcemap_compiled.specs.Words.{IsOpened, IsField, block_count, text_count};

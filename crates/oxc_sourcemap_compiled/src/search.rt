@@ -1,8 +1,10 @@
 //! Searches by halving: of a line, of a block, and of a token in a block.
 ghost use Rattle.std.specs.Prelude.{◌≡◌, ◌+◌, ◌*◌, ◌/◌, ◌≤◌, ◌<◌, ℕ, true, nat_lt, if◌then◌else◌};
 ghost use Rattle.std.specs.Prelude.{IfSome, IsNone, ◌≢◌, slice_get};
-ghost use Rattle.oxc_sourcemap_compiled.specs.Words.{IsOpened, IsField, IsCut, DoNotFall, AreRowsExact};
-ghost use Rattle.oxc_sourcemap_compiled.specs.Words.{value_in, column_of, least_column_of, block_count};
+ghost use Rattle.oxc_sourcemap_compiled.specs.Words.{IsOpened, IsField, IsCut, DoNotFall};
+ghost use Rattle.oxc_sourcemap_compiled.specs.Words.{AreRowsExact};
+ghost use Rattle.oxc_sourcemap_compiled.specs.Words.{value_in, column_of, least_column_of};
+ghost use Rattle.oxc_sourcemap_compiled.specs.Words.{block_count};
 ghost use Rattle.oxc_sourcemap_compiled.specs.Words.{number_in_list, line_in, AreInOrder, start_in};
 ghost use Rattle.oxc_sourcemap_compiled.specs.Words.{tokens_in, IsTokenAt};
 
@@ -32,7 +34,8 @@ impl Field {
         requires there { first + count ≤ 64 }
         ensures reached { first ≤ result }
         ensures within { result ≤ first + count }
-        ensures cut { (cut : ℕ) → IsCut (value_in bytes.now self.now) limit first (first + count) cut
+        ensures cut { (cut : ℕ)
+            → IsCut (value_in bytes.now self.now) limit first (first + count) cut
             → result ≡ cut }
     {
         let mut start = first;

@@ -1,5 +1,6 @@
 //! Writing compiled maps.
-ghost use Rattle.std.specs.Prelude.{◌≡◌, ◌≤◌, ◌<◌, ◌⊎◌, ◌++◌, ℕ, IfErr, IfOk, OnOk, Err, false, true};
+ghost use Rattle.std.specs.Prelude.{◌≡◌, ◌≤◌, ◌<◌, ◌⊎◌, ◌++◌, ℕ, IfErr, IfOk, OnOk, Err, false};
+ghost use Rattle.std.specs.Prelude.{true};
 ghost use Rattle.std.specs.Prelude.{length, get_or, is_some};
 ghost use Rattle.oxc_sourcemap_tokens.specs.declared.errors.error.Error.TheVariants.{OutOfMemory};
 ghost use Rattle.oxc_sourcemap_tokens.specs.declared.errors.error.Error.TheVariants.{TooLarge};
@@ -8,7 +9,8 @@ ghost use Rattle.oxc_sourcemap_tokens.specs.declared.errors.plan_error.PlanError
 ghost use Rattle.oxc_sourcemap_parts.specs.Words.{are_tokens_sorted, record_of_parts};
 ghost use Rattle.oxc_sourcemap_compiled.specs.Words.{AreLinesOf, AreBlocksOf, AreCountsOf};
 ghost use Rattle.oxc_sourcemap_compiled.specs.Words.{AreBytesOf, ignored_of, header_bytes};
-ghost use Rattle.oxc_sourcemap_compiled.specs.Words.{parts_bytes, stored_count, text_offset, header_of_map};
+ghost use Rattle.oxc_sourcemap_compiled.specs.Words.{parts_bytes, stored_count, text_offset};
+ghost use Rattle.oxc_sourcemap_compiled.specs.Words.{header_of_map};
 ghost use Rattle.oxc_sourcemap_compiled.specs.Words.{group_bytes_of};
 ghost use Rattle.oxc_sourcemap_compiled.specs.Compiled.{map_bytes};
 ghost use Rattle.std.specs.Prelude.{◌+◌, ◌/◌};
@@ -221,7 +223,8 @@ pub fn compile(
         stamp.now bytes.items) }
     ensures unsorted { are_tokens_sorted (record_of_parts parts.now).tokens ≡ false
         → result ≡ Err Unsorted }
-    ensures errors { IfErr result (λ e. (e ≡ Unsorted) ⊎ (e ≡ Map TooLarge) ⊎ (e ≡ Map OutOfMemory)) }
+    ensures errors { IfErr result
+        (λ e. (e ≡ Unsorted) ⊎ (e ≡ Map TooLarge) ⊎ (e ≡ Map OutOfMemory)) }
     ensures sorted { IfErr result (λ e. e ≡ Unsorted
         → are_tokens_sorted (record_of_parts parts.now).tokens ≡ false) }
 {

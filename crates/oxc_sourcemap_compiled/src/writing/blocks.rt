@@ -1,9 +1,13 @@
 //! Blocks of 64 tokens: their rows, and their groups of four.
-ghost use Rattle.std.specs.Prelude.{◌≡◌, ◌≤◌, ◌<◌, ◌+◌, ◌-◌, ◌*◌, ◌/◌, ◌^◌, ℕ, IfOk, OnOk, length, get_or};
+ghost use Rattle.std.specs.Prelude.{◌≡◌, ◌≤◌, ◌<◌, ◌+◌, ◌-◌, ◌*◌, ◌/◌, ◌^◌, ℕ, IfOk, OnOk, length};
+ghost use Rattle.std.specs.Prelude.{get_or};
 ghost use Rattle.std.specs.Prelude.{◌++◌, take, drop};
-ghost use Rattle.oxc_sourcemap_compiled.specs.Words.{field_number, IsPacked, ArePacked, AreBlocksOf};
-ghost use Rattle.oxc_sourcemap_compiled.specs.Words.{bytes_of, stride_of, rows_of, packed, group_of};
-ghost use Rattle.oxc_sourcemap_compiled.specs.Words.{group_bytes_of, id_number, row_of, above_in, AreNarrow};
+ghost use Rattle.oxc_sourcemap_compiled.specs.Words.{field_number, IsPacked, ArePacked};
+ghost use Rattle.oxc_sourcemap_compiled.specs.Words.{AreBlocksOf};
+ghost use Rattle.oxc_sourcemap_compiled.specs.Words.{bytes_of, stride_of, rows_of, packed};
+ghost use Rattle.oxc_sourcemap_compiled.specs.Words.{group_of};
+ghost use Rattle.oxc_sourcemap_compiled.specs.Words.{group_bytes_of, id_number, row_of, above_in};
+ghost use Rattle.oxc_sourcemap_compiled.specs.Words.{AreNarrow};
 ghost use Rattle.oxc_sourcemap_compiled.specs.Words.{groups_of};
 ghost use Rattle.oxc_sourcemap_tokens.specs.Results.{lent_item};
 ghost use Rattle.std.specs.Prelude.{IfSome};

@@ -1,5 +1,6 @@
 //! The entries of lines: which lines have one, and where their tokens begin.
-ghost use Rattle.std.specs.Prelude.{◌≡◌, ◌≤◌, ◌<◌, ◌+◌, ℕ, IfOk, OnOk, length, get_or, ◌++◌, map, ◌∷◌, []};
+ghost use Rattle.std.specs.Prelude.{◌≡◌, ◌≤◌, ◌<◌, ◌+◌, ℕ, IfOk, OnOk, length, get_or, ◌++◌, map};
+ghost use Rattle.std.specs.Prelude.{◌∷◌, []};
 ghost use Rattle.std.specs.Prelude.{true};
 ghost use Rattle.oxc_sourcemap_tokens.specs.Token.{TokenRecord, last};
 ghost use Rattle.oxc_sourcemap_lookup.specs.Words.{are_tokens_sorted, count_before_line};
@@ -68,7 +69,8 @@ fn tokens_before(tokens: &[Token], line: u32) -> usize
 /// Appends where the tokens of each of these lines begin, and where those of the last one end.
 pub(crate) fn push_starts(out: &mut Vec<u8>, tokens: &[Token], lines: &[u32]) -> Memory<()>
     requires { are_tokens_sorted tokens.now ≡ true }
-    ensures { OnOk result (out.new.items ≡ out.old.items ++ table (line_starts tokens.now lines.now)) }
+    ensures { OnOk result (out.new.items
+        ≡ out.old.items ++ table (line_starts tokens.now lines.now)) }
 {
     for line in lines {
         push_u32(out, tokens_before(tokens, *line))?;

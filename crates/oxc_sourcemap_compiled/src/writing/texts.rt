@@ -110,8 +110,8 @@ fn length_of(stored: Stored<'_>) -> usize
 pub(crate) fn text_bytes(parts: &SourceMapParts<'_>) -> usize
     requires sources { length (record_of_parts parts.now).sources ≤ 4294967295 }
     requires names { length (record_of_parts parts.now).names ≤ 4294967295 }
-    ensures { result ≤ 4294967295
-        → result ≡ text_offset (record_of_parts parts.now) (stored_count (record_of_parts parts.now)) }
+    ensures { result ≤ 4294967295 → result ≡ text_offset (record_of_parts parts.now)
+        (stored_count (record_of_parts parts.now)) }
 {
     let mut sum: usize = 0;
     for t in 0..count_texts(parts) {

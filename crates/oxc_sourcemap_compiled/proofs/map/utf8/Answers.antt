@@ -1,4 +1,5 @@
-use Rattle.std.proofs.Common.{◌≡◌, ap, ◌∙◌, sym, true, false, Bool, Some, None, if◌then◌else◌, refl, List, ℕ}
+use Rattle.std.proofs.Common.{◌≡◌, ap, ◌∙◌, sym, true, false, Bool, Some, None, if◌then◌else◌, refl}
+use Rattle.std.proofs.Common.{List, ℕ}
 use Rattle.std.specs.Str.{is_utf8, IsUtf8}
 use Rattle.std.proofs.lemmas.Str.{is_utf8-from_IsUtf8, IsUtf8-from_is_utf8}
 use Rattle.oxc_sourcemap_compiled.proofs.map.utf8.Goals as goal

@@ -1,7 +1,8 @@
 use Rattle.std.proofs.Common.{◌≤◌, ◌+◌, ◌/◌, length, ap, ◌∙◌, sym, subst}
 use Rattle.oxc_sourcemap_parts.specs.Views.{record_of_parts}
 use Rattle.oxc_sourcemap_parts.specs.Sorted.{are_tokens_sorted}
-use Rattle.oxc_sourcemap_compiled.specs.Compiled.{AreLinesOf, AreBlocksOf, group_bytes_of, map_bytes}
+use Rattle.oxc_sourcemap_compiled.specs.Compiled.{AreLinesOf, AreBlocksOf, group_bytes_of}
+use Rattle.oxc_sourcemap_compiled.specs.Compiled.{map_bytes}
 use Rattle.oxc_sourcemap_compiled.proofs.writing.compile.Goals as goal
 
 pub returns-clause-bytes : goal.returns-clause-bytes

@@ -2,7 +2,9 @@ use Rattle.std.proofs.Common.{◌≡◌, ◌+◌, ◌/◌, ◌++◌, length, ap,
 use Rattle.std.specs.List.{flat_map, range_with_len}
 use Rattle.oxc_sourcemap_compiled.proofs.Slices.{appended}
 use Rattle.oxc_sourcemap_parts.specs.Views.{record_of_parts}
-use Rattle.oxc_sourcemap_compiled.specs.Compiled.{table, bytes_of, line_starts, rows_of, groups_of, ignored_of, text_offset, stored_count, stored_text, listed_table}
+use Rattle.oxc_sourcemap_compiled.specs.Compiled.{table, bytes_of, line_starts, rows_of, groups_of}
+use Rattle.oxc_sourcemap_compiled.specs.Compiled.{ignored_of, text_offset, stored_count}
+use Rattle.oxc_sourcemap_compiled.specs.Compiled.{stored_text, listed_table}
 use Rattle.oxc_sourcemap_compiled.proofs.writing.push_parts.Goals as goal
 
 pub returns : goal.returns

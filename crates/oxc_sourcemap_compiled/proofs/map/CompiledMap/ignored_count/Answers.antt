@@ -1,4 +1,5 @@
-use Rattle.std.proofs.Common.{◌≡◌, ap, ◌∙◌, sym, true, length, option_map, Some, None, map, if◌then◌else◌}
+use Rattle.std.proofs.Common.{◌≡◌, ap, ◌∙◌, sym, true, length, option_map, Some, None, map}
+use Rattle.std.proofs.Common.{if◌then◌else◌}
 use Rattle.std.specs.List.{range_with_len}
 use Rattle.std.proofs.lemmas.List.FromFn.{length-map-range_with_len}
 use Rattle.oxc_sourcemap_compiled.specs.Words.{header_in, ignored_in}

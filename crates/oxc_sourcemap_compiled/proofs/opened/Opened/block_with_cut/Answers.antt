@@ -1,7 +1,8 @@
 use Rattle.std.proofs.Common.{◌≡◌, ◌+◌, ◌-◌, ◌*◌, ◌/◌, ◌<◌, ◌≤◌, ℕ, min, max, arith}
 use Rattle.oxc_sourcemap_compiled.specs.Words.{column_of, least_column_of}
 use Rattle.oxc_sourcemap_compiled.proofs.Searches.{inner-cut, past-cut}
-use Rattle.oxc_sourcemap_compiled.proofs.opened.Opened.block_with_cut.Goals.{else-block-last-via-then-block-last+else-from-limit, else-block-last-via-else-block-last}
+use Rattle.oxc_sourcemap_compiled.proofs.opened.Opened.block_with_cut.Goals.{else-block-last-via-then-block-last+else-from-limit}
+use Rattle.oxc_sourcemap_compiled.proofs.opened.Opened.block_with_cut.Goals.{else-block-last-via-else-block-last}
 use Rattle.oxc_sourcemap_compiled.proofs.opened.Opened.block_with_cut.Goals as goal
 
 pub returns-else-block-last-clause-cut : goal.returns-else-block-last-clause-cut

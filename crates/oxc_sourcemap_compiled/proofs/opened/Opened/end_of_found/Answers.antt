@@ -1,11 +1,13 @@
-use Rattle.std.proofs.Common.{◌≡◌, ◌+◌, ◌-◌, ◌<◌, take, length, get_or, nat_lt, arith, ap, ◌∙◌, sym, refl, length-take, if◌then◌else◌}
+use Rattle.std.proofs.Common.{◌≡◌, ◌+◌, ◌-◌, ◌<◌, take, length, get_or, nat_lt, arith, ap, ◌∙◌, sym}
+use Rattle.std.proofs.Common.{refl, length-take, if◌then◌else◌}
 use Rattle.std.proofs.lemmas.Grind.{common_steps}
 use Rattle.std.proofs.lemmas.List.FromFn.{get_or-map-range_with_len}
 use Rattle.oxc_sourcemap_lookup.specs.Lookup.{index_before}
 use Rattle.oxc_sourcemap_lookup.proofs.Halving.{before, before-all, front-goes_on}
 use Rattle.oxc_sourcemap_lookup.proofs.ColumnSearches.{index-through}
 use Rattle.oxc_sourcemap_compiled.specs.Words.{column_of, columns_in}
-use Rattle.oxc_sourcemap_compiled.proofs.Lines.{columns-length, columns-from, columns-take, do-not-fall, line-cut, none-found}
+use Rattle.oxc_sourcemap_compiled.proofs.Lines.{columns-length, columns-from, columns-take}
+use Rattle.oxc_sourcemap_compiled.proofs.Lines.{do-not-fall, line-cut, none-found}
 use Rattle.oxc_sourcemap_compiled.proofs.opened.Opened.end_of_found.Goals as goal
 
 pub returns-then-span-clause-index : goal.returns-then-span-clause-index

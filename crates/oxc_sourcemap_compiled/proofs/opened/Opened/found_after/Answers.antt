@@ -1,11 +1,14 @@
-use Rattle.std.proofs.Common.{◌≡◌, ◌+◌, ◌-◌, ◌<◌, drop, length, get_or, nat_lt, arith, ap, ◌∙◌, sym, refl, false, length-drop, if◌then◌else◌, Some, None}
+use Rattle.std.proofs.Common.{◌≡◌, ◌+◌, ◌-◌, ◌<◌, drop, length, get_or, nat_lt, arith, ap, ◌∙◌, sym}
+use Rattle.std.proofs.Common.{refl, false, length-drop, if◌then◌else◌, Some, None}
 use Rattle.std.proofs.lemmas.Grind.{common_steps}
 use Rattle.std.proofs.lemmas.List.FromFn.{get_or-map-range_with_len}
 use Rattle.oxc_sourcemap_lookup.proofs.Halving.{before, before-all, drop-goes_on}
 use Rattle.oxc_sourcemap_lookup.proofs.Indices.{index_within}
 use Rattle.oxc_sourcemap_lookup.proofs.ColumnSearches.{after-through}
 use Rattle.oxc_sourcemap_compiled.specs.Words.{column_of, columns_in}
-use Rattle.oxc_sourcemap_compiled.proofs.Lines.{columns-length, columns-from, columns-drop, do-not-fall, line-cut, none-found-after, shifted-within}
+use Rattle.oxc_sourcemap_compiled.proofs.Lines.{columns-length, columns-from, columns-drop}
+use Rattle.oxc_sourcemap_compiled.proofs.Lines.{do-not-fall, line-cut, none-found-after}
+use Rattle.oxc_sourcemap_compiled.proofs.Lines.{shifted-within}
 use Rattle.oxc_sourcemap_compiled.proofs.opened.Opened.found_after.Goals as goal
 
 pub returns-then-span-clause-index : goal.returns-then-span-clause-index

@@ -1,5 +1,6 @@
 use Rattle.std.proofs.Common.{◌+◌, ◌-◌, ap, ◌∙◌, option_map}
-use Rattle.oxc_sourcemap_compiled.specs.Words.{entry_begin, entry_end, entry_tokens, line_in, columns_in}
+use Rattle.oxc_sourcemap_compiled.specs.Words.{entry_begin, entry_end, entry_tokens, line_in}
+use Rattle.oxc_sourcemap_compiled.specs.Words.{columns_in}
 use Rattle.oxc_sourcemap_compiled.proofs.Lines.{token-columns, last-of-some, last-of-none}
 use Rattle.oxc_sourcemap_compiled.proofs.opened.Opened.index_in.Goals as goal
 

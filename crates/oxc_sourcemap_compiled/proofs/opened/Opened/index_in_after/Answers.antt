@@ -1,5 +1,7 @@
-use Rattle.std.proofs.Common.{◌≡◌, ◌+◌, ◌-◌, ap, ◌∙◌, sym, option_map, arith, nat_lt, true, false, Some, None, if◌then◌else◌}
-use Rattle.oxc_sourcemap_compiled.specs.Words.{entry_begin, entry_end, entry_tokens, line_in, columns_in}
+use Rattle.std.proofs.Common.{◌≡◌, ◌+◌, ◌-◌, ap, ◌∙◌, sym, option_map, arith, nat_lt, true, false}
+use Rattle.std.proofs.Common.{Some, None, if◌then◌else◌}
+use Rattle.oxc_sourcemap_compiled.specs.Words.{entry_begin, entry_end, entry_tokens, line_in}
+use Rattle.oxc_sourcemap_compiled.specs.Words.{columns_in}
 use Rattle.oxc_sourcemap_compiled.proofs.Lines.{token-columns}
 use Rattle.oxc_sourcemap_compiled.proofs.opened.Opened.index_in_after.Goals as goal
 

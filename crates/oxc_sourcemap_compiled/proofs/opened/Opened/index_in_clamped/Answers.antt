@@ -1,7 +1,9 @@
-use Rattle.std.proofs.Common.{◌≡◌, ◌+◌, ◌-◌, ◌<◌, ap, ◌∙◌, sym, option_map, arith, nat_lt, true, length, Some, None, if◌then◌else◌}
+use Rattle.std.proofs.Common.{◌≡◌, ◌+◌, ◌-◌, ◌<◌, ap, ◌∙◌, sym, option_map, arith, nat_lt, true}
+use Rattle.std.proofs.Common.{length, Some, None, if◌then◌else◌}
 use Rattle.std.specs.Option.{option_or}
 use Rattle.oxc_sourcemap_lookup.proofs.Indices.{index-clamped, index_within, clamped-through}
-use Rattle.oxc_sourcemap_compiled.specs.Words.{column_of, entry_begin, entry_end, entry_tokens, line_in, columns_in}
+use Rattle.oxc_sourcemap_compiled.specs.Words.{column_of, entry_begin, entry_end, entry_tokens}
+use Rattle.oxc_sourcemap_compiled.specs.Words.{line_in, columns_in}
 use Rattle.oxc_sourcemap_compiled.proofs.Lines.{token-columns, columns-length}
 use Rattle.oxc_sourcemap_compiled.proofs.opened.Opened.index_in_clamped.Goals as goal
 

@@ -1,4 +1,5 @@
-use Rattle.std.proofs.Common.{◌≡◌, ◌*◌, ◌++◌, ◌∷◌, [], get_or, length, take, drop, ap, ◌∙◌, sym, arith, subst, length-append}
+use Rattle.std.proofs.Common.{◌≡◌, ◌*◌, ◌++◌, ◌∷◌, [], get_or, length, take, drop, ap, ◌∙◌, sym}
+use Rattle.std.proofs.Common.{arith, subst, length-append}
 use Rattle.oxc_sourcemap_compiled.specs.Compiled.{ArePacked}
 use Rattle.oxc_sourcemap_compiled.proofs.Slices.{up-to, part-is, pushed-last, pushed-front}
 use Rattle.oxc_sourcemap_compiled.proofs.writing.blocks.blocks_of.Goals as goal

@@ -1,4 +1,5 @@
-use Rattle.std.proofs.Common.{◌*◌, ◌/◌, ◌++◌, ℕ, get_or, take, drop, ap, ◌∙◌, sym, arith, append_assoc}
+use Rattle.std.proofs.Common.{◌*◌, ◌/◌, ◌++◌, ℕ, get_or, take, drop, ap, ◌∙◌, sym, arith}
+use Rattle.std.proofs.Common.{append_assoc}
 use Rattle.std.specs.List.{flat_map, range_with_len}
 use Rattle.oxc_sourcemap_compiled.specs.Compiled.{group_of, no_block}
 use Rattle.oxc_sourcemap_compiled.proofs.Slices.{part-is, flat_map-more}

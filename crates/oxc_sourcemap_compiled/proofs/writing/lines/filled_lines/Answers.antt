@@ -1,9 +1,11 @@
-use Rattle.std.proofs.Common.{◌≡◌, ◌+◌, ◌<◌, ◌≤◌, ◌++◌, ◌∷◌, [], length, get_or, refl, sym, ap, ◌∙◌, arith, subst}
+use Rattle.std.proofs.Common.{◌≡◌, ◌+◌, ◌<◌, ◌≤◌, ◌++◌, ◌∷◌, [], length, get_or, refl, sym, ap, ◌∙◌}
+use Rattle.std.proofs.Common.{arith, subst}
 use Rattle.std.proofs.lemmas.List.{get_or_default}
 use Rattle.std.proofs.lemmas.Grind.{common_steps}
 use Rattle.oxc_sourcemap_tokens.specs.Token.{TokenRecord}
 use Rattle.oxc_sourcemap_compiled.proofs.Listings.{IsListing, listing-push, listing-skip}
-use Rattle.oxc_sourcemap_compiled.proofs.writing.lines.filled_lines.Goals.{then-from-next+in_ok-push, else-from-next}
+use Rattle.oxc_sourcemap_compiled.proofs.writing.lines.filled_lines.Goals.{then-from-next+in_ok-push}
+use Rattle.oxc_sourcemap_compiled.proofs.writing.lines.filled_lines.Goals.{else-from-next}
 use Rattle.oxc_sourcemap_compiled.proofs.writing.lines.filled_lines.Goals as goal
 
 pub loop-token-init : goal.loop-token-init

@@ -1,4 +1,5 @@
-use Rattle.std.proofs.Common.{◌≡◌, ◌++◌, ◌+◌, ◌-◌, ◌%◌, ◌/◌, ◌∷◌, [], ap, ◌∙◌, sym, arith, append_assoc, append-nil, bit_and}
+use Rattle.std.proofs.Common.{◌≡◌, ◌++◌, ◌+◌, ◌-◌, ◌%◌, ◌/◌, ◌∷◌, [], ap, ◌∙◌, sym, arith}
+use Rattle.std.proofs.Common.{append_assoc, append-nil, bit_and}
 use Rattle.std.proofs.lemmas.Nat.{and_mask}
 use Rattle.oxc_sourcemap_compiled.specs.Words.{bytes_of}
 use Rattle.oxc_sourcemap_compiled.proofs.Bytes.{bytes-more, bytes-none}

@@ -1,7 +1,9 @@
-use Rattle.std.proofs.Common.{◌≡◌, ◌+◌, ◌++◌, map, length, refl, ap, ◌∙◌, sym, arith, append_assoc, append-nil}
+use Rattle.std.proofs.Common.{◌≡◌, ◌+◌, ◌++◌, map, length, refl, ap, ◌∙◌, sym, arith, append_assoc}
+use Rattle.std.proofs.Common.{append-nil}
 use Rattle.std.specs.List.{range_with_len}
 use Rattle.oxc_sourcemap_parts.specs.Views.{record_of_parts}
-use Rattle.oxc_sourcemap_compiled.specs.Compiled.{text_offset, table, bytes_of, stored_text, stored_count}
+use Rattle.oxc_sourcemap_compiled.specs.Compiled.{text_offset, table, bytes_of, stored_text}
+use Rattle.oxc_sourcemap_compiled.specs.Compiled.{stored_count}
 use Rattle.oxc_sourcemap_compiled.proofs.Slices.{table-more, offsets-grow, offset-next}
 use Rattle.oxc_sourcemap_compiled.proofs.writing.texts.push_offsets.Goals as goal
 

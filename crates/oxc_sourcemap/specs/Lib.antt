@@ -108,6 +108,7 @@ pub use Rattle.oxc_sourcemap_laws.specs.RootedDecodedMaps
 pub use Rattle.oxc_sourcemap_laws.specs.RootLaws
 pub use Rattle.oxc_sourcemap_laws.specs.TraceLaws
 pub use Rattle.oxc_sourcemap_laws.specs.BundleLaws
+pub use Rattle.oxc_sourcemap_laws.specs.CutLaws
 pub use Rattle.oxc_sourcemap_laws.specs.SimplifyTraces
 pub use Rattle.oxc_sourcemap_laws.specs.SimplifiedMaps
 pub use Rattle.oxc_sourcemap_laws.specs.SimplifiedWhole

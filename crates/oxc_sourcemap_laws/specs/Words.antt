@@ -56,3 +56,4 @@ pub use Rattle.oxc_sourcemap_laws.specs.SimplifiedWhole.{SimplifiedSourcesNeeded
 pub use Rattle.oxc_sourcemap_laws.specs.DifferenceLaws.{SimplifiedTracesSame}
 pub use Rattle.oxc_sourcemap_laws.specs.DifferenceLaws.{SimplifiedDoesNotDiffer, SimplifiedToAsMany}
 pub use Rattle.oxc_sourcemap_laws.specs.FaultLaws.{FaultIsThere}
+pub use Rattle.oxc_sourcemap_laws.specs.CutLaws.{CommentIsCut, LineBeginsOutside}

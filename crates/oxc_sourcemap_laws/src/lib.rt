@@ -4,6 +4,7 @@
 //! Users find them in the module `laws` of the crate `oxc_sourcemap`.
 #![tactic(auto)]
 
+mod comments;
 mod data_urls;
 mod faults;
 mod inputs;
@@ -54,6 +55,7 @@ ghost use Rattle.oxc_sourcemap_laws.specs.Words.{RootedDecodedMapsKeep, TracesOf
 ghost use Rattle.oxc_sourcemap_laws.specs.Words.{RootingKeepsEqualUpToRepeats, RootingIsSound};
 ghost use Rattle.oxc_sourcemap_laws.specs.Words.{RootingStandsFor};
 
+pub use comments::comment_is_cut;
 pub use data_urls::data_urls_read_back;
 pub use faults::mappings_fault_is_first;
 pub use inputs::remap_inputs_by_path;

@@ -1,0 +1,72 @@
+-- Comments that are cut out of small codes, by the definitions.
+use Rattle.std.proofs.Common.{◌≡◌, ℕ, List, [], ◌∷◌, ◌++◌, refl, ap, Option, Some, None, codes}
+use Rattle.std.proofs.Common.{inl, length}
+use Rattle.oxc_sourcemap_text.specs.TextLines.{lines_of}
+use Rattle.oxc_sourcemap_text.specs.declared.url.language.Language.TheVariants.{JavaScript, Css}
+use Rattle.oxc_sourcemap_text.specs.MappingUrls.{pieces, url_known, mapping_url, IsQuiet, all_pieces}
+use Rattle.oxc_sourcemap_text.specs.MappingUrls.{IsMappingComment}
+use Rattle.oxc_sourcemap_laws.specs.CutLaws.{BeginsOutside, EndsLine}
+
+begins-on_its_line : BeginsOutside JavaScript (codes "a\n") (codes "//# sourceMappingURL=a.map\n")
+unfolding pieces lines_of
+begins-on_its_line = refl
+
+begins-behind_code : BeginsOutside Css (codes "a{} /") (codes "/*# sourceMappingURL=a.map */ /* b */")
+unfolding pieces lines_of
+begins-behind_code = refl
+
+begins-not_inside : BeginsOutside JavaScript (codes "// ") (codes "//# sourceMappingURL=a.map") → ⊥
+unfolding pieces lines_of
+begins-not_inside h = cc
+
+begins-not_inside_an_open_one : BeginsOutside JavaScript (codes "/* ") (codes "//# sourceMappingURL=a.map") → ⊥
+unfolding pieces lines_of
+begins-not_inside_an_open_one h = cc
+
+-- two slashes are one comment
+begins-not_behind_a_slash : BeginsOutside JavaScript (codes "a /") (codes "/*# sourceMappingURL=a.map */") → ⊥
+unfolding pieces lines_of
+begins-not_behind_a_slash h = cc
+
+ends-nothing : EndsLine []
+unfolding lines_of
+ends-nothing = ([], refl)
+
+ends-return : EndsLine (codes "a\n\r")
+unfolding lines_of
+ends-return = (codes "a\n" ∷ codes "\r" ∷ [], refl)
+
+-- A carriage return and a line feed that come together are one end of a line, and the URL stays.
+cuts-at_a_return : mapping_url JavaScript (codes "//# sourceMappingURL=a.map\r" ++ codes "\n// b") ≡ Some (codes "a.map")
+unfolding url_known pieces lines_of
+cuts-at_a_return = refl
+
+-- A comment inside of another one, with the same URL as the one before: cut out of it, it changes what that one says.
+inside-front : List ℕ
+inside-front = codes "//# sourceMappingURL=a.map\n//# sourceMappingURL=b.map"
+
+inside-comment : List ℕ
+inside-comment = codes "//# sourceMappingURL=a.map"
+
+inside-back : List ℕ
+inside-back = codes " // c"
+
+inside-found : mapping_url JavaScript (inside-front ++ inside-comment ++ inside-back) ≡ Some (codes "a.map")
+unfolding url_known pieces lines_of inside-front inside-comment inside-back
+inside-found = refl
+
+inside-named : IsMappingComment JavaScript inside-comment (codes "a.map")
+unfolding inside-comment
+inside-named = inl (refl, codes "# sourceMappingURL=a.map", refl, (refl, refl))
+
+inside-quiet : IsQuiet JavaScript inside-back
+unfolding pieces lines_of inside-back
+inside-quiet = λ known. refl
+
+inside-whole : mapping_url JavaScript (inside-front ++ inside-back) ≡ Some (codes "a.map")
+unfolding url_known pieces lines_of inside-front inside-back
+inside-whole = refl
+
+inside-before : mapping_url JavaScript inside-front ≡ Some (codes "b.map")
+unfolding url_known pieces lines_of inside-front
+inside-before = refl

@@ -1,0 +1,29 @@
+-- The law of a code without the comment by which it names its map. Texts are lists of characters here.
+use Rattle.std.specs.Prelude.{◌≡◌, ℕ, List, [], ◌∷◌, ◌++◌}
+use Rattle.oxc_sourcemap_text.specs.TextLines.{lines_of}
+use Rattle.oxc_sourcemap_text.specs.declared.url.language.Language.{Language}
+use Rattle.oxc_sourcemap_text.specs.MappingUrls.{has_line_comments, all_pieces, mapping_url}
+use Rattle.oxc_sourcemap_text.specs.MappingUrls.{IsMappingComment, IsQuiet}
+
+-- What follows a front begins outside of its comments: the pieces of the whole are those of the front, and then its own.
+abbrev pub BeginsOutside : Language → List ℕ → List ℕ → Type 0
+BeginsOutside language front rest =
+    all_pieces (has_line_comments language) (front ++ rest)
+    ≡ all_pieces (has_line_comments language) front ++ all_pieces (has_line_comments language) rest
+
+-- A text ends with a line end, or is empty: its last line is empty.
+abbrev pub EndsLine : List ℕ → Type 0
+EndsLine text = (lines : List (List ℕ)) × (lines_of text ≡ lines ++ [] ∷ [])
+
+-- Where what is behind a comment is quiet, the code without the comment has the URL of what is in front of it.
+abbrev pub CommentIsCut : Type 0
+CommentIsCut =
+    (language : Language) (front comment back url : List ℕ) → IsMappingComment language comment url
+    → BeginsOutside language front (comment ++ back) → IsQuiet language back
+    → mapping_url language (front ++ back) ≡ mapping_url language front
+
+-- A comment that begins a line begins outside of others.
+abbrev pub LineBeginsOutside : Type 0
+LineBeginsOutside =
+    (language : Language) (front comment back url : List ℕ) → IsMappingComment language comment url
+    → EndsLine front → BeginsOutside language front (comment ++ back)

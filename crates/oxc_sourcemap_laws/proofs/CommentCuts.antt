@@ -1,17 +1,18 @@
 -- A code without the comment by which it names its map.
-use Rattle.std.proofs.Common.{◌≡◌, ◌⊎◌, ℕ, Bool, true, false, not, List, [], ◌∷◌, ◌++◌, ◌==◌, ◌&&◌}
-use Rattle.std.proofs.Common.{◌||◌, refl, sym, ap, ◌∙◌, subst, Option, Some, None, if◌then◌else◌, fold}
-use Rattle.std.proofs.Common.{flat_map, append_assoc, inl, inr}
+use Rattle.std.proofs.Common.{◌≡◌, ℕ, Bool, true, false, List, [], ◌∷◌, ◌++◌, ◌==◌, ◌&&◌, ◌||◌}
+use Rattle.std.proofs.Common.{refl, sym, ap, ◌∙◌, subst, Option, Some, None, fold, flat_map}
+use Rattle.std.proofs.Common.{append_assoc, inl, inr}
 use Rattle.std.proofs.lemmas.Bool.{eqb-true}
 use Rattle.std.proofs.lemmas.List.{append-nil, append_cancel_left}
 use Rattle.std.proofs.lemmas.List.Sums.{fold-append}
 use Rattle.std.proofs.lemmas.Grind.{flat_map-append}
 use Rattle.std.specs.Str.{drop_trailing_whitespace}
-use Rattle.oxc_sourcemap_text.specs.TextLines.{ends_line, begins_with_line_feed, lines_of, onto_first}
+use Rattle.oxc_sourcemap_text.specs.TextLines.{ends_line, begins_with_line_feed, lines_of}
+use Rattle.oxc_sourcemap_text.specs.TextLines.{onto_first}
 use Rattle.oxc_sourcemap_text.specs.declared.url.language.Language.{Language}
 use Rattle.oxc_sourcemap_text.specs.MappingUrls.{Piece, pieces, known_after, all_pieces, url_known}
-use Rattle.oxc_sourcemap_text.specs.MappingUrls.{begins_with, mapping_url, has_line_comments, AreQuiet}
-use Rattle.oxc_sourcemap_text.specs.MappingUrls.{IsQuiet, IsMappingComment}
+use Rattle.oxc_sourcemap_text.specs.MappingUrls.{begins_with, mapping_url, has_line_comments}
+use Rattle.oxc_sourcemap_text.specs.MappingUrls.{AreQuiet, IsQuiet, IsMappingComment}
 use Rattle.oxc_sourcemap_text.proofs.Cuts.{before_first, before-none, lines-end, lines-no_end}
 use Rattle.oxc_sourcemap_laws.specs.CutLaws.{BeginsOutside, EndsLine}
 use Rattle.oxc_sourcemap_laws.proofs.PieceCuts.{pieces-none, pieces-star, cut-at}

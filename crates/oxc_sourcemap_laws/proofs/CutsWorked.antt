@@ -1,9 +1,8 @@
 -- Comments that are cut out of small codes, by the definitions.
-use Rattle.std.proofs.Common.{◌≡◌, ℕ, List, [], ◌∷◌, ◌++◌, refl, ap, Option, Some, None, codes}
-use Rattle.std.proofs.Common.{inl, length}
+use Rattle.std.proofs.Common.{◌≡◌, ℕ, List, [], ◌∷◌, ◌++◌, refl, Some, codes, inl}
 use Rattle.oxc_sourcemap_text.specs.TextLines.{lines_of}
 use Rattle.oxc_sourcemap_text.specs.declared.url.language.Language.TheVariants.{JavaScript, Css}
-use Rattle.oxc_sourcemap_text.specs.MappingUrls.{pieces, url_known, mapping_url, IsQuiet, all_pieces}
+use Rattle.oxc_sourcemap_text.specs.MappingUrls.{pieces, url_known, mapping_url, IsQuiet}
 use Rattle.oxc_sourcemap_text.specs.MappingUrls.{IsMappingComment}
 use Rattle.oxc_sourcemap_laws.specs.CutLaws.{BeginsOutside, EndsLine}
 

@@ -1,7 +1,7 @@
 -- A line feed at the end of a line changes nothing that is known.
 use Rattle.std.proofs.Common.{◌≡◌, ℕ, zero, suc, Bool, true, false, List, [], ◌∷◌, ◌++◌, ◌==◌, ◌&&◌}
-use Rattle.std.proofs.Common.{◌||◌, refl, sym, ap, ◌∙◌, Option, Some, None, if◌then◌else◌, fold, codes}
-use Rattle.std.proofs.Common.{length, take, drop}
+use Rattle.std.proofs.Common.{◌||◌, refl, sym, ap, ◌∙◌, Option, Some, None, if◌then◌else◌, fold}
+use Rattle.std.proofs.Common.{codes, length, take, drop}
 use Rattle.std.specs.Prelude.{is_some, nat_eq}
 use Rattle.std.specs.Option.{option_map, option_or}
 use Rattle.std.specs.Cmp.Lexicographic.{pointwise}
@@ -10,8 +10,8 @@ use Rattle.std.specs.Char.{is_whitespace}
 use Rattle.std.specs.Str.{skip_leading_whitespace, drop_trailing_whitespace}
 use Rattle.std.proofs.lemmas.List.Folds.{list_any-append}
 use Rattle.oxc_sourcemap_text.specs.MappingUrls.{pieces, known_after, around_block_end, begins_with}
-use Rattle.oxc_sourcemap_text.specs.MappingUrls.{may_end_another, named_url, url_behind, behind_key, is_mark, is_quote}
-use Rattle.oxc_sourcemap_text.specs.MappingUrls.{without_white_space}
+use Rattle.oxc_sourcemap_text.specs.MappingUrls.{may_end_another, named_url, url_behind, behind_key}
+use Rattle.oxc_sourcemap_text.specs.MappingUrls.{is_mark, is_quote, without_white_space}
 
 -- a text with a line feed behind it
 abbrev fed : List ℕ → List ℕ

@@ -1,9 +1,9 @@
 //! The law of a code without the comment by which it names its map.
 ghost use Rattle.oxc_sourcemap_laws.specs.Words.{CommentIsCut, LineBeginsOutside};
 
-/// A code without the comment by which it names its map has the URL that is known before the comment: `source_mapping_url` of
-/// `front` and `back`, as `source_mapping_comment` gives them, is that of `front`. So it is if the comment begins outside of other
-/// comments (`cut`), as each does that begins a line (`outside`).
+/// A code without the comment by which it names its map has the URL that is known before it: `source_mapping_url` of `front` and
+/// `back` together, as `source_mapping_comment` gives them, is that of `front`, if the comment begins outside of other comments
+/// (`cut`), as one does that begins a line (`outside`).
 ///
 /// ```rust
 /// use oxc_sourcemap::{Language, source_mapping_comment, source_mapping_url};

@@ -150,9 +150,9 @@ feed-one c =
     elim (ends_line c (10 ∷ [])) as (λ v. ends_line c (10 ∷ []) ≡ v → FeedSeam (c ∷ [])) [
       | true ↦ (λ e. feed-behind c e)
       | false ↦ (λ e. elim (ends_line c []) as (λ v. ends_line c [] ≡ v → FeedSeam (c ∷ [])) [
-          | true ↦ (λ f. feed-return c e f)
-          | false ↦ (λ f. feed-within c e f)
-        ] refl)
+        | true ↦ (λ f. feed-return c e f)
+        | false ↦ (λ f. feed-within c e f)
+      ] refl)
     ] refl
 
 feed-onto : (c d : ℕ) (front line : List ℕ) (lines blank : List (List ℕ)) → ends_line c (d ∷ front) ≡ false

@@ -121,16 +121,16 @@ pieces-fed s known None (a ∷ b ∷ cs) =
     else if a == 47 && b == 42 then pieces s (Some []) cs else None ∷ pieces s None (b ∷ cs))) [
       | true ↦ pieces-fed s known None (b ∷ cs)
       | false ↦ elim (a == 47 && (s && b == 47)) as (λ v. fold known_after known (if v then Some (fed cs) ∷ []
-    else if a == 47 && b == 42 then pieces s (Some []) (fed cs) else None ∷ pieces s None (b ∷ fed cs))
-    ≡ fold known_after known (if v then Some cs ∷ []
-    else if a == 47 && b == 42 then pieces s (Some []) cs else None ∷ pieces s None (b ∷ cs))) [
-          | true ↦ known-fed known cs
-          | false ↦ elim (a == 47 && b == 42) as (λ v. fold known_after known (if v then pieces s (Some []) (fed cs) else None ∷ pieces s None (b ∷ fed cs))
-    ≡ fold known_after known (if v then pieces s (Some []) cs else None ∷ pieces s None (b ∷ cs))) [
-              | true ↦ pieces-fed s known (Some []) cs
-              | false ↦ pieces-fed s None None (b ∷ cs)
-            ]
-        ]
+          else if a == 47 && b == 42 then pieces s (Some []) (fed cs) else None ∷ pieces s None (b ∷ fed cs))
+          ≡ fold known_after known (if v then Some cs ∷ []
+          else if a == 47 && b == 42 then pieces s (Some []) cs else None ∷ pieces s None (b ∷ cs))) [
+            | true ↦ known-fed known cs
+            | false ↦ elim (a == 47 && b == 42) as (λ v. fold known_after known (if v then pieces s (Some []) (fed cs) else None ∷ pieces s None (b ∷ fed cs))
+                ≡ fold known_after known (if v then pieces s (Some []) cs else None ∷ pieces s None (b ∷ cs))) [
+                  | true ↦ pieces-fed s known (Some []) cs
+                  | false ↦ pieces-fed s None None (b ∷ cs)
+                ]
+          ]
     ]
 pieces-fed s known (Some text) [] = refl
 pieces-fed s known (Some text) (a ∷ []) = rw (and-false (a == 42)) refl

@@ -74,9 +74,9 @@ opened true (b ∷ cs) =
     elim (b == 47) as (λ v. IsSome (if v then Some cs ∷ [] else if b == 42 then pieces true (Some []) cs else None ∷ pieces true None (b ∷ cs))) [
       | true ↦ (Some cs, [], refl)
       | false ↦ elim (b == 42) as (λ v. IsSome (if v then pieces true (Some []) cs else None ∷ pieces true None (b ∷ cs))) [
-          | true ↦ inside-some (pieces true (Some []) cs) (inside true [] cs)
-          | false ↦ (None, pieces true None (b ∷ cs), refl)
-        ]
+        | true ↦ inside-some (pieces true (Some []) cs) (inside true [] cs)
+        | false ↦ (None, pieces true None (b ∷ cs), refl)
+      ]
     ]
 opened false (b ∷ cs) =
     elim (b == 42) as (λ v. IsSome (if v then pieces false (Some []) cs else None ∷ pieces false None (b ∷ cs))) [
@@ -119,18 +119,18 @@ module _ (s : Bool) (tail : List Piece) (x y : List ℕ) (no_star : begins_with 
       elim (is_whitespace a) as (λ v. is_whitespace a ≡ v → pieces s None (a ∷ b ∷ cs ++ y) ≡ pieces s None (a ∷ b ∷ cs) ++ pieces s None y) [
         | true ↦ (λ white. rw white (cut-at None (b ∷ cs) (rw white at h)))
         | false ↦ (λ white. elim (a == 47 && (s && b == 47)) as (λ v. (a == 47 && (s && b == 47)) ≡ v → pieces s None (a ∷ b ∷ cs ++ y) ≡ pieces s None (a ∷ b ∷ cs) ++ pieces s None y) [
-            | true ↦ (λ e.
-                let same = rw (white, e) at h in
-                let text : cs ++ 47 ∷ x ≡ cs = cc in
-                absurd (longer cs x 47 text))
-            | false ↦ (λ line. elim (a == 47 && b == 42) as (λ v. (a == 47 && b == 42) ≡ v → pieces s None (a ∷ b ∷ cs ++ y) ≡ pieces s None (a ∷ b ∷ cs) ++ pieces s None y) [
-                | true ↦ (λ block. rw (white, line, block) (cut-at (Some []) cs (rw (white, line, block) at h)))
-                | false ↦ (λ block.
-                    let same = rw (white, line, block) at h in
-                    let rest : IsBefore None (b ∷ cs) = cc in
-                    rw (white, line, block) (ap (λ ps. None ∷ ps) (cut-at None (b ∷ cs) rest)))
-              ] refl)
+          | true ↦ (λ e.
+              let same = rw (white, e) at h in
+              let text : cs ++ 47 ∷ x ≡ cs = cc in
+              absurd (longer cs x 47 text))
+          | false ↦ (λ line. elim (a == 47 && b == 42) as (λ v. (a == 47 && b == 42) ≡ v → pieces s None (a ∷ b ∷ cs ++ y) ≡ pieces s None (a ∷ b ∷ cs) ++ pieces s None y) [
+            | true ↦ (λ block. rw (white, line, block) (cut-at (Some []) cs (rw (white, line, block) at h)))
+            | false ↦ (λ block.
+                let same = rw (white, line, block) at h in
+                let rest : IsBefore None (b ∷ cs) = cc in
+                rw (white, line, block) (ap (λ ps. None ∷ ps) (cut-at None (b ∷ cs) rest)))
           ] refl)
+        ] refl)
       ] refl
   cut-at (Some text) [] h = absurd (never text h)
   cut-at (Some text) (a ∷ []) h =

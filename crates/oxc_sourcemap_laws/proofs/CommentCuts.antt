@@ -15,7 +15,7 @@ use Rattle.oxc_sourcemap_text.specs.MappingUrls.{begins_with, mapping_url, has_l
 use Rattle.oxc_sourcemap_text.specs.MappingUrls.{AreQuiet, IsQuiet, IsMappingComment}
 use Rattle.oxc_sourcemap_text.proofs.Cuts.{before_first, before-none, lines-end, lines-no_end}
 use Rattle.oxc_sourcemap_laws.specs.CutLaws.{BeginsOutside, EndsLine}
-use Rattle.oxc_sourcemap_laws.proofs.PieceCuts.{pieces-none, pieces-star, cut-at}
+use Rattle.oxc_sourcemap_laws.proofs.PieceCuts.{pieces-none, pieces-white, pieces-star, cut-at}
 use Rattle.oxc_sourcemap_laws.proofs.LineFeeds.{pieces-fed}
 
 -- ---- lines of a text that is cut
@@ -306,6 +306,17 @@ module _ (s : Bool) where
         | false ↦ (λ e. no-feed c front r back h quiet e)
       ] refl
 
+  -- a space changes nothing
+  space-pieces : (back : List ℕ) → all_pieces s (32 ∷ back) ≡ all_pieces s back
+  space-pieces back =
+      let rest = first-line back in
+      ap of_lines (lines-no_end 32 back refl ∙ ap (onto_first 32) rest.is) ∙ ap (λ ps. ps ++ of_lines rest.others) (pieces-white s 32 rest.line refl)
+      ∙ sym (ap of_lines rest.is)
+
+  apart : (front r back : List ℕ) → all_pieces s (front ++ 47 ∷ r) ≡ all_pieces s front ++ all_pieces s (47 ∷ r)
+      → AreQuiet (all_pieces s back) → url_known s (front ++ 32 ∷ back) ≡ url_known s front
+  apart front r back h quiet = cut front r (32 ∷ back) h (subst AreQuiet (sym (space-pieces back)) quiet)
+
   -- ---- a front that ends with a line
 
   last-same : (xs ys : List (List ℕ)) (x y : List ℕ) → xs ++ x ∷ [] ≡ ys ++ y ∷ [] → x ≡ y
@@ -347,6 +358,13 @@ comment-cut language front comment back url is outside quiet =
     let begun = slash language comment url is in
     let there = subst (λ c. BeginsOutside language front (c ++ back)) begun.is outside in
     cut (has_line_comments language) front (begun.rest ++ back) back there quiet
+
+pub comment-apart : (language : Language) (front comment back url : List ℕ) → IsMappingComment language comment url
+    → BeginsOutside language front (comment ++ back) → IsQuiet language back → mapping_url language (front ++ 32 ∷ back) ≡ mapping_url language front
+comment-apart language front comment back url is outside quiet =
+    let begun = slash language comment url is in
+    let there = subst (λ c. BeginsOutside language front (c ++ back)) begun.is outside in
+    apart (has_line_comments language) front (begun.rest ++ back) back there quiet
 
 pub line-outside : (language : Language) (front comment back url : List ℕ) → IsMappingComment language comment url → EndsLine front
     → BeginsOutside language front (comment ++ back)

@@ -28,7 +28,7 @@ pub pieces-none : (s : Bool) → pieces s None [] ≡ []
 unfolding pieces
 pieces-none s = refl
 
-pieces-white : (s : Bool) (a : ℕ) (cs : List ℕ) → is_whitespace a ≡ true → pieces s None (a ∷ cs) ≡ pieces s None cs
+pub pieces-white : (s : Bool) (a : ℕ) (cs : List ℕ) → is_whitespace a ≡ true → pieces s None (a ∷ cs) ≡ pieces s None cs
 unfolding pieces
 pieces-white s a [] h = rw h refl
 pieces-white s a (b ∷ cs) h = rw h refl

@@ -22,6 +22,13 @@ CommentIsCut =
     → BeginsOutside language front (comment ++ back) → IsQuiet language back
     → mapping_url language (front ++ back) ≡ mapping_url language front
 
+-- So it has with a space between them, which keeps a carriage return and a line feed apart.
+abbrev pub CommentIsCutApart : Type 0
+CommentIsCutApart =
+    (language : Language) (front comment back url : List ℕ) → IsMappingComment language comment url
+    → BeginsOutside language front (comment ++ back) → IsQuiet language back
+    → mapping_url language (front ++ 32 ∷ back) ≡ mapping_url language front
+
 -- A comment that begins a line begins outside of others.
 abbrev pub LineBeginsOutside : Type 0
 LineBeginsOutside =

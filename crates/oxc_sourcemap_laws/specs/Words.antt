@@ -56,4 +56,5 @@ pub use Rattle.oxc_sourcemap_laws.specs.SimplifiedWhole.{SimplifiedSourcesNeeded
 pub use Rattle.oxc_sourcemap_laws.specs.DifferenceLaws.{SimplifiedTracesSame}
 pub use Rattle.oxc_sourcemap_laws.specs.DifferenceLaws.{SimplifiedDoesNotDiffer, SimplifiedToAsMany}
 pub use Rattle.oxc_sourcemap_laws.specs.FaultLaws.{FaultIsThere}
-pub use Rattle.oxc_sourcemap_laws.specs.CutLaws.{CommentIsCut, LineBeginsOutside}
+pub use Rattle.oxc_sourcemap_laws.specs.CutLaws.{CommentIsCut, CommentIsCutApart}
+pub use Rattle.oxc_sourcemap_laws.specs.CutLaws.{LineBeginsOutside}

@@ -1,9 +1,10 @@
 //! The law of a code without the comment by which it names its map.
-ghost use Rattle.oxc_sourcemap_laws.specs.Words.{CommentIsCut, LineBeginsOutside};
+ghost use Rattle.oxc_sourcemap_laws.specs.Words.{CommentIsCut, CommentIsCutApart};
+ghost use Rattle.oxc_sourcemap_laws.specs.Words.{LineBeginsOutside};
 
 /// A code without the comment by which it names its map has the URL that is known before it: `source_mapping_url` of `front` and
 /// `back` together, as `source_mapping_comment` gives them, is that of `front`, if the comment begins outside of other comments
-/// (`cut`), as one does that begins a line (`outside`).
+/// (`cut`), as one does that begins a line (`outside`). So it is with a space between them (`apart`).
 ///
 /// ```rust
 /// use oxc_sourcemap::{Language, source_mapping_comment, source_mapping_url};
@@ -21,5 +22,6 @@ ghost use Rattle.oxc_sourcemap_laws.specs.Words.{CommentIsCut, LineBeginsOutside
 /// ```
 pub fn comment_is_cut()
     ensures cut { CommentIsCut }
+    ensures apart { CommentIsCutApart }
     ensures outside { LineBeginsOutside }
 {}

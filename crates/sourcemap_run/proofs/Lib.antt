@@ -7,4 +7,8 @@ pub mod Marked
 pub mod Numerals
 pub mod PartsInRow
 pub mod FirstTexts
+pub mod Longest
+pub mod OwnFolder
+pub mod LineCounts
+pub mod MissedRanges
 mod Objects

@@ -5,7 +5,9 @@ pub mod Lines
 pub mod Differences
 pub mod Frames
 pub mod Bundled
+pub mod Counts
 pub mod Marks
+pub mod Matching
 pub mod Page
 pub mod Positions
 pub mod Reversed

@@ -38,3 +38,7 @@ pub use Rattle.oxc_sourcemap_map.specs.Reverse.{all_generated_for}
 pub use Rattle.sourcemap_run.specs.Reversed.{opened_object, generated_text, separator}
 pub use Rattle.sourcemap_run.specs.Reversed.{next_generated, generated_texts, is_there, line_end}
 pub use Rattle.sourcemap_run.specs.Reversed.{reversed_object, reversed_line}
+pub use Rattle.sourcemap_run.specs.Matching.{below_length, IsLongest, ends_in_folder, has_slash}
+pub use Rattle.sourcemap_run.specs.Matching.{tells_apart, determines, chosen}
+pub use Rattle.sourcemap_run.specs.Counts.{line_cmp, raised, line_count}
+pub use Rattle.sourcemap_run.specs.Counts.{missed_ranges, closed, opened}

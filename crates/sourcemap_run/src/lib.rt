@@ -6,6 +6,7 @@ mod bundling;
 mod counting;
 mod differing;
 mod frames;
+mod matching;
 mod page;
 mod positions;
 mod reversing;
@@ -14,12 +15,13 @@ mod tracer;
 
 pub use answers::{Style, push_answer, push_answers, push_members};
 pub use bundling::{Bundle, line_ends, with_line_end};
-pub use counting::{Block, Mark, push_marks};
+pub use counting::{Block, LineCounts, Mark, count_lines, missed_ranges, push_marks};
 pub use differing::count_differences;
 pub use frames::{
     Cut, Frame, Paint, Target, answer_to, frame_position, parts_of, push_frame, push_frames,
     push_line,
 };
+pub use matching::{Candidate, Choice, Prefix, choose, longest_prefix};
 pub use oxc_sourcemap_lookup::Bias;
 pub use page::{MARK, fill_template};
 pub use positions::position_of;

@@ -10,8 +10,8 @@ use sourcemap_files::{
     shown_name, tell, warn,
 };
 use sourcemap_run::{
-    Block, Mark, is_hidden, push_marks, push_number_member, push_object, push_shown,
-    push_text_member,
+    Block, LineCounts, Mark, count_lines, is_hidden, push_marks, push_number_member, push_object,
+    push_shown, push_text_member,
 };
 use sourcemap_words::{Outcome, Report, Run, Script, failure_of, runs_of};
 use std::alloc::{AllocError, Global};
@@ -107,33 +107,17 @@ fn marks_of(
     Ok(marks)
 }
 
-/// Raises a count to this one.
-fn raise(lines: &mut BTreeMap<(u32, u32), u64>, mark: &Mark) -> Result<(), AllocError> {
-    let count = lines.entry((mark.source_id, mark.line))?.or_insert(0);
-    *count = (*count).max(mark.count);
-    Ok(())
-}
-
 /// How often lines ran, by source id and number: as often as the code of theirs that ran most often.
-fn lines_of(
-    alloc: Global,
-    code: &str,
-    map: &SourceMap<'_>,
-    runs: &[Run],
-) -> Outcome<BTreeMap<(u32, u32), u64>> {
+fn lines_of(alloc: Global, code: &str, map: &SourceMap<'_>, runs: &[Run]) -> Outcome<LineCounts> {
     let positions = TextPositions::new(alloc, code)?;
     let units = units_of(alloc, code)?;
     let code = Code {
         units: units.as_slice(),
         positions: &positions,
     };
-    let mut lines = BTreeMap::new(alloc);
-    for mark in &marks_of(alloc, map, &positions, runs)? {
-        if has_code(&code, mark) {
-            raise(&mut lines, mark)?;
-        }
-    }
-    Ok(lines)
+    let mut marks = marks_of(alloc, map, &positions, runs)?;
+    marks.retain(|mark| has_code(&code, mark));
+    Ok(count_lines(alloc, marks.as_slice())?)
 }
 
 /// The path of a source of a map in a folder, `..` taken together with the parts before it: from the current folder if it is in that,
@@ -189,7 +173,7 @@ impl Coverage {
         &mut self,
         map: &SourceMap<'_>,
         folder: &str,
-        lines: &BTreeMap<(u32, u32), u64>,
+        lines: &LineCounts,
     ) -> Outcome<()> {
         for ((id, line), count) in lines {
             let source = map.get_source(*id).unwrap_or("");

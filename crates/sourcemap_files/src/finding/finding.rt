@@ -1,6 +1,6 @@
 //! Finding the map of a code.
 use crate::finding::matching::{
-    Below, CodePath, Files, Found as Match, InputPrefix, Prefix, named_prefix,
+    Below, CodePath, Files, Found as Match, InputPrefix, named_prefix,
 };
 use crate::input::{is_file, read_text, shown_name, warn};
 use crate::paths::{
@@ -12,6 +12,7 @@ use oxc_sourcemap_json::json_fault_at;
 use oxc_sourcemap_map::SourceMap;
 use oxc_sourcemap_text::{Language, decode_data_url, source_mapping_url};
 use oxc_sourcemap_tokens::{Error, FaultPlace};
+use sourcemap_run::Prefix;
 use sourcemap_words::{Outcome, failure_of};
 use std::alloc::{AllocError, Global};
 

@@ -12,3 +12,4 @@ pub mod OwnFolder
 pub mod LineCounts
 pub mod MissedRanges
 mod Objects
+mod Worked

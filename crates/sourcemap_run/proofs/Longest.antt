@@ -1,5 +1,6 @@
 -- The first item of a list with the greatest number.
-use Rattle.std.proofs.Common.{◌≡◌, ◌⊎◌, inl, inr, ◌<◌, ◌≤◌, ◌+◌, ℕ, List, Option, Some, None, slice_get}
+use Rattle.std.proofs.Common.{◌≡◌, ◌⊎◌, inl, inr, ◌<◌, ◌≤◌, ◌+◌, ℕ, List, Option, Some, None}
+use Rattle.std.proofs.Common.{slice_get}
 use Rattle.std.proofs.Common.{MatchOption, arith, refl, sym, ap, ◌∙◌, length, subst}
 use Rattle.std.proofs.Common.{string_bytes}
 use Rattle.std.proofs.lemmas.Option.{slice_get_within}

@@ -1,8 +1,10 @@
 -- Ranges of lines that did not run, up to one that is open.
-use Rattle.std.proofs.Common.{◌≡◌, ℕ, Bool, true, false, cond, ◌==◌, List, [], ◌∷◌, ◌++◌, Option, Some, None, refl, sym, ap}
+use Rattle.std.proofs.Common.{◌≡◌, ℕ, Bool, true, false, cond, ◌==◌, List, [], ◌∷◌, ◌++◌, Option}
+use Rattle.std.proofs.Common.{Some, None, refl, sym, ap}
 use Rattle.std.proofs.Common.{◌∙◌, append_assoc, drop, length, ◌<◌, ◌+◌, get_or, suc, arith}
 use Rattle.std.proofs.Math.Seq.{drop-cons}
-use Rattle.sourcemap_run.specs.Counts.{is_missed, begins_missed, first_from, missed_ranges, closed, opened}
+use Rattle.sourcemap_run.specs.Counts.{is_missed, begins_missed, first_from, missed_ranges, closed}
+use Rattle.sourcemap_run.specs.Counts.{opened}
 
 -- the ranges that are left, after one that may be open
 abbrev pub left : Option (ℕ × ℕ) → List (ℕ × ℕ) → List (ℕ × ℕ)

@@ -1,5 +1,6 @@
 -- Which code a path of an engine names. A path is given by its bytes, without dots and empty parts; a prefix ends in a slash.
-use Rattle.std.specs.Prelude.{◌≡◌, ◌<◌, ◌≤◌, ℕ, Bool, not, ◌&&◌, ◌||◌, ◌==◌, List, [], ◌∷◌, Option, Some}
+use Rattle.std.specs.Prelude.{◌≡◌, ◌<◌, ◌≤◌, ℕ, Bool, not, ◌&&◌, ◌||◌, ◌==◌, List, [], ◌∷◌, Option}
+use Rattle.std.specs.Prelude.{Some}
 use Rattle.std.specs.Prelude.{None, false, nat_lt, length, slice_get, string_bytes, if◌then◌else◌}
 use Rattle.std.specs.List.{list_any, position_from, starts_with, ends_with}
 use Rattle.std.specs.Str.{bytes_eq}
@@ -9,7 +10,8 @@ use Rattle.oxc_sourcemap_parts.specs.Record.{Text}
 use Rattle.sourcemap_run.specs.declared.matching.Prefix.{Prefix}
 use Rattle.sourcemap_run.specs.declared.matching.Candidate.{Candidate}
 use Rattle.sourcemap_run.specs.declared.matching.Choice.{Choice}
-use Rattle.sourcemap_run.specs.declared.matching.Choice.TheVariants.{Determined, MaybeFirst, Nothing}
+use Rattle.sourcemap_run.specs.declared.matching.Choice.TheVariants.{Determined, MaybeFirst}
+use Rattle.sourcemap_run.specs.declared.matching.Choice.TheVariants.{Nothing}
 
 -- the length of a prefix, if a path has something below it, else 0
 abbrev pub below_length : Text → Text → ℕ

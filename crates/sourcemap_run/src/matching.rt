@@ -32,7 +32,7 @@ fn below_length(path: &str, prefix: &Prefix) -> usize
 pub fn longest_prefix(prefixes: &[Prefix], path: &str) -> Option<usize>
     ensures { MatchOption result
         ((p : Prefix) → (i : ℕ) → slice_get prefixes.now i ≡ Some p
-            → below_length path.now (string_bytes p.left) ≡ 0)
+        → below_length path.now (string_bytes p.left) ≡ 0)
         (λ i. IsLongest path.now prefixes.now i) }
 {
     let mut longest = None;

@@ -10,8 +10,8 @@ use sourcemap_files::{
     shown_name, tell, warn,
 };
 use sourcemap_run::{
-    Block, LineCounts, Mark, count_lines, is_hidden, push_marks, push_number_member, push_object,
-    push_shown, push_text_member,
+    Block, LineCounts, Mark, count_lines, is_hidden, missed_ranges, push_marks, push_number_member,
+    push_object, push_shown, push_text_member,
 };
 use sourcemap_words::{Outcome, Report, Run, Script, failure_of, runs_of};
 use std::alloc::{AllocError, Global};
@@ -169,12 +169,7 @@ impl Coverage {
     }
 
     /// Adds the lines of a script to those of its sources.
-    fn add(
-        &mut self,
-        map: &SourceMap<'_>,
-        folder: &str,
-        lines: &LineCounts,
-    ) -> Outcome<()> {
+    fn add(&mut self, map: &SourceMap<'_>, folder: &str, lines: &LineCounts) -> Outcome<()> {
         for ((id, line), count) in lines {
             let source = map.get_source(*id).unwrap_or("");
             let path = path_from_here(self.alloc, self.folder.as_str(), folder, source)?;
@@ -301,40 +296,23 @@ fn add_file(asked: &Asked<'_, '_>, file: &str, coverage: &mut Coverage) -> Outco
     Ok(())
 }
 
-/// The missed lines, from 1, as `3, 7-9`.
-fn missed_ranges(alloc: Global, lines: &Lines) -> Result<String, AllocError> {
-    let mut text = String::new(alloc);
-    let mut open: Option<(u32, u32)> = None;
+/// Appends the missed lines, from 1, as `3, 7-9`.
+fn push_missed(alloc: Global, lines: &Lines, out: &mut String) -> Result<(), AllocError> {
+    let mut all = Vec::with_capacity(alloc, lines.len())?;
     for (line, count) in lines {
-        if *count > 0 {
-            push_range(alloc, &mut text, open)?;
-            open = None;
-            continue;
-        }
-        open = Some((open.map_or(*line, |(first, _)| first), *line));
+        all.push((*line, *count))?;
     }
-    push_range(alloc, &mut text, open)?;
-    Ok(text)
-}
-
-fn push_range(
-    alloc: Global,
-    text: &mut String,
-    range: Option<(u32, u32)>,
-) -> Result<(), AllocError> {
-    let Some((first, last)) = range else {
-        return Ok(());
-    };
-    if !text.is_empty() {
-        text.push_str(", ")?;
+    for (i, range) in missed_ranges(alloc, all.as_slice())?.iter().enumerate() {
+        let comma = if i > 0 { ", " } else { "" };
+        let (first, last) = (u64::from(range.0) + 1, u64::from(range.1) + 1);
+        let part = if first == last {
+            format!(in alloc; "{comma}{first}")?
+        } else {
+            format!(in alloc; "{comma}{first}-{last}")?
+        };
+        out.push_str(part.as_str())?;
     }
-    let (first, last) = (u64::from(first) + 1, u64::from(last) + 1);
-    let part = if first == last {
-        format!(in alloc; "{first}")?
-    } else {
-        format!(in alloc; "{first}-{last}")?
-    };
-    text.push_str(part.as_str())
+    Ok(())
 }
 
 /// How many lines ran.
@@ -374,6 +352,8 @@ fn table(alloc: Global, sources: &Sources) -> Outcome<String> {
     let (mut total, mut all) = (0u64, 0u64);
     for (source, lines) in sources {
         let (own, count) = (ran(lines), lines.len() as u64);
+        let mut missed = String::new(alloc);
+        push_missed(alloc, lines, &mut missed)?;
         total = total.saturating_add(own);
         all = all.saturating_add(count);
         push_row(
@@ -381,7 +361,7 @@ fn table(alloc: Global, sources: &Sources) -> Outcome<String> {
             source.as_str(),
             own,
             count,
-            missed_ranges(alloc, lines)?.as_str(),
+            missed.as_str(),
             &mut out,
         )?;
     }

@@ -1,7 +1,5 @@
 //! Finding the map of a code.
-use crate::finding::matching::{
-    Below, CodePath, Files, Found as Match, InputPrefix, named_prefix,
-};
+use crate::finding::matching::{Below, CodePath, Files, Found as Match, InputPrefix, named_prefix};
 use crate::input::{is_file, read_text, shown_name, warn};
 use crate::paths::{
     file_name, folder_of, has_scheme, is_folder, is_inside, join_path, parts_of, path_of,

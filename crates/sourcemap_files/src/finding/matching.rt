@@ -268,11 +268,7 @@ impl InputPrefix {
                 earlier,
             })?;
         }
-        Ok(choose(
-            self.own.as_str(),
-            path.is_remote,
-            candidates.as_slice(),
-        ))
+        Ok(choose(self.own.as_str(), path.is_remote, candidates.as_slice()))
     }
 
     /// Keeps what these prefixes leave of a path, for paths that come later.

@@ -1,4 +1,5 @@
-use Rattle.std.proofs.Common.{◌≡◌, ◌<◌, ◌≤◌, ℕ, Option, Some, None, slice_get, string_bytes, MatchOption}
+use Rattle.std.proofs.Common.{◌≡◌, ◌<◌, ◌≤◌, ℕ, Option, Some, None, slice_get, string_bytes}
+use Rattle.std.proofs.Common.{MatchOption}
 use Rattle.sourcemap_run.specs.declared.matching.Prefix.{Prefix}
 use Rattle.sourcemap_run.specs.Matching.{below_length}
 use Rattle.sourcemap_run.proofs.matching.longest_prefix.Given as goal

@@ -85,6 +85,7 @@ const CUTS: &[Cut] = &[
     ("x", "//#sourceMappingURL=", "", "\u{2028}\u{a0}"),
     // The same words in a later comment, and in an earlier one that named the map before.
     ("x\n", "//# sourceMappingURL=a.map", "a.map", "\n// see sourceMappingURL=a.map\n"),
+    ("x\n", "//# sourceMappingURL=a.map", "a.map", "\n// //# sourceMappingURL=a.map"),
     ("//# sourceMappingURL=a.map\n", "//# sourceMappingURL=a.map", "a.map", "\n"),
     ("/*# sourceMappingURL=a.map */ ", "/*# sourceMappingURL=a.map */", "a.map", "/* a.map */"),
     ("`é` // a\r", "/*# sourceMappingURL=//#sourceMappingURL=é😀*/", "//#sourceMappingURL=é😀", "\n"),

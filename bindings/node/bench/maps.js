@@ -7,8 +7,8 @@ const { basename } = require('node:path');
 const { SourceMap, NO_ID, encodeMappings } = require('..');
 const { random } = require('../test/random.js');
 
-/** The text of a map as bundlers write them: so many tokens on so many lines, from sources with contents. */
-function made(count, lines, sourceCount) {
+/** A map as bundlers write them: so many tokens on so many lines, of so many sources and names, with contents of so many bytes. */
+function made(count, lines, sourceCount, nameCount, bytes) {
   const next = random(count);
   const tokens = new Uint32Array(6 * count);
   const perLine = Math.ceil(count / lines);
@@ -17,26 +17,31 @@ function made(count, lines, sourceCount) {
     column = i % perLine === 0 ? 0 : column + 1 + next(9);
     const source = Math.floor((i * sourceCount) / count);
     const originalLine = Math.floor(i / 8) % 2000;
-    tokens.set([Math.floor(i / perLine), column, originalLine, next(80), source, next(4) === 0 ? next(1000) : NO_ID], 6 * i);
+    tokens.set([Math.floor(i / perLine), column, originalLine, next(80), source, next(4) === 0 ? next(nameCount) : NO_ID], 6 * i);
   }
   const line = 'const value = call(first, second) || other.member;\n';
-  return JSON.stringify({
+  const content = line.repeat(Math.ceil(bytes / sourceCount / line.length));
+  const value = {
     version: 3,
     sources: Array.from({ length: sourceCount }, (_, i) => `src/module${i}.ts`),
-    sourcesContent: Array.from({ length: sourceCount }, () => line.repeat(Math.ceil(count / sourceCount / 8))),
-    names: Array.from({ length: 1000 }, (_, i) => `name${i}`),
+    ...(bytes > 0 ? { sourcesContent: new Array(sourceCount).fill(content) } : {}),
+    names: Array.from({ length: nameCount }, (_, i) => `name${i}`),
     mappings: encodeMappings(tokens),
-  });
+  };
+  return { next, tokens, value };
 }
+
+/** The text of a map with 1,000 names and a line of contents for eight tokens. */
+const textOf = (count, lines, sourceCount) => Buffer.from(JSON.stringify(made(count, lines, sourceCount, 1000, 51 * (count / 8)).value));
 
 /** Name and text of each map. */
 function maps(paths) {
   if (paths.length > 0) return paths.map((path) => [basename(path), readFileSync(path)]);
   return [
-    ['small', Buffer.from(made(1000, 40, 3))],
-    ['module', Buffer.from(made(10_000, 400, 5))],
-    ['bundle', Buffer.from(made(350_000, 9000, 40))],
-    ['one line', Buffer.from(made(130_000, 1, 40))],
+    ['small', textOf(1000, 40, 3)],
+    ['module', textOf(10_000, 400, 5)],
+    ['bundle', textOf(350_000, 9000, 40)],
+    ['one line', textOf(130_000, 1, 40)],
   ];
 }
 
@@ -56,4 +61,4 @@ function positions(text, count) {
   return out;
 }
 
-module.exports = { maps, positions };
+module.exports = { made, maps, positions };

@@ -6,7 +6,7 @@
 // ROWS=WORDS prints the rows alone that have these words, and MILLISECONDS=NUMBER is how long each cell is measured.
 
 const { SourceMap, NO_ID, decodeMappings, encodeMappings } = require('..');
-const { random } = require('../test/random.js');
+const { made } = require('./maps.js');
 const ours = {
   tracing: require('../compat/trace-mapping.js'),
   generating: require('../compat/gen-mapping.js'),
@@ -29,28 +29,11 @@ const LOOKUPS = 1000;
 
 // ---- maps ----
 
-/** A map of so many tokens, with contents of so many bytes. */
-function made(name, count, lines, bytes) {
-  const next = random(count);
+/** A map of so many tokens, with contents of so many bytes, and positions in it. */
+function sample(name, count, lines, bytes) {
   const sources = Math.max(1, Math.min(40, Math.floor(count / 500)));
   const names = Math.max(1, Math.min(1000, Math.floor(count / 12)));
-  const tokens = new Uint32Array(6 * count);
-  const perLine = Math.ceil(count / lines);
-  let column = 0;
-  for (let i = 0; i < count; i++) {
-    column = i % perLine === 0 ? 0 : column + 1 + next(9);
-    const source = Math.floor((i * sources) / count);
-    tokens.set([Math.floor(i / perLine), column, Math.floor(i / 8) % 2000, next(80), source, next(4) === 0 ? next(names) : NO_ID], 6 * i);
-  }
-  const line = 'const value = call(first, second) || other.member;\n';
-  const content = line.repeat(Math.ceil(bytes / sources / line.length));
-  const value = {
-    version: 3,
-    sources: Array.from({ length: sources }, (_, i) => `src/module${i}.ts`),
-    ...(bytes > 0 ? { sourcesContent: new Array(sources).fill(content) } : {}),
-    names: Array.from({ length: names }, (_, i) => `name${i}`),
-    mappings: encodeMappings(tokens),
-  };
+  const { next, tokens, value } = made(count, lines, sources, names, bytes);
   const at = new Uint32Array(2 * LOOKUPS);
   for (let i = 0; i < LOOKUPS; i++) {
     const token = 6 * next(count);
@@ -61,10 +44,10 @@ function made(name, count, lines, bytes) {
 }
 
 const MAPS = [
-  made('2 segments', 2, 1, 0),
-  made('10', 10, 3, 0),
-  made('90 kB', 13_712, 400, 0),
-  made('1 MB with contents', 40_000, 1200, 700_000),
+  sample('2 segments', 2, 1, 0),
+  sample('10', 10, 3, 0),
+  sample('90 kB', 13_712, 400, 0),
+  sample('1 MB with contents', 40_000, 1200, 700_000),
 ];
 
 // ---- rows: what is done, by us and by the other, with what each has prepared ----

@@ -1,4 +1,5 @@
 pub mod Words
+pub mod FoundView
 -- The definitions that the contracts of this crate's items cite.
 pub use Rattle.oxc_sourcemap_tokens.specs.declared.errors.error.Error
 pub use Rattle.oxc_sourcemap_tokens.specs.declared.errors.error.JsonFault
@@ -108,6 +109,7 @@ pub use Rattle.oxc_sourcemap_laws.specs.RootedDecodedMaps
 pub use Rattle.oxc_sourcemap_laws.specs.RootLaws
 pub use Rattle.oxc_sourcemap_laws.specs.TraceLaws
 pub use Rattle.oxc_sourcemap_laws.specs.BundleLaws
+pub use Rattle.oxc_sourcemap_laws.specs.CutLaws
 pub use Rattle.oxc_sourcemap_laws.specs.SimplifyTraces
 pub use Rattle.oxc_sourcemap_laws.specs.SimplifiedMaps
 pub use Rattle.oxc_sourcemap_laws.specs.SimplifiedWhole
@@ -122,7 +124,6 @@ pub use Rattle.oxc_sourcemap_plan.specs.Outcome
 pub use Rattle.oxc_sourcemap_plan.specs.Evaluated
 pub use Rattle.oxc_sourcemap_found.specs.declared.mending.mend.Mend
 pub use Rattle.oxc_sourcemap_found.specs.declared.mending.mend.MendKind
-pub use Rattle.oxc_sourcemap_found.specs.declared.found.Found
 pub use Rattle.oxc_sourcemap_found.specs.MendText
 pub use Rattle.oxc_sourcemap_found.specs.Opening
 pub use Rattle.oxc_sourcemap_found.specs.Mended

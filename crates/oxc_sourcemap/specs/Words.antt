@@ -1,4 +1,6 @@
 -- The words of the clauses of this library's calls, from one place. Users import what they need from here.
+pub use Rattle.oxc_sourcemap.specs.FoundView.{found_view}
+pub use Rattle.oxc_sourcemap_found.specs.FoundMaps.{found}
 pub use Rattle.oxc_sourcemap_map.specs.Building.{with_name, with_name_at, with_another_source}
 pub use Rattle.oxc_sourcemap_map.specs.Building.{with_path, with_path_at, with_bare_path}
 pub use Rattle.oxc_sourcemap_map.specs.Built.{nothing_built}
@@ -51,7 +53,7 @@ pub use Rattle.oxc_sourcemap_parts.specs.Views.{record_of_parts, empty_record, t
 pub use Rattle.oxc_sourcemap_parts.specs.Views.{contents_of, chunks_of}
 pub use Rattle.oxc_sourcemap_queries.specs.RangePieces.{place, pieces_of, DoCover}
 pub use Rattle.oxc_sourcemap_tokens.specs.PlaceMessages.{place_text, spot_text}
-pub use Rattle.oxc_sourcemap_json.specs.ValuePlaces.{value_spot, value_place, IsReading}
+pub use Rattle.oxc_sourcemap_json.specs.ValuePlaces.{value_spot, value_place, IsBytePlace}
 pub use Rattle.oxc_sourcemap_plan.specs.PlanPlaces.{texts_of as plan_texts_of, IsPlanPlace}
 pub use Rattle.oxc_sourcemap_plan.specs.Depth.{depth}
 pub use Rattle.oxc_sourcemap_plan.specs.Evaluated.{IsEvaluated, HasOutcome, IsErrorOf}

@@ -7,12 +7,14 @@
 mod decoding;
 mod encoding;
 mod evaluation;
+mod finding;
 pub mod laws;
 
 pub use decoding::{decode, decode_from_string, decode_value};
 pub use encoding::{encode, encode_to_string};
 pub use evaluation::evaluate;
-pub use oxc_sourcemap_found::{Found, Mend, MendKind, fault_reason, found_fault_at, read_found};
+pub use finding::{Found, read_found};
+pub use oxc_sourcemap_found::{Mend, MendKind, fault_reason, found_fault_at};
 pub use oxc_sourcemap_json::{
     FaultReason, JSONSourceMap, encode_mappings_within, file_from_value, json_fault_at,
     json_fault_reason, push_json_string, value_fault_at,

@@ -12,7 +12,7 @@ use Rattle.oxc_sourcemap_tokens.specs.declared.errors.plan_error.PlanError.{Plan
 use Rattle.oxc_sourcemap_tokens.specs.declared.errors.plan_error.PlanError.TheVariants.{Map}
 use Rattle.oxc_sourcemap_parts.specs.Record.{Text}
 use Rattle.oxc_sourcemap_json.specs.ReadMap.{read_map}
-use Rattle.oxc_sourcemap_json.specs.ValuePlaces.{value_place, IsPlacedIn, IsReading}
+use Rattle.oxc_sourcemap_json.specs.ValuePlaces.{value_place, IsPlacedIn, IsBytePlace}
 use Rattle.oxc_sourcemap_found.specs.FoundMaps.{found}
 use Rattle.oxc_sourcemap_found.specs.FoundPlaces.{IsFoundFault, HasPlaceIfRefused}
 use Rattle.oxc_sourcemap_plan.specs.declared.fault.PlanFault.{PlanFault}
@@ -46,7 +46,7 @@ failed_on These (Err g) f is h = elim (memory_or_not f.error) [
   | inr other ↦ subst (IsFailure These) (sym (is.1 other)) ((λ memory. absurd (other (same-error f.error OutOfMemory memory))), (λ q. h other))
 ]
 
-placed : (text : Text) (place : Option FaultPlace) → ((d : Data) → read text ≡ Some d → value_place d ≡ place) → (read text ≡ None → IsSomeAnd place (IsReading text)) → is_some place ≡ true
+placed : (text : Text) (place : Option FaultPlace) → ((d : Data) → read text ≡ Some d → value_place d ≡ place) → (read text ≡ None → IsSomeAnd place (IsBytePlace text)) → is_some place ≡ true
     → IsSomeAnd place (IsTextPlace text)
 placed text None json bad there = absurd (cc (there))
 placed text (Some p) json bad there = (json, bad)

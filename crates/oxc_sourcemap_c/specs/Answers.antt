@@ -1,6 +1,6 @@
 -- The results and errors of calls on what handles hold.
 use Rattle.std.specs.Prelude.{◌≡◌, ℕ, ◌⊎◌, Option, Result, Err, MatchOption, MatchResult, slice_get}
-use Rattle.std.specs.Prelude.{length, is_some, map, List, Bool, true, false}
+use Rattle.std.specs.Prelude.{is_some, map, List, Bool, true, false}
 use Rattle.oxc_sourcemap_parts.specs.Record.{Text, MapRecord}
 use Rattle.oxc_sourcemap_map.specs.View.{content_at}
 use Rattle.oxc_sourcemap_handles.specs.declared.numbers.call_error.CallError.{CallError}

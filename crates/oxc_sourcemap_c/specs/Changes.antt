@@ -1,8 +1,9 @@
 -- Calls that change the map that a handle holds, and their errors.
-use Rattle.std.specs.Prelude.{◌≡◌, Option, Some, Ok, MatchOption, IsUtf8, false}
+use Rattle.std.specs.Prelude.{◌≡◌, Option, Some, Ok, MatchOption, IsUtf8, true, false}
 use Rattle.oxc_sourcemap_tokens.specs.Results.{lent_items}
 use Rattle.oxc_sourcemap_parts.specs.Record.{MapRecord}
 use Rattle.oxc_sourcemap_parts.specs.Roots.{rooted}
+use Rattle.oxc_sourcemap_parts.specs.Sorted.{are_tokens_sorted}
 use Rattle.oxc_sourcemap_steps.specs.Sorting.{sorted_map}
 use Rattle.oxc_sourcemap_steps.specs.Simplified.{simplification}
 use Rattle.oxc_sourcemap_handles.specs.declared.numbers.call_error.CallError.{CallError}
@@ -65,3 +66,8 @@ IsSureError (SourceContents contents known) m r = ⊥
 IsSureError ApplySourceRoot m r = ⊥
 IsSureError Sort m r = ⊥
 IsSureError Simplify m r = IsUnsorted m r
+
+-- a change of this map that cannot fail for want of memory
+abbrev pub NeedsNoMemory : Change → MapRecord → Type 0
+NeedsNoMemory Sort m = are_tokens_sorted m.tokens ≡ true
+NeedsNoMemory change m = ⊥

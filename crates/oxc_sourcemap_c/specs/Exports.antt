@@ -12,7 +12,7 @@ use Rattle.oxc_sourcemap_handles.specs.Codes.{fault_of, code_of, no_fault}
 use Rattle.oxc_sourcemap_handles.specs.declared.holding.held.Held.{Held}
 use Rattle.oxc_sourcemap_handles.specs.declared.texts.text.Text.{Text as LentText}
 use Rattle.oxc_sourcemap_handles.specs.Holding.{held_map, held_text, HoldsMap}
-use Rattle.oxc_sourcemap_handles.specs.Structs.{IsText}
+use Rattle.oxc_sourcemap_handles.specs.Structs.{LendsText}
 use Rattle.oxc_sourcemap_c.specs.Writing.{IsUrlOf}
 
 -- A call that takes no memory fails: its code and its fault are those of one of these errors.
@@ -47,7 +47,7 @@ IsUrlAnswer bytes language code out fault = (answer : Result LentText CallError)
 
 -- the result of asking for the text in a handle: the code of an empty handle, or 0 and the text
 abbrev pub HoldsText : ℕ → Option Held → LentText → Type 0
-HoldsText code held lent = MatchOption (held_text held) (code ≡ code_of NullHandle) (λ text. (code ≡ 0) × IsText lent text)
+HoldsText code held lent = MatchOption (held_text held) (code ≡ code_of NullHandle) (λ text. (code ≡ 0) × LendsText lent text)
 
 -- the result of a lookup in what a handle holds: the code of what is missing, or 0 and what is found
 abbrev pub Found : {B : Type 0} → ℕ → Option Held → (MapRecord → Option B) → (B → Type 0) → Type 0

@@ -1,14 +1,12 @@
 -- Errors with the places of their faults.
-use Rattle.std.specs.Prelude.{◌≡◌, ◌≢◌, ◌⊎◌, ℕ, List, Option, None, Err, option_map, IsUtf8}
+use Rattle.std.specs.Prelude.{◌≡◌, ◌≢◌, ◌⊎◌, ℕ, List, Option, None, Err, IsUtf8}
 use Rattle.std.specs.Prelude.{IsSomeAnd}
 use Rattle.oxc_sourcemap_tokens.specs.declared.errors.error.Error.{Error}
 use Rattle.oxc_sourcemap_parts.specs.Record.{Text}
 use Rattle.oxc_sourcemap_mappings.specs.Reading.{reading}
-use Rattle.oxc_sourcemap_mappings.specs.SegmentPlaces.{fault_place}
+use Rattle.oxc_sourcemap_mappings.specs.SegmentPlaces.{mappings_place}
 use Rattle.oxc_sourcemap_json.specs.ReadMap.{read_map}
 use Rattle.oxc_sourcemap_tokens.specs.declared.errors.fault.FaultPlace.{FaultPlace}
-use Rattle.oxc_sourcemap_tokens.specs.declared.errors.fault.FaultSpot.TheVariants.{Segment}
-use Rattle.oxc_sourcemap_tokens.specs.Places.{place_in}
 use Rattle.oxc_sourcemap_found.specs.FoundMaps.{found}
 use Rattle.oxc_sourcemap_found.specs.FoundPlaces.{IsFoundPlace, HasPlaceIfRefused}
 use Rattle.oxc_sourcemap_plan.specs.PlanPlaces.{IsTextPlace}
@@ -42,10 +40,6 @@ IsFoundTextErrorAt text r place =
 -- the same of bytes: they are not UTF-8, or their text has a fault that is not mended
 abbrev pub IsFoundErrorAt : List ℕ → CallError → Option FaultPlace → Type 0
 IsFoundErrorAt bytes r place = (IsNotText bytes r × (place ≡ None)) ⊎ (IsUtf8 bytes × IsFoundTextErrorAt bytes r place)
-
--- the place of the first fault of a mappings text
-abbrev pub mappings_place : Text → ℕ → ℕ → Option FaultPlace
-mappings_place text names sources = option_map (λ place. place_in None (Segment place)) (fault_place text names sources)
 
 -- an error of reading a mappings text, and its place
 abbrev pub IsSegmentErrorAt : Text → ℕ → ℕ → CallError → Option FaultPlace → Type 0

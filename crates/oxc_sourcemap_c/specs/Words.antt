@@ -13,7 +13,7 @@ pub use Rattle.oxc_sourcemap_handles.specs.Listed.{cow_options, filled}
 pub use Rattle.oxc_sourcemap_handles.specs.Lists.{token_of, AreTexts, known_texts, AreContents}
 pub use Rattle.oxc_sourcemap_handles.specs.Lists.{IsNotContents, IsNotTexts}
 pub use Rattle.oxc_sourcemap_handles.specs.PlaceNumbers.{place_of_numbers}
-pub use Rattle.oxc_sourcemap_handles.specs.Structs.{IsText, IsContentText, bytes_of_options}
+pub use Rattle.oxc_sourcemap_handles.specs.Structs.{LendsText, IsContentText, bytes_of_options}
 pub use Rattle.oxc_sourcemap_handles.specs.Structs.{bytes_of_texts}
 pub use Rattle.oxc_sourcemap_handles.specs.Structs.{capped, counts_of, map_bytes, numbers_of}
 pub use Rattle.oxc_sourcemap_handles.specs.Structs.{piece_numbers, token_numbers}
@@ -78,7 +78,7 @@ pub use Rattle.oxc_sourcemap_c.specs.Builders.{Builds, IsBuilderError, IsFinishe
 pub use Rattle.oxc_sourcemap_c.specs.Builders.{IsPathError, IsSourceError, IsStep, IsStepError}
 pub use Rattle.oxc_sourcemap_c.specs.Builders.{with_file, with_tokens}
 pub use Rattle.oxc_sourcemap_c.specs.Changes.{Changes, IsChange, IsChangeError, IsMapError}
-pub use Rattle.oxc_sourcemap_c.specs.Changes.{IsSureError}
+pub use Rattle.oxc_sourcemap_c.specs.Changes.{IsSureError, NeedsNoMemory}
 pub use Rattle.oxc_sourcemap_c.specs.Joining.{IsAddError, IsJoinFinished, IsJoined, IsNullJoin}
 pub use Rattle.oxc_sourcemap_c.specs.Joining.{IsOneNull, IsPartsError}
 pub use Rattle.oxc_sourcemap_c.specs.Making.{HasTexts, IsListsError, IsMapMissing, IsNotTextOf}

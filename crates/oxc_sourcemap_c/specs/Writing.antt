@@ -25,7 +25,7 @@ use Rattle.oxc_sourcemap_handles.specs.declared.numbers.call_error.CallError.The
 use Rattle.oxc_sourcemap_handles.specs.declared.numbers.call_error.CallError.TheVariants.{BadDataUtf8}
 use Rattle.oxc_sourcemap_handles.specs.declared.holding.held.Held.{Held}
 use Rattle.oxc_sourcemap_handles.specs.declared.texts.text.Text.{Text as LentText}
-use Rattle.oxc_sourcemap_handles.specs.Structs.{IsText}
+use Rattle.oxc_sourcemap_handles.specs.Structs.{LendsText}
 use Rattle.oxc_sourcemap_handles.specs.CallErrors.{of_map, out_of_memory, IsNotText}
 use Rattle.oxc_sourcemap_handles.specs.Holding.{held_map}
 
@@ -73,7 +73,7 @@ language_of n = if n == 0 then Some JavaScript else if n == 1 then Some Css else
 
 -- a lent text has these characters
 abbrev pub HasCharacters : LentText → List ℕ → Type 0
-HasCharacters lent url = IsText lent (encode_utf8_all url)
+HasCharacters lent url = LendsText lent (encode_utf8_all url)
 
 -- the answer for the URL that a code names: `BadOption` of a number that is no language, `NoEntry` if there is none
 abbrev pub IsUrlIn : Text → ℕ → Result LentText CallError → Type 0

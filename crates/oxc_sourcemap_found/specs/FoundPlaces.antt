@@ -26,7 +26,7 @@ use Rattle.oxc_sourcemap_tokens.specs.declared.errors.fault.FaultSpot.{FaultSpot
 use Rattle.oxc_sourcemap_tokens.specs.declared.errors.fault.FaultSpot.TheVariants.{Segment, Member}
 use Rattle.oxc_sourcemap_json.specs.ShapeSpots.{shape_spot, ignored_field}
 use Rattle.oxc_sourcemap_json.specs.ValuePlaces.{ignored_spot, offset_place, or_place}
-use Rattle.oxc_sourcemap_json.specs.ValuePlaces.{IsReadingFrom}
+use Rattle.oxc_sourcemap_json.specs.ValuePlaces.{IsBytePlaceFrom}
 use Rattle.oxc_sourcemap_tokens.specs.Places.{place_in}
 use Rattle.oxc_sourcemap_found.specs.FoundMaps.{FoundRecord}
 use Rattle.oxc_sourcemap_found.specs.Mended.{mended_members, with_version, as_found}
@@ -100,7 +100,7 @@ found_value_place d = found_members_place (as_object d)
 -- A place at which what was opened is not JSON. It is counted in the text of a data URL, or else in the whole text, and then not in
 -- what is passed over in front.
 abbrev pub IsFoundReading : Text → FaultPlace → Type 0
-IsFoundReading text place = IsReadingFrom (length (counted_text text) - length (opened text).text) (counted_text text) place
+IsFoundReading text place = IsBytePlaceFrom (length (counted_text text) - length (opened text).text) (counted_text text) place
 
 -- where a text has the fault for which it is refused: a place at which what was opened is not JSON, or that of its value
 abbrev pub IsFoundPlace : Text → Option FaultPlace → Type 0

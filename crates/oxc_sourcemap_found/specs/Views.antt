@@ -3,7 +3,7 @@ use Rattle.std.specs.Prelude.{Vec}
 use Rattle.std.specs.declared.alloc.Global.{Global}
 use Rattle.serde_json.specs.View.{members_view}
 use Rattle.oxc_sourcemap_parts.specs.Record.{Text}
-use Rattle.oxc_sourcemap_found.specs.declared.found.Found.{Found}
+use Rattle.oxc_sourcemap_found.specs.declared.found.FoundParts.{FoundParts}
 use Rattle.oxc_sourcemap_found.specs.declared.mending.members.Mending.{Mending}
 use Rattle.oxc_sourcemap_found.specs.declared.mending.mend.MendKind.{MendKind}
 use Rattle.oxc_sourcemap_found.specs.declared.mending.plain.MendedParts.{MendedParts}
@@ -20,8 +20,8 @@ abbrev pub state_of : Mending → MendedMembers
 state_of m = record { members = members_view m.object.entries; kinds = m.kinds.items }
 
 -- a map as it was found
-abbrev pub found_view : Found → FoundRecord
-found_view f = record { map = f.map; mends = f.mends.items }
+abbrev pub found_view : FoundParts → FoundRecord
+found_view f = record { map = record_of_parts f.parts; mends = f.mends.items }
 
 -- a text, and what was passed over and opened so far
 abbrev pub opened_view : Text → Vec MendKind Global → Opened

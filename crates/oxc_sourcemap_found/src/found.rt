@@ -20,7 +20,6 @@ use crate::opening::open;
 use crate::reading::text_fault;
 use oxc_sourcemap_join::join_owned_parts;
 use oxc_sourcemap_json::{decode_parts_from_string, into_member, is_indexed, place_of, read_file};
-use oxc_sourcemap_map::SourceMap;
 use oxc_sourcemap_parts::{SourceMapParts, from_string};
 use oxc_sourcemap_tokens::{
     Error, Fault, FaultPlace, FaultSpot, Field, Located, Memory, Position, Result,
@@ -28,11 +27,10 @@ use oxc_sourcemap_tokens::{
 use serde_json::{Map, Value};
 use std::alloc::{AllocError, Global};
 
-/// A map as it was found, and what was mended to read it.
+/// The parts of a map as it was found, and what was mended to read it. The map is sound.
 #[derive(Drop)]
-pub struct Found {
-    /// The map. It is sound.
-    pub map: SourceMap<'static>,
+pub struct FoundParts {
+    pub parts: SourceMapParts<'static>,
     /// What was mended, in the order in which it is looked at; empty if nothing was.
     pub mends: Vec<Mend>,
 }
@@ -131,18 +129,17 @@ fn in_order(
     alloc: Global,
     mut parts: SourceMapParts<'static>,
     mut mends: Vec<Mend>,
-) -> Memory<Found>
+) -> Memory<FoundParts>
     ensures { IfOk result (λ found. found_view found
         ≡ in_order (found_record mends.items (record_of_parts parts.entry))) }
 {
     mend_order(alloc, &mut mends, &mut parts)?;
-    let map = SourceMap::from_parts(parts);
-    Ok(Found { map, mends })
+    Ok(FoundParts { parts, mends })
 }
 
 /// The map of a text, mended. An error is where `found_fault_at` says.
 #[tactic(auto, unfolding(crate::specs::FoundMaps::found))]
-fn read_text(alloc: Global, text: &str) -> Located<Found>
+fn read_text(alloc: Global, text: &str) -> Located<FoundParts>
     ensures map { Reads found_view result (found text.now) }
     ensures place { LocatesFaultIn text.now result }
 {
@@ -157,7 +154,7 @@ fn read_text(alloc: Global, text: &str) -> Located<Found>
 }
 
 /// The map of a text that the exact reader reads, in which nothing is to be mended but the order of its tokens.
-fn read_exact(alloc: Global, text: &str) -> Memory<Option<Found>>
+fn read_exact(alloc: Global, text: &str) -> Memory<Option<FoundParts>>
     ensures { IfOk result (λ read. IfSome read (λ f. found text.now ≡ Ok (found_view f))) }
 {
     match decode_parts_from_string(alloc, text) {
@@ -167,8 +164,8 @@ fn read_exact(alloc: Global, text: &str) -> Memory<Option<Found>>
     }
 }
 
-/// Reads the map of a text as `read_found` does; an error has the place that `found_fault_at` tells.
-pub fn read_located(alloc: Global, text: &str) -> Located<Found>
+/// Reads the parts of the map of a text as `read_found_parts` does; an error has the place that `found_fault_at` tells.
+pub fn read_located(alloc: Global, text: &str) -> Located<FoundParts>
     ensures map { Reads found_view result (found text.now) }
     ensures place { IfErr result (IsFoundFault text.now) }
 {
@@ -179,30 +176,8 @@ pub fn read_located(alloc: Global, text: &str) -> Located<Found>
     }
 }
 
-/// Reads the map of a JSON text as it is found: what docs/FORMAT.md, "Maps as they are found", lists is mended, and told of.
-/// This is what the exact reader refuses, and the order of tokens, which it leaves as it is. The map is sound: its tokens are
-/// sorted, and its ids in range. All its strings are owned.
-///
-/// ```rust
-/// use oxc_sourcemap::{MendKind, read_found};
-///
-/// let text = ")]}'\n{\"version\":3,\"sources\":[null,\"b.js\"],\"names\":[],\"mappings\":\"AAAA,CCAA\"}";
-/// let found = read_found(alloc, text)?;
-/// assert_eq!(rt; found.map.get_source(1), Some("b.js"));
-/// let kinds = [found.mends[0].kind, found.mends[1].kind];
-/// assert_eq!(rt; kinds, [MendKind::JsonPrefix, MendKind::NullSource(0)]);
-/// ```
-///
-/// A text that the exact reader reads is read as the same map with its tokens sorted, and only `Unsorted` is told, if they were
-/// not; it reads each text of which nothing is told (`mending_harmless`). What is not in the list is refused, in this order:
-/// - `BadJson(Reading)` if `serde_json` reads no value in what is left of the text, as for any URL but a data URL of JSON;
-/// - `BadJson(Shape(Object))` if the value is no object, and then the errors of `JSONSourceMap::from_value` for the mended object;
-/// - the errors of `decode_mappings`, for as many names and sources as there can be: a source or name id may be up to 4294967294;
-/// - for an indexed map the errors of `decode_value`, and of its sections the above, but `SectionOrder(k)` only if the offset of
-///   section k is before that of the section in front of it; last of all `TooLarge`.
-///
-/// Also `OutOfMemory` for want of memory, which may be before another error is found.
-pub fn read_found(alloc: Global, text: &str) -> Result<Found>
+/// Reads the parts of the map of a text as it is found, as `oxc_sourcemap::read_found` does, with its errors.
+pub fn read_found_parts(alloc: Global, text: &str) -> Result<FoundParts>
     ensures { Answers found_view result (found text.now) }
 {
     Ok(read_located(alloc, text)?)

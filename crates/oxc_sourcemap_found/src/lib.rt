@@ -8,7 +8,7 @@ mod opening;
 mod reading;
 mod reason;
 
-pub use found::{Found, found_fault_at, read_found, read_located};
+pub use found::{FoundParts, found_fault_at, read_found_parts, read_located};
 pub use laws::mending_harmless;
 pub use mending::{Mend, MendKind};
 pub use reason::fault_reason;

@@ -88,8 +88,8 @@ piece_numbers piece = record {
 }
 
 -- a lent text is this one
-abbrev pub IsText : LentText → Text → Type 0
-IsText lent text = lent.bytes.now ≡ text
+abbrev pub LendsText : LentText → Text → Type 0
+LendsText lent text = lent.bytes.now ≡ text
 
 -- a lent text is that of a content, and empty if that is not known
 abbrev pub IsContentText : LentText → Option Text → Type 0

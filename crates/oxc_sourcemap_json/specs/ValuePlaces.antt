@@ -112,15 +112,15 @@ unfoldable pub value_place : Data → Option FaultPlace
 value_place d = if is_indexed d then indexed_place d else option_map (place_in None) (value_spot d)
 
 -- A place at which this text is not JSON: a byte of it, or its end, from this index on, with its line and its column.
-abbrev pub IsReadingSpot : ℕ → Text → FaultSpot → Type 0
-IsReadingSpot from text (ReadingSpot line column byte) = (from ≤ byte) × IsByteAt text line column byte
-IsReadingSpot from text spot = ⊥
+abbrev pub IsByteSpot : ℕ → Text → FaultSpot → Type 0
+IsByteSpot from text (ReadingSpot line column byte) = (from ≤ byte) × IsByteAt text line column byte
+IsByteSpot from text spot = ⊥
 
-abbrev pub IsReadingFrom : ℕ → Text → FaultPlace → Type 0
-IsReadingFrom from text place = (place.text ≡ None) × (place.section ≡ None) × IsReadingSpot from text place.spot
+abbrev pub IsBytePlaceFrom : ℕ → Text → FaultPlace → Type 0
+IsBytePlaceFrom from text place = (place.text ≡ None) × (place.section ≡ None) × IsByteSpot from text place.spot
 
-abbrev pub IsReading : Text → FaultPlace → Type 0
-IsReading text place = IsReadingFrom 0 text place
+abbrev pub IsBytePlace : Text → FaultPlace → Type 0
+IsBytePlace text place = IsBytePlaceFrom 0 text place
 
 -- If a text is JSON, its value has no place of a fault.
 abbrev pub HasNoPlace : Text → Type 0
@@ -130,7 +130,7 @@ HasNoPlace text = (d : Data) → read text ≡ Some d → value_place d ≡ None
 abbrev pub IsPlacedIn : Text → Fault → Type 0
 IsPlacedIn text f =
     (f.error ≢ OutOfMemory) → ((d : Data) → read text ≡ Some d → value_place d ≡ f.place)
-    × (read text ≡ None → IsSomeAnd f.place (IsReading text)) × (is_some f.place ≡ true)
+    × (read text ≡ None → IsSomeAnd f.place (IsBytePlace text)) × (is_some f.place ≡ true)
 
 -- The place of the error of the call is that of the first fault of this text; where it succeeds, there is none.
 abbrev pub LocatesIn : {A : Type 0} → Text → Result A Fault → Type 0

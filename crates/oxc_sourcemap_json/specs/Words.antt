@@ -51,7 +51,7 @@ pub use Rattle.oxc_sourcemap_json.specs.ValuePlaces.{place_at, fields_spot, valu
 pub use Rattle.oxc_sourcemap_json.specs.ValuePlaces.{plain_map, map_spot, offset_place, limit_place}
 pub use Rattle.oxc_sourcemap_json.specs.ValuePlaces.{sections_place, indexed_place, value_place}
 pub use Rattle.oxc_sourcemap_json.specs.TextBytes.{line_feeds, line_start}
-pub use Rattle.oxc_sourcemap_json.specs.ValuePlaces.{IsReading, IsReadingFrom}
+pub use Rattle.oxc_sourcemap_json.specs.ValuePlaces.{IsBytePlace, IsBytePlaceFrom}
 pub use Rattle.oxc_sourcemap_json.specs.ValuePlaces.{HasNoPlace, IsPlacedIn, LocatesIn}
 pub use Rattle.oxc_sourcemap_json.specs.Appends.{OnlyAdds}
 pub use Rattle.oxc_sourcemap_json.specs.Encoded.{encoded, written_contents, encoded_record}

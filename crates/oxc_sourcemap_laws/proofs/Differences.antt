@@ -1,7 +1,7 @@
 -- Where maps and simplified maps differ.
 use Rattle.std.proofs.Common.{◌≡◌, refl, sym, ap, ◌∙◌, ℕ, ◌<◌, ◌≤◌, Bool, true, false, cond, ◌==◌}
-use Rattle.std.proofs.Common.{List, [], ◌∷◌, map, length, nat_le, nat_lt, Option, Some, None, arith}
-use Rattle.std.proofs.Common.{if◌then◌else◌, subst, IsNone}
+use Rattle.std.proofs.Common.{List, [], ◌∷◌, map, length, nat_le, nat_lt, arith}
+use Rattle.std.proofs.Common.{if◌then◌else◌, subst}
 use Rattle.std.proofs.lemmas.Bool.Decides.{nat_tests}
 use Rattle.std.proofs.lemmas.List.{length-map}
 use Rattle.std.specs.List.{filter, AllByRecursion}
@@ -19,9 +19,9 @@ use Rattle.oxc_sourcemap_steps.specs.Simplified.{simplified_decoded_map, simplif
 use Rattle.oxc_sourcemap_steps.specs.SimplifyLaws.{IsSortedMap}
 use Rattle.oxc_sourcemap_steps.proofs.Means.{decoded_map_simplified}
 use Rattle.oxc_sourcemap_steps.proofs.Sound.{simplified-sorted, sorted-mappings}
-use Rattle.oxc_sourcemap_steps.proofs.Traces.{traces-stay, stays-sorted, is-least}
-use Rattle.oxc_sourcemap_laws.specs.DifferenceLaws.{SimplifiedTracesSame, SimplifiedDoesNotDiffer}
-use Rattle.oxc_sourcemap_laws.specs.DifferenceLaws.{AreBelowLastColumn, SimplifiedToAsMany}
+use Rattle.oxc_sourcemap_steps.proofs.Traces.{traces-stay, is-least}
+use Rattle.oxc_sourcemap_laws.specs.DifferenceLaws.{SimplifiedTracesSame, SimplificationTracesSame}
+use Rattle.oxc_sourcemap_laws.specs.DifferenceLaws.{AreBelowLastColumn, SimplifiedIsLeast}
 use Rattle.oxc_sourcemap_laws.proofs.SimplifiedWhole.{simplified-by}
 
 sorted-map : (r : MapRecord) → are_tokens_sorted r.tokens ≡ true → IsSortedMap (decoded_map_of r)
@@ -34,16 +34,12 @@ same-trace r h line col = ap (λ s. trace s line col) (decoded_map_simplified r)
 pub simplified_traces_same : SimplifiedTracesSame
 simplified_traces_same r h line col small = sym (same-trace r h line col)
 
-none-is : {A : Type 0} (o : Option A) → IsNone o → o ≡ None
-none-is None h = refl
-none-is (Some x) h = absurd (cc (h))
-
-pub simplified_does_not_differ : SimplifiedDoesNotDiffer
-simplified_does_not_differ r m found e h =
+pub simplification_traces_same : SimplificationTracesSame
+simplification_traces_same r m e =
     let p = simplified-by r m e in
     let sorted : are_tokens_sorted m.tokens ≡ true = subst (λ m. are_tokens_sorted m.tokens ≡ true) p.2 (simplified-sorted r p.0) in
     let same : HaveSameTraceEverywhere r m = subst (HaveSameTraceEverywhere r) p.2 (simplified_traces_same r p.0) in
-    none-is found ((h p.0 sorted).1 same)
+    (p.0, sorted, same)
 
 -- ---- columns past all items
 module _ {A : Type 0} (column : A → ℕ) where
@@ -103,19 +99,9 @@ count-of r =
     let m = simplified r in
     sym (length-map m.tokens (mapping_of (sources_of m.sources m.source_contents) m.names)) ∙ ap (λ s. length s.mappings) (decoded_map_simplified r)
 
-no-more : (a b : MapRecord) → are_tokens_sorted a.tokens ≡ true → are_tokens_sorted b.tokens ≡ true
-    → ((line col : ℕ) → trace (decoded_map_of a) line col ≡ trace (decoded_map_of b) line col) → length (simplified a).tokens ≤ length (simplified b).tokens
-no-more a b p q e =
-    let s = decoded_map_of a in
-    let t = decoded_map_of b in
-    let le = is-least s (simplified_decoded_map t) (sorted-map a p) (stays-sorted t (sorted-map b q)) (λ line col. e line col ∙ sym ((traces-stay t (sorted-map b q) line col).0)) in
+pub simplified_is_least : SimplifiedIsLeast
+simplified_is_least a b p q below low same =
+    let least = is-least (decoded_map_of a) (decoded_map_of b) (sorted-map a p) (sorted-map b q) (everywhere a b p q below low same) in
     let m = count-of a in
-    let n = count-of b in
-    omega (arith, le, m, n)
-
-pub simplified_to_as_many : SimplifiedToAsMany
-simplified_to_as_many a b p q below low same =
-    let e = everywhere a b p q below low same in
-    let one = no-more a b p q e in
-    let two = no-more b a q p (λ line col. sym (e line col)) in
-    omega (arith, one, two)
+    let n = length-map b.tokens (mapping_of (sources_of b.sources b.source_contents) b.names) in
+    omega (arith, least, m, n)

@@ -34,6 +34,10 @@ pub mod SimplifiedNeeded
 pub mod Differences
 pub mod RemapInputs
 pub mod FaultSegments
+mod PieceCuts
+mod LineFeeds
+mod CommentCuts
+mod CutsWorked
 mod TracesWorked
 mod WorkedRemaps
 mod Worked

@@ -55,7 +55,7 @@ simplifies-once = refl
 simplifies-again : map (λ t. t.dst_col) (simplified (simplified unsorted)).tokens ≡ 1 ∷ 2 ∷ []
 simplifies-again = refl
 
--- The law of equally many tokens asks that none is at the greatest column: there the second is found nowhere, and stays.
+-- The law of least tokens asks that none is at the greatest column: there the second is found nowhere, and stays.
 abbrev at_the_end : List TokenRecord → MapRecord
 at_the_end more = record empty_record { sources = codes "a.js" ∷ []; tokens = token 0 4294967295 0 0 (Some 0) None ∷ more }
 

@@ -1,31 +1,26 @@
 -- What the traces of a bundle are: of a join of maps, each at the line where its code begins.
-use Rattle.std.specs.Prelude.{◌≡◌, ℕ, ◌+◌, ◌<◌, List, [], ◌∷◌, ◌++◌}
-use Rattle.std.specs.List.{sum_by, AllByRecursion}
-use Rattle.oxc_sourcemap_tokens.specs.declared.position.Position.{Position}
+use Rattle.std.specs.Prelude.{◌≡◌, ℕ, ◌+◌, ◌≤◌, ◌<◌, List, ◌∷◌, ◌++◌}
+use Rattle.std.specs.List.{AllByRecursion}
 use Rattle.oxc_sourcemap_parts.specs.Record.{MapRecord}
 use Rattle.oxc_sourcemap_parts.specs.DecodedMap.{decoded_map_of}
 use Rattle.oxc_sourcemap_lookup.specs.Trace.{trace, clamped_trace}
-use Rattle.oxc_sourcemap_join.specs.Joined.{at_line, joined}
+use Rattle.oxc_sourcemap_join.specs.Joined.{at_lines, joined}
 use Rattle.oxc_sourcemap_laws.specs.JoinLaws.{AreAllInRange}
 
--- Maps, each with the number of lines of its code, one behind the other from this line on: each at the line where its code begins.
-abbrev pub bundled_from : ℕ → List (MapRecord × ℕ) → List (MapRecord × Position)
-bundled_from line [] = []
-bundled_from line (m ∷ ms) = (m.0, at_line line) ∷ bundled_from (line + m.1) ms
+-- Each token of these maps, each of which begins at its line, is before this line.
+abbrev pub AreBefore : ℕ → List (MapRecord × ℕ) → Type 0
+AreBefore line ms = AllByRecursion (λ m. AllByRecursion (λ t. t.dst_line + m.1 < line) m.0.tokens) ms
 
--- the lines of all codes
-abbrev pub line_count : List (MapRecord × ℕ) → ℕ
-line_count ms = sum_by (λ m. m.1) ms
+-- these maps begin at this line or behind it
+abbrev pub BeginFrom : ℕ → List (MapRecord × ℕ) → Type 0
+BeginFrom line ms = AllByRecursion (λ m. line ≤ m.1) ms
 
--- Each token of a map is on a line of its code.
-abbrev pub AreOnOwnLines : List (MapRecord × ℕ) → Type 0
-AreOnOwnLines ms = AllByRecursion (λ m. AllByRecursion (λ t. t.dst_line < m.1) m.0.tokens) ms
-
--- On a line of one code the traces of a bundle, exact and clamped, are those of the code's map there, if all ids are in range and each
--- token is on a line of its code.
+-- On the lines of one code, which begins at line `start` of a bundle, the traces of the bundle, exact and clamped, are those of the code's
+-- map there: if all ids are in range, the tokens of the maps before it are before its code, and the maps behind it begin behind its code.
 abbrev pub TracesOfBundle : Type 0
-TracesOfBundle = (before : List (MapRecord × ℕ)) (m : MapRecord) (lines : ℕ) (after : List (MapRecord × ℕ)) (line col : ℕ)
-    → let maps = bundled_from 0 (before ++ (m, lines) ∷ after) in
-    AreAllInRange maps → AreOnOwnLines (before ++ (m, lines) ∷ after) → line < lines
-    → (trace (decoded_map_of (joined maps)) (line + line_count before) col ≡ trace (decoded_map_of m) line col)
-    × (clamped_trace (decoded_map_of (joined maps)) (line + line_count before) col ≡ clamped_trace (decoded_map_of m) line col)
+TracesOfBundle =
+    (before : List (MapRecord × ℕ)) (m : MapRecord) (start lines : ℕ) (after : List (MapRecord × ℕ)) (line col : ℕ)
+    → let maps = at_lines (before ++ (m, start) ∷ after) in
+    AreAllInRange maps → AreBefore start before → BeginFrom (start + lines) after → line < lines
+    → (trace (decoded_map_of (joined maps)) (line + start) col ≡ trace (decoded_map_of m) line col)
+    × (clamped_trace (decoded_map_of (joined maps)) (line + start) col ≡ clamped_trace (decoded_map_of m) line col)

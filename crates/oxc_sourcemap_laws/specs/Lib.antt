@@ -18,4 +18,5 @@ pub mod SimplifiedWhole
 pub mod DifferenceLaws
 pub mod InputLaws
 pub mod FaultLaws
+pub mod CutLaws
 pub mod Words

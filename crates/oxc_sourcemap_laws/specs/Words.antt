@@ -54,5 +54,7 @@ pub use Rattle.oxc_sourcemap_laws.specs.SimplifiedWhole.{SimplifiedNamesNeeded}
 pub use Rattle.oxc_sourcemap_laws.specs.SimplifiedWhole.{SimplificationNeeded}
 pub use Rattle.oxc_sourcemap_laws.specs.SimplifiedWhole.{SimplifiedSourcesNeeded}
 pub use Rattle.oxc_sourcemap_laws.specs.DifferenceLaws.{SimplifiedTracesSame}
-pub use Rattle.oxc_sourcemap_laws.specs.DifferenceLaws.{SimplifiedDoesNotDiffer, SimplifiedToAsMany}
+pub use Rattle.oxc_sourcemap_laws.specs.DifferenceLaws.{SimplificationTracesSame, SimplifiedIsLeast}
 pub use Rattle.oxc_sourcemap_laws.specs.FaultLaws.{FaultIsThere}
+pub use Rattle.oxc_sourcemap_laws.specs.CutLaws.{CommentIsCut, CommentIsCutApart}
+pub use Rattle.oxc_sourcemap_laws.specs.CutLaws.{LineBeginsOutside}

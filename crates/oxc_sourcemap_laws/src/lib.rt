@@ -4,6 +4,7 @@
 //! Users find them in the module `laws` of the crate `oxc_sourcemap`.
 #![tactic(auto)]
 
+mod comments;
 mod data_urls;
 mod faults;
 mod inputs;
@@ -54,6 +55,7 @@ ghost use Rattle.oxc_sourcemap_laws.specs.Words.{RootedDecodedMapsKeep, TracesOf
 ghost use Rattle.oxc_sourcemap_laws.specs.Words.{RootingKeepsEqualUpToRepeats, RootingIsSound};
 ghost use Rattle.oxc_sourcemap_laws.specs.Words.{RootingStandsFor};
 
+pub use comments::comment_is_cut;
 pub use data_urls::data_urls_read_back;
 pub use faults::mappings_fault_is_first;
 pub use inputs::remap_inputs_by_path;
@@ -302,8 +304,9 @@ pub fn trace_of_join()
     ensures own_line_of_maps { TracesOnOwnLineOfMaps }
 {}
 
-/// The traces of a bundle: of a join of maps at the lines where their codes begin, one code behind the other. On a line of one code they
-/// are, exact and clamped, those of its map there, if all ids are in range and each token is on a line of its code.
+/// The traces of a bundle: of a join of maps at the lines where their codes begin. On a line of one code they are, exact and clamped,
+/// those of its map there, if all ids are in range, the tokens of the maps before it are before its code, and the maps behind it begin
+/// behind its code. There may be other lines between the codes.
 pub fn trace_of_bundle()
     ensures { TracesOfBundle }
 {}

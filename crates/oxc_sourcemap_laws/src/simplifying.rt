@@ -1,8 +1,8 @@
 //! Laws of simplified maps as wholes.
 ghost use Rattle.oxc_sourcemap_laws.specs.Words.{SimplifyingAgain, SimplificationAgain};
 ghost use Rattle.oxc_sourcemap_laws.specs.Words.{SimplifiedNamesNeeded, SimplifiedSourcesNeeded};
-ghost use Rattle.oxc_sourcemap_laws.specs.Words.{SimplifiedTracesSame, SimplifiedDoesNotDiffer};
-ghost use Rattle.oxc_sourcemap_laws.specs.Words.{SimplifiedToAsMany, SimplificationNeeded};
+ghost use Rattle.oxc_sourcemap_laws.specs.Words.{SimplifiedTracesSame, SimplificationTracesSame};
+ghost use Rattle.oxc_sourcemap_laws.specs.Words.{SimplifiedIsLeast, SimplificationNeeded};
 
 /// Simplifying a second time changes nothing.
 /// - A sorted map that was simplified stays the same in every field (`again`).
@@ -46,11 +46,11 @@ pub fn simplified_needed()
     ensures result { SimplificationNeeded }
 {}
 
-/// No trace tells a map from the simplified one.
-/// - A sorted map and the simplified one have the same exact trace at every position (`traces`). So `first_difference` of a map
-///   and what `simplify` makes of it is None (`none`).
-/// - The other way round, two sorted maps between which there is no first difference have equally many tokens once both are
-///   simplified, if none of their tokens is at the greatest column, 4294967295 (`as_many`).
+/// No exact trace tells a map from the simplified one.
+/// - A sorted map and the simplified one have the same exact trace at every position (`traces`). So has a map and what `simplify`
+///   makes of it, and both are sorted (`result`): their `first_difference` is None.
+/// - No sorted map from which a map does not differ has fewer tokens than the map has once it is simplified, if no token of the two
+///   is at the greatest column, 4294967295 (`least`).
 ///
 /// ```rust
 /// use oxc_sourcemap::SourceMap;
@@ -63,6 +63,6 @@ pub fn simplified_needed()
 /// ```
 pub fn simplified_differs_nowhere()
     ensures traces { SimplifiedTracesSame }
-    ensures none { SimplifiedDoesNotDiffer }
-    ensures as_many { SimplifiedToAsMany }
+    ensures result { SimplificationTracesSame }
+    ensures least { SimplifiedIsLeast }
 {}

@@ -24,7 +24,7 @@ use Rattle.oxc_sourcemap_parts.specs.DecodedMap.{DecodedMap}
 use Rattle.serde_json.specs.Data.{Data}
 use Rattle.serde_json.specs.Read.{read}
 use Rattle.oxc_sourcemap_json.specs.ReadMap.{read_map}
-use Rattle.oxc_sourcemap_json.specs.ValuePlaces.{value_place, IsReading, IsPlacedIn}
+use Rattle.oxc_sourcemap_json.specs.ValuePlaces.{value_place, IsBytePlace, IsPlacedIn}
 use Rattle.oxc_sourcemap_laws.specs.Repeats.{is_sorted_decoded_map}
 use Rattle.oxc_sourcemap_laws.specs.JoinedDecodedMaps.{joined_decoded_maps}
 use Rattle.oxc_sourcemap_laws.specs.ComposedDecodedMaps.{composed_decoded_maps}
@@ -128,7 +128,7 @@ input_part first a ms ps i p l q g h =
     }
 
 -- ---- a text that cannot be read
-pub text_place : (text : Text) (place : Option FaultPlace) → ((d : Data) → read text ≡ Some d → value_place d ≡ place) → (read text ≡ None → IsSomeAnd place (IsReading text)) → is_some place ≡ true
+pub text_place : (text : Text) (place : Option FaultPlace) → ((d : Data) → read text ≡ Some d → value_place d ≡ place) → (read text ≡ None → IsSomeAnd place (IsBytePlace text)) → is_some place ≡ true
     → IsSomeAnd place (IsTextPlace text)
 text_place text None json bad there = absurd (cc (there))
 text_place text (Some p) json bad there = (json, bad)

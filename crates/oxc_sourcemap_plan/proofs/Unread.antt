@@ -15,7 +15,7 @@ use Rattle.oxc_sourcemap_tokens.specs.declared.errors.plan_error.PlanError.{Plan
 use Rattle.oxc_sourcemap_tokens.specs.declared.errors.plan_error.PlanError.TheVariants.{Map}
 use Rattle.oxc_sourcemap_parts.specs.Record.{Text, MapRecord}
 use Rattle.oxc_sourcemap_json.specs.ReadMap.{read_map}
-use Rattle.oxc_sourcemap_json.specs.ValuePlaces.{value_place, IsReading, IsPlacedIn}
+use Rattle.oxc_sourcemap_json.specs.ValuePlaces.{value_place, IsBytePlace, IsPlacedIn}
 use Rattle.oxc_sourcemap_plan.specs.PlanPlaces.{Unread, unread_or, unread_from, first_unread}
 use Rattle.oxc_sourcemap_plan.specs.PlanPlaces.{IsPlaceOf, IsNumberPlace, with_number}
 use Rattle.oxc_sourcemap_plan.specs.PlanPlaces.{IsTextPlace, IsTextFault}
@@ -85,7 +85,7 @@ first-is texts u e =
     (ap (slice_get texts) same ∙ found.2, found.3)
 
 placed : (texts : List Text) (u : Unread) (error : Error) (place : Option FaultPlace) → first_unread texts ≡ Some u → u.error ≡ error
-    → ((d : Data) → read u.text ≡ Some d → value_place d ≡ place) → (read u.text ≡ None → IsSomeAnd place (IsReading u.text)) → is_some place ≡ true
+    → ((d : Data) → read u.text ≡ Some d → value_place d ≡ place) → (read u.text ≡ None → IsSomeAnd place (IsBytePlace u.text)) → is_some place ≡ true
     → IsPlaceOf texts error (option_map (with_number u.number) place)
 placed texts u error None first same json bad there = absurd (cc (there))
 placed texts u error (Some p) first same json bad there =

@@ -15,7 +15,7 @@ use Rattle.oxc_sourcemap_tokens.specs.declared.errors.plan_error.PlanError.TheVa
 use Rattle.oxc_sourcemap_parts.specs.Record.{Text, MapRecord}
 use Rattle.oxc_sourcemap_json.specs.ReadMap.{read_map}
 use Rattle.oxc_sourcemap_tokens.specs.declared.errors.fault.FaultPlace.{FaultPlace}
-use Rattle.oxc_sourcemap_json.specs.ValuePlaces.{value_place, IsReading}
+use Rattle.oxc_sourcemap_json.specs.ValuePlaces.{value_place, IsBytePlace}
 use Rattle.oxc_sourcemap_plan.specs.declared.fault.PlanFault.{PlanFault}
 use Rattle.oxc_sourcemap_plan.specs.Outcome.{Outcome}
 use Rattle.oxc_sourcemap_plan.specs.declared.plan.Plan.{Plan}
@@ -59,7 +59,7 @@ first_unread texts = unread_from 0 texts
 
 -- the place of the first fault of a text
 abbrev pub IsTextPlace : Text → FaultPlace → Type 0
-IsTextPlace text place = ((d : Data) → read text ≡ Some d → value_place d ≡ Some place) × (read text ≡ None → IsReading text place)
+IsTextPlace text place = ((d : Data) → read text ≡ Some d → value_place d ≡ Some place) × (read text ≡ None → IsBytePlace text place)
 
 -- a place, with the number of the text
 abbrev pub with_number : ℕ → FaultPlace → FaultPlace

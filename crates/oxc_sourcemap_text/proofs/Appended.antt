@@ -71,7 +71,7 @@ not-white c k white h =
     ] refl
 
 -- a line ends with white space
-no-end : (c : ℕ) (after : List ℕ) → is_whitespace c ≡ false → ends_line c after ≡ false
+pub no-end : (c : ℕ) (after : List ℕ) → is_whitespace c ≡ false → ends_line c after ≡ false
 no-end c after h =
     let feed = not-white c 10 refl h in
     let separator = not-white c 0x2028 refl h in

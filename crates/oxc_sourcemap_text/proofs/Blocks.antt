@@ -22,7 +22,7 @@ begins-cons c (d ∷ cs) h = ap (λ e. e ∷ cs) (eqb-true d c h)
 -- ---- by characters
 
 -- a character before the first of two parts
-abbrev onto_front : ℕ → Option (List ℕ × List ℕ) → Option (List ℕ × List ℕ)
+abbrev pub onto_front : ℕ → Option (List ℕ × List ℕ) → Option (List ℕ × List ℕ)
 onto_front c parts = option_map (λ p. (c ∷ p.0, p.1)) parts
 
 -- no `*/` of the text is before this one

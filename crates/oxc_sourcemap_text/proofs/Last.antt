@@ -56,7 +56,7 @@ onto-some : (c : ℕ) (ls : List (List ℕ)) → onto_first c ls ≡ [] → ⊥
 onto-some c [] e = cc
 onto-some c (l ∷ ls) e = cc
 
-lines-some : (xs : List ℕ) → lines_of xs ≡ [] → ⊥
+pub lines-some : (xs : List ℕ) → lines_of xs ≡ [] → ⊥
 unfolding lines_of
 lines-some [] e = cc
 lines-some (x ∷ xs) e =
@@ -65,11 +65,11 @@ lines-some (x ∷ xs) e =
       | false ↦ (λ f. onto-some x (lines_of xs) f)
     ] e
 
-onto-parts : (c : ℕ) (ls : List (List ℕ)) (line : List ℕ) (others : List (List ℕ)) → (ls ≡ [] → ⊥) → onto_first c ls ≡ (c ∷ line) ∷ others → ls ≡ line ∷ others
+pub onto-parts : (c : ℕ) (ls : List (List ℕ)) (line : List ℕ) (others : List (List ℕ)) → (ls ≡ [] → ⊥) → onto_first c ls ≡ (c ∷ line) ∷ others → ls ≡ line ∷ others
 onto-parts c [] line others some e = absurd (some refl)
 onto-parts c (l ∷ ls) line others some e = cc
 
-shorter : (c : ℕ) (line after : List ℕ) (others : List (List ℕ)) → (line ≡ [] → ⊥) → lines_of (c ∷ line ++ after) ≡ (c ∷ line) ∷ others
+pub shorter : (c : ℕ) (line after : List ℕ) (others : List (List ℕ)) → (line ≡ [] → ⊥) → lines_of (c ∷ line ++ after) ≡ (c ∷ line) ∷ others
     → lines_of (line ++ after) ≡ line ∷ others
 shorter c line after others some e =
     elim (ends_line c (line ++ after)) as (λ v. ends_line c (line ++ after) ≡ v → lines_of (line ++ after) ≡ line ∷ others) [
@@ -80,7 +80,7 @@ shorter c line after others some e =
       | false ↦ (λ h. onto-parts c (lines_of (line ++ after)) line others (lines-some (line ++ after)) (sym (lines-no_end c (line ++ after) h) ∙ e))
     ] refl
 
-suffix : (front rest after : List ℕ) (others : List (List ℕ)) → (rest ≡ [] → ⊥) → lines_of ((front ++ rest) ++ after) ≡ (front ++ rest) ∷ others
+pub suffix : (front rest after : List ℕ) (others : List (List ℕ)) → (rest ≡ [] → ⊥) → lines_of ((front ++ rest) ++ after) ≡ (front ++ rest) ∷ others
     → lines_of (rest ++ after) ≡ rest ∷ others
 suffix [] rest after others some e = e
 suffix (c ∷ front) rest after others some e =
@@ -147,7 +147,7 @@ quiet-end s known is = λ before. ap (fold known_after before) (is.behind ∙ ap
 pub spelt-next : (line front rest cs : List ℕ) (c : ℕ) → line ≡ front ++ rest → rest ≡ c ∷ cs → line ≡ (front ++ c ∷ []) ++ cs
 spelt-next line front rest cs c e f = e ∙ ap (λ l. front ++ l) f ∙ sym (append_assoc front (c ∷ []) cs)
 
-begun : (rest cs text : List ℕ) (c second : ℕ) → rest ≡ c ∷ cs → c ≡ 47 → cs ≡ second ∷ text → rest ≡ 47 ∷ second ∷ text
+pub begun : (rest cs text : List ℕ) (c second : ℕ) → rest ≡ c ∷ cs → c ≡ 47 → cs ≡ second ∷ text → rest ≡ 47 ∷ second ∷ text
 begun rest cs text c second e is next = e ∙ ap (λ d. d ∷ cs) is ∙ ap (λ l. 47 ∷ l) next
 
 pub spelt-comment : (line front rest cs text inner left : List ℕ) (c second : ℕ) → line ≡ front ++ rest → rest ≡ c ∷ cs → c ≡ 47 → cs ≡ second ∷ text

@@ -14,4 +14,6 @@ mod Spaces
 mod Placed
 mod Appended
 mod Last
+mod Apart
+mod LinesKept
 mod UrlWorked

@@ -21,7 +21,7 @@ unfolding pieces
 pieces-line cs = refl
 
 -- no comment begins here
-pieces-code : (s : Bool) (a : ℕ) (cs : List ℕ) → is_whitespace a ≡ false → (a == 47 && (s && begins_with 47 cs)) ≡ false
+pub pieces-code : (s : Bool) (a : ℕ) (cs : List ℕ) → is_whitespace a ≡ false → (a == 47 && (s && begins_with 47 cs)) ≡ false
     → (a == 47 && begins_with 42 cs) ≡ false → pieces s None (a ∷ cs) ≡ None ∷ pieces s None cs
 unfolding pieces
 pieces-code s a [] h line block = rw h refl

@@ -1,5 +1,6 @@
 -- Worked examples of data URLs and comments that name a map, computed by the definitions themselves.
-use Rattle.std.specs.Prelude.{◌≡◌, refl, [], ◌∷◌, ◌++◌, codes, Some, None, Ok, Err}
+use Rattle.std.proofs.Common.{◌≡◌, ℕ, List, refl, [], ◌∷◌, ◌++◌, codes, inl, Some, None}
+use Rattle.std.specs.Prelude.{Ok, Err}
 use lib.Utf8.{encode}
 use Rattle.std.specs.Str.{is_utf8, chars}
 use Rattle.std.specs.Str.Lossy.{utf8_valid_len}
@@ -10,7 +11,8 @@ use Rattle.oxc_sourcemap_text.specs.declared.url.data_url_error.DataUrlError.The
 use Rattle.oxc_sourcemap_text.specs.declared.url.data_url_error.DataUrlError.TheVariants.{BadUtf8}
 use Rattle.oxc_sourcemap_text.specs.declared.url.language.Language.TheVariants.{JavaScript, Css}
 use Rattle.oxc_sourcemap_text.specs.DataUrls.{decoded_data_url, data_text}
-use Rattle.oxc_sourcemap_text.specs.MappingUrls.{mapping_url, url_known, pieces}
+use Rattle.oxc_sourcemap_text.specs.MappingUrls.{mapping_url, url_known, pieces, BeginsOutside}
+use Rattle.oxc_sourcemap_text.specs.MappingUrls.{IsMappingComment, IsQuiet}
 use Rattle.oxc_sourcemap_text.specs.CommentLaws.{with_comment}
 
 opens-percent_encoded : decoded_data_url (codes "data:application/json;charset=utf-8,%7b%7D#x") ≡ Ok (Some (codes "{}"))
@@ -97,3 +99,76 @@ finds-appended_in_css = refl
 finds-no_quoted_url : mapping_url JavaScript (with_comment JavaScript [] (codes "a'b")) ≡ None
 unfolding url_known pieces lines_of
 finds-no_quoted_url = refl
+
+begins-on_its_line : BeginsOutside JavaScript (codes "a\n") (codes "//# sourceMappingURL=a.map\n")
+unfolding pieces lines_of
+begins-on_its_line = refl
+
+begins-behind_code : BeginsOutside Css (codes "a{} /") (codes "/*# sourceMappingURL=a.map */ /* b */")
+unfolding pieces lines_of
+begins-behind_code = refl
+
+begins-not_inside : BeginsOutside JavaScript (codes "// ") (codes "//# sourceMappingURL=a.map") → ⊥
+unfolding pieces lines_of
+begins-not_inside h = cc
+
+begins-not_inside_an_open_one : BeginsOutside JavaScript (codes "/* ") (codes "//# sourceMappingURL=a.map") → ⊥
+unfolding pieces lines_of
+begins-not_inside_an_open_one h = cc
+
+-- two slashes are one comment
+begins-not_behind_a_slash : BeginsOutside JavaScript (codes "a /") (codes "/*# sourceMappingURL=a.map */") → ⊥
+unfolding pieces lines_of
+begins-not_behind_a_slash h = cc
+
+-- The words of a comment at the end of a later one: all else that is said of a found comment holds of them, but they begin inside.
+quoted : List ℕ
+quoted = codes "//# sourceMappingURL=a.map"
+
+quoted-front : List ℕ
+quoted-front = codes "//# sourceMappingURL=a.map\n// "
+
+quoted-found : mapping_url JavaScript (quoted-front ++ quoted) ≡ Some (codes "a.map")
+unfolding url_known pieces lines_of quoted quoted-front
+quoted-found = refl
+
+quoted-named : IsMappingComment JavaScript quoted (codes "a.map")
+unfolding quoted
+quoted-named = inl (refl, codes "# sourceMappingURL=a.map", refl, (refl, refl))
+
+quoted-quiet : IsQuiet JavaScript []
+unfolding pieces lines_of
+quoted-quiet = λ known. refl
+
+quoted-inside : BeginsOutside JavaScript quoted-front (quoted ++ []) → ⊥
+unfolding pieces lines_of quoted quoted-front
+quoted-inside h = cc
+
+-- Its words at the beginning of a later comment, which names nothing since its URL has white space: all else that is said of a found
+-- comment holds of them, but by themselves they name nothing.
+broken-front : List ℕ
+broken-front = codes "//# sourceMappingURL=a.map\n"
+
+broken-back : List ℕ
+broken-back = codes " //"
+
+broken-found : mapping_url JavaScript (broken-front ++ quoted ++ broken-back) ≡ Some (codes "a.map")
+unfolding url_known pieces lines_of quoted broken-front broken-back
+broken-found = refl
+
+broken-outside : BeginsOutside JavaScript broken-front (quoted ++ broken-back)
+unfolding pieces lines_of quoted broken-front broken-back
+broken-outside = refl
+
+broken-quiet : IsQuiet JavaScript broken-back
+unfolding pieces lines_of broken-back
+broken-quiet = λ known. refl
+
+broken-names_nothing : mapping_url JavaScript (quoted ++ broken-back) ≡ None
+unfolding url_known pieces lines_of quoted broken-back
+broken-names_nothing = refl
+
+-- the comment before it does
+broken-names_before : mapping_url JavaScript (quoted ++ codes "\n" ++ quoted ++ broken-back) ≡ Some (codes "a.map")
+unfolding url_known pieces lines_of quoted broken-back
+broken-names_before = refl

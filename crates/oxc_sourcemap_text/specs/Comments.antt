@@ -1,6 +1,6 @@
 -- The steps of the reader of lines. Only private clauses cite this module.
 use Rattle.std.specs.Prelude.{◌≡◌, ◌⊎◌, ◌++◌, ℕ, Bool, true, false, ◌&&◌, List, ◌∷◌, Option, Some}
-use Rattle.std.specs.Prelude.{None, ◌==◌, if◌then◌else◌, flat_map}
+use Rattle.std.specs.Prelude.{None, ◌==◌, if◌then◌else◌, flat_map, length}
 use Rattle.std.specs.Borrow.{Bor}
 use Rattle.std.specs.Str.{chars, IsUtf8}
 use Rattle.std.specs.Option.{option_map}
@@ -8,7 +8,7 @@ use Rattle.oxc_sourcemap_text.specs.declared.url.comment.Place.{Place}
 use Rattle.oxc_sourcemap_text.specs.declared.url.comment.Naming.{Naming}
 use Rattle.oxc_sourcemap_text.specs.MappingUrls.{begins_with, IsNamingText, IsComment}
 use Rattle.oxc_sourcemap_text.specs.MappingUrls.{Piece, pieces, all_pieces, AreQuiet, named_url}
-use Rattle.oxc_sourcemap_text.specs.MappingUrls.{may_end_another}
+use Rattle.oxc_sourcemap_text.specs.MappingUrls.{may_end_another, IsOutside}
 use Rattle.oxc_sourcemap_text.specs.TextLines.{lines_of}
 
 -- the second character of a comment that ends with its line, or does not
@@ -37,6 +37,14 @@ abbrev pub IsKnownAfter : Option Naming → List ℕ → Place → Naming → Ty
 IsKnownAfter known text place new =
     ((known ≡ Some new) × IsQuietText text) ⊎ ((new.place ≡ place) × IsNamingText text (chars new.url.now))
 
+-- What begins here is a comment that names this URL, and then what is behind that.
+abbrev pub BeginsNaming : Bool → List ℕ → List ℕ → List ℕ → Type 0
+BeginsNaming slashes from back url = (text : List ℕ) × IsNamingText text url × (all_pieces slashes from ≡ Some text ∷ all_pieces slashes back)
+
+-- What is put before this text adds no line to it.
+abbrev pub IsOnOneLine : List ℕ → List ℕ → Type 0
+IsOnOneLine front back = length (lines_of (front ++ back)) ≡ length (lines_of back)
+
 -- The comment stands in this code.
 pub record IsPlaced (slashes : Bool) (code : List ℕ) (known : Naming) : Type 0 where
   pub front : List ℕ
@@ -45,8 +53,17 @@ pub record IsPlaced (slashes : Bool) (code : List ℕ) (known : Naming) : Type 0
   pub comment : List ℕ
   pub split : code ≡ front ++ 47 ∷ second ∷ known.place.text.now ++ known.place.after.now
   pub cut : known.place.text.now ≡ comment ++ known.place.rest.now
+  pub comment_utf8 : IsUtf8 comment
   pub back_utf8 : IsUtf8 (known.place.rest.now ++ known.place.after.now)
+  pub outside : IsOutside slashes (chars front) (chars (47 ∷ second ∷ known.place.text.now ++ known.place.after.now))
   pub names : IsComment slashes (47 ∷ second ∷ chars comment) (chars known.url.now)
+  pub alone : BeginsNaming slashes (chars (47 ∷ second ∷ known.place.text.now ++ known.place.after.now))
+      (chars (known.place.rest.now ++ known.place.after.now)) (chars known.url.now)
+  pub on_one_line : IsOnOneLine (47 ∷ second ∷ chars comment) (chars (known.place.rest.now ++ known.place.after.now))
+
+-- However much is read of what follows a front, it begins outside of the comments of the front.
+abbrev pub AreReadApart : Bool → List ℕ → List ℕ → Type 0
+AreReadApart slashes front rest = (read left : List ℕ) → rest ≡ read ++ left → IsOutside slashes front read
 
 -- A line of a code, and what is behind it.
 pub record IsLineOf (slashes : Bool) (line after : List ℕ) : Type 0 where

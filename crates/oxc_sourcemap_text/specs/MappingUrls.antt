@@ -127,6 +127,14 @@ AreQuiet ps = (known : Option (List ℕ)) → fold known_after known ps ≡ know
 abbrev pub IsQuiet : Language → List ℕ → Type 0
 IsQuiet language text = AreQuiet (all_pieces (has_line_comments language) text)
 
+-- What follows a front, and does not begin with white space, begins outside of the comments before it on its line: the pieces of
+-- the whole are those of the front, and then its own.
+abbrev pub IsOutside : Bool → List ℕ → List ℕ → Type 0
+IsOutside slashes front rest = all_pieces slashes (front ++ rest) ≡ all_pieces slashes front ++ all_pieces slashes rest
+
+abbrev pub BeginsOutside : Language → List ℕ → List ℕ → Type 0
+BeginsOutside language front rest = IsOutside (has_line_comments language) front rest
+
 -- the characters of a text behind a borrow
 abbrev pub lent_chars : Option (Bor (List ℕ)) → Option (List ℕ)
 lent_chars text = option_map (λ found. chars found.now) text

@@ -20,6 +20,8 @@ pub use Rattle.oxc_sourcemap_text.specs.MappingUrls.{around_block_end, may_end_a
 pub use Rattle.oxc_sourcemap_text.specs.MappingUrls.{has_line_comments, pieces, known_after}
 pub use Rattle.oxc_sourcemap_text.specs.MappingUrls.{mapping_url, url_known, lent_chars}
 pub use Rattle.oxc_sourcemap_text.specs.MappingUrls.{IsMappingComment, all_pieces, IsQuiet}
+pub use Rattle.oxc_sourcemap_text.specs.MappingUrls.{BeginsOutside}
 pub use Rattle.oxc_sourcemap_text.specs.Comments.{IsCommentAt, IsKnownAfter, IsPlaced, url_of}
 pub use Rattle.oxc_sourcemap_text.specs.Comments.{second_of, IsLastUpTo, IsLineOf, pieces_left}
+pub use Rattle.oxc_sourcemap_text.specs.Comments.{AreReadApart}
 pub use Rattle.oxc_sourcemap_text.specs.CommentLaws.{AppendedIsFound}

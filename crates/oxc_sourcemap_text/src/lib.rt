@@ -9,5 +9,5 @@ pub use positions::{
 };
 pub use url::{
     DataUrlError, Language, SourceMappingComment, appended_comment_found, decode_data_url,
-    source_mapping_comment, source_mapping_url,
+    source_mapping_comment, source_mapping_url, split_line,
 };

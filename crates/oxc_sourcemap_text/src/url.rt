@@ -12,4 +12,5 @@ pub use data_url::decode_data_url;
 pub use data_url_error::DataUrlError;
 pub use language::Language;
 pub use laws::appended_comment_found;
+pub use line::split_line;
 pub use mapping_url::{SourceMappingComment, source_mapping_comment, source_mapping_url};

@@ -27,16 +27,16 @@ IsPlanPlaceIn inputs (Err fault) e place = place ≡ None
 IsPlanPlaceIn inputs (Ok o) e place = (error : PlanError) × (e ≡ Plan error) × IsOutcomePlace inputs o error place
 
 -- the place, or none, of this error of a command for a text
-abbrev pub IsPlaceFor : Request → Text → RunError → Option FaultPlace → Type 0
-IsPlaceFor (Mappings names sources) text e place = place ≡ mappings_place (without_line_feed text) names sources
-IsPlaceFor Normalise text e place = IsReadPlace text place
-IsPlaceFor Url text e place = IsReadPlace text place
-IsPlaceFor (Trace line col) text e place = IsReadPlace text place
-IsPlaceFor (PlanOf arguments) text e place = IsPlanPlaceIn (inputs_of text) (parsed_plan (inputs_of text) arguments) e place
+abbrev pub IsPlaceOfText : Request → Text → RunError → Option FaultPlace → Type 0
+IsPlaceOfText (Mappings names sources) text e place = place ≡ mappings_place (without_line_feed text) names sources
+IsPlaceOfText Normalise text e place = IsReadPlace text place
+IsPlaceOfText Url text e place = IsReadPlace text place
+IsPlaceOfText (Trace line col) text e place = IsReadPlace text place
+IsPlaceOfText (PlanOf arguments) text e place = IsPlanPlaceIn (inputs_of text) (parsed_plan (inputs_of text) arguments) e place
 
 -- the place, or none, of this error of a command for an input: none if the input is not UTF-8
-abbrev pub IsPlaceIn : Request → Text → RunError → Option FaultPlace → Type 0
-IsPlaceIn request input e place = (¬ (IsUtf8 input) → place ≡ None) × (IsUtf8 input → IsPlaceFor request input e place)
+abbrev pub IsPlaceOfInput : Request → Text → RunError → Option FaultPlace → Type 0
+IsPlaceOfInput request input e place = (¬ (IsUtf8 input) → place ≡ None) × (IsUtf8 input → IsPlaceOfText request input e place)
 
 -- A failure, unless it is want of memory, has such a place.
 abbrev pub IsPlacedBy : (RunError → Option FaultPlace → Type 0) → Failure → Type 0

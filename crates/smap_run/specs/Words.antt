@@ -23,7 +23,7 @@ pub use Rattle.smap_run.specs.Flags.{read_flag, write_flag}
 pub use Rattle.smap_run.specs.Request.{request_of}
 pub use Rattle.smap_run.specs.Traced.{number_part, name_part, original_text, trace_text, traced_of}
 pub use Rattle.smap_run.specs.Traced.{traced}
-pub use Rattle.smap_run.specs.ErrorPlaces.{IsReadPlace, IsPlanPlaceIn, IsPlaceIn, IsPlacedBy}
+pub use Rattle.smap_run.specs.ErrorPlaces.{IsReadPlace, IsPlanPlaceIn, IsPlaceOfInput, IsPlacedBy}
 pub use Rattle.oxc_sourcemap_mappings.specs.SegmentPlaces.{mappings_place}
 pub use Rattle.oxc_sourcemap_plan.specs.PlanPlaces.{fault_place_in}
 pub use Rattle.oxc_sourcemap_plan.specs.declared.run_error.RunError.TheVariants.{Plan}

@@ -2,7 +2,7 @@
 ghost use Rattle.std.specs.Prelude.{◌≡◌, ◌≢◌, ◌++◌, ◌∷◌, [], ℕ, List, IfErr, OnOk};
 ghost use Rattle.std.specs.Prelude.{IsUtf8, true, false};
 ghost use Rattle.std.specs.Io.KnownBytes.{Appends, Keeps};
-ghost use Rattle.smap_run.specs.Words.{request_of, out_of_memory, IsPlaceIn};
+ghost use Rattle.smap_run.specs.Words.{request_of, out_of_memory, IsPlaceOfInput};
 ghost use Rattle.smap_run.specs.Words.{IsInput, IsAnswer, FailsWith};
 
 use crate::arguments::Command;
@@ -74,7 +74,7 @@ pub fn run_where<R: Read, W: Write>(
         → (f.error ≢ RunError.Write) → (input : List ℕ)
         × IsInput (R.remaining reader.old.inner) input
         × FailsWith (request_of command.now) input f.error
-        × IsPlaceIn (request_of command.now) input f.error f.place) }
+        × IsPlaceOfInput (request_of command.now) input f.error f.place) }
     ensures nothing_written { IfErr result (λ f. (f.error ≢ RunError.Write)
         → Keeps (W.contents writer.old.inner) (W.contents writer.new.inner)) }
     ensures write { writer.old.failed ≡ false → IfErr result (λ f. f.error ≡ RunError.Write

@@ -10,7 +10,7 @@ ghost use Rattle.smap_run.specs.Words.{IsPlanError, IsAnswer, FailsWith, Appends
 ghost use Rattle.smap_run.specs.Words.{reading, inputs_of, IsInput, of_map, of_plan, traced};
 ghost use Rattle.smap_run.specs.Words.{parsed_plan, request_of, Answers, map_text, lent_items};
 ghost use Rattle.smap_run.specs.Words.{record_of_parts, IsPlacedBy, IsReadPlace, IsPlanPlaceIn};
-ghost use Rattle.smap_run.specs.Words.{IsPlaceIn, mappings_place, fault_place_in, Plan};
+ghost use Rattle.smap_run.specs.Words.{IsPlaceOfInput, mappings_place, fault_place_in, Plan};
 
 use crate::arguments::Command;
 use crate::failure::Failure;
@@ -196,7 +196,8 @@ pub(crate) fn answer(
         × IsAnswer (request_of command.now) input.items (string_bytes out)) }
     ensures error { IfErr result (λ f. (f.error ≢ out_of_memory)
         → FailsWith (request_of command.now) input.items f.error) }
-    ensures place { IfErr result (IsPlacedBy (IsPlaceIn (request_of command.now) input.items)) }
+    ensures place { IfErr result (IsPlacedBy
+        (IsPlaceOfInput (request_of command.now) input.items)) }
 {
     let Ok(text) = String::from_utf8(input) else {
         return Err(Failure::from(RunError::Utf8));

@@ -1,8 +1,8 @@
 //! Running a command by its name.
-use crate::making::{bundle, remap};
-use crate::reports::{check, coverage, diff, page};
-use crate::tracing::{resolve, trace};
 use sourcemap_files::{Asked, Status, print};
+use sourcemap_making::{bundle, remap};
+use sourcemap_reports::{check, coverage, diff, page};
+use sourcemap_tracing::{resolve, trace};
 use sourcemap_words::{Outcome, VERSION, completions_of, manual_of, program};
 
 /// Prints what the asked shell reads to complete the words of the program.

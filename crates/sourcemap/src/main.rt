@@ -1,17 +1,15 @@
 //! `sourcemap`: looks positions up in source maps, leads stack traces back, and checks, joins and compares maps.
 //!
 //! What the commands print is made by the crate `sourcemap_run`, which is proved to print what the library answers. `sourcemap_words`
-//! has the words of the command line, `sourcemap_files` finds maps.
+//! has the words of the command line, `sourcemap_files` finds maps; the commands stand in `sourcemap_tracing`, `sourcemap_making` and
+//! `sourcemap_reports`.
 #![tactic(auto)]
 
 mod commands;
-mod making;
-mod reports;
-mod tracing;
 
 use clap::{ArgMatches, Error};
 use sourcemap_files::{Asked, Status, print, tell};
-use sourcemap_run::push_visible;
+use sourcemap_texts::push_visible;
 use sourcemap_words::{Failure, Outcome, VERSION, program};
 use std::alloc::{AllocError, Global};
 use std::env;

@@ -1,9 +1,10 @@
 //! What a command was asked for, and how it ends.
 ghost use Rattle.std.specs.Prelude.{◌≡◌, MatchBool};
 
-use crate::finding::{InputPrefix, Places, Prefix};
+use crate::finding::{InputPrefix, Places, prefix_of};
 use crate::paths::{folder_name, is_folder, with_slash};
 use clap::ArgMatches;
+use sourcemap_texts::Prefix;
 use sourcemap_words::{Outcome, failure_of};
 use std::alloc::{AllocError, Global};
 
@@ -54,11 +55,11 @@ fn named_folder(rt: &HostRuntime, option: &str, folder: &str) -> Outcome<String>
 }
 
 /// A prefix with its folder, in the words `PREFIX=DIR`.
-fn prefix_of(rt: &HostRuntime, word: &str) -> Outcome<Prefix> {
+fn word_prefix(rt: &HostRuntime, word: &str) -> Outcome<Prefix> {
     let alloc = rt.alloc();
     if let Some((left, folder)) = word.rsplit_once('=')
         && !left.is_empty()
-        && let Some(prefix) = Prefix::new(alloc, left, named_folder(rt, "--prefix", folder)?)?
+        && let Some(prefix) = prefix_of(alloc, left, named_folder(rt, "--prefix", folder)?)?
     {
         return Ok(prefix);
     }
@@ -73,7 +74,7 @@ fn prefixes_of(rt: &HostRuntime, matches: &ArgMatches<'_>) -> Outcome<Vec<Prefix
     let mut prefixes = Vec::new(rt.alloc());
     if let Some(words) = matches.get_strs("prefix") {
         for word in words {
-            prefixes.push(prefix_of(rt, word)?)?;
+            prefixes.push(word_prefix(rt, word)?)?;
         }
     }
     Ok(prefixes)
@@ -147,6 +148,6 @@ impl<'a, 'm> Asked<'a, 'm> {
     /// The prefix of an input whose codes lie in the root; it is not known yet.
     pub fn input_prefix(&self) -> Result<InputPrefix, AllocError> {
         let name = folder_name(self.rt, self.root.as_str())?;
-        Ok(InputPrefix::new(self.alloc(), name))
+        InputPrefix::new(self.alloc(), name.as_str())
     }
 }

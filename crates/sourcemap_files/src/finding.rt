@@ -8,4 +8,4 @@ pub use finding::{
     is_map, is_map_file, language_of, map_by_name, map_of_code, map_of_file, map_without_code,
     read_map, rooted_map,
 };
-pub use matching::{CodePath, InputPrefix, Prefix};
+pub use matching::{CodePath, InputPrefix, prefix_of};

@@ -1,5 +1,5 @@
 //! Files, standard input and standard output.
-use sourcemap_run::push_visible;
+use sourcemap_texts::push_visible;
 use sourcemap_words::{Failure, Outcome, failure_of, file_failure};
 use std::fs;
 use std::io::{Read, Write};

@@ -8,7 +8,6 @@ mod input;
 mod limit;
 mod paths;
 mod progress;
-mod rebasing;
 mod writing;
 
 pub use asked::{Asked, Status};
@@ -20,8 +19,8 @@ pub use finding::{
 pub use input::{is_file, print, print_bytes, read_text, shown_name, tell, usage, warn};
 pub use limit::{limit_of, limited_json};
 pub use paths::{
-    file_name, folder_of, has_scheme, is_inside, path_of_url, real_name, with_slash, written_name,
+    file_name, folder_of, has_scheme, is_inside, path_of_url, plain_path, real_name, with_slash,
+    written_name,
 };
 pub use progress::Progress;
-pub use rebasing::{plain_path, rebase, relative_path, relative_to};
 pub use writing::{write_text, write_texts};

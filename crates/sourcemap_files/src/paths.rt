@@ -1,5 +1,6 @@
 //! Paths, as texts with slashes.
 use percent_encoding::percent_decode_str;
+use sourcemap_texts::is_absolute;
 use std::alloc::{AllocError, Global};
 use std::fs;
 use url::Url;
@@ -32,11 +33,6 @@ pub fn has_scheme(text: &str) -> bool {
         }
         None => false,
     }
-}
-
-/// Whether a path stands by itself: from the root, from a drive, or a URL.
-pub fn is_absolute(path: &str) -> bool {
-    path.starts_with('/') || path.starts_with('\\') || path.contains(':')
 }
 
 /// A path in a folder, where the folder is empty or ends in a slash. A path that stands by itself stays.
@@ -152,4 +148,34 @@ pub fn real_name(rt: &HostRuntime, path: &str) -> Result<String, AllocError> {
         Some(real) => Ok(real),
         None => String::from_str(rt.alloc(), path),
     }
+}
+
+/// The parts of a path in a folder, `.` left out and each `..` taken together with the part before it.
+fn plain_parts<'p>(
+    alloc: Global,
+    folder: &'p str,
+    path: &'p str,
+) -> Result<Vec<&'p str>, AllocError> {
+    let mut parts: Vec<&str> = Vec::new(alloc);
+    for part in folder.split('/').chain(path.split('/')) {
+        if part.is_empty() || part == "." {
+            continue;
+        }
+        let goes_up = part == ".." && parts.as_slice().last().is_some_and(|last| *last != "..");
+        if goes_up {
+            let _ = parts.pop();
+        } else {
+            parts.push(part)?;
+        }
+    }
+    Ok(parts)
+}
+
+/// The path of a source in a folder, `..` taken together with the parts before it; a path that stands by itself stays.
+pub fn plain_path(alloc: Global, folder: &str, path: &str) -> Result<String, AllocError> {
+    if is_absolute(path) {
+        return String::from_str(alloc, path);
+    }
+    let root = if folder.starts_with('/') { "/" } else { "" };
+    path_of(alloc, root, plain_parts(alloc, folder, path)?.as_slice())
 }

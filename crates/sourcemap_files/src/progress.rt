@@ -1,5 +1,5 @@
 //! How far a long run is, on a terminal's standard error.
-use sourcemap_run::push_visible;
+use sourcemap_texts::push_visible;
 use std::io::IsTerminal;
 
 /// A run over so few files is not told of.

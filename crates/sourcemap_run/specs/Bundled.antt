@@ -20,7 +20,7 @@ placed_record m = (record_of_parts m.0, m.1)
 abbrev pub HasLineEnds : Text → ℕ → Type 0
 HasLineEnds text n = (col : ℕ) × (position_of text (length (units_of text)) ≡ Ok (n, col))
 
--- a text whose end is the beginning of this line: what is appended to it begins there
+-- a text whose end is the beginning of this line
 abbrev pub StandsAt : Text → ℕ → Type 0
 StandsAt text line = position_of text (length (units_of text)) ≡ Ok (line, 0)
 
@@ -43,10 +43,6 @@ IsPastLimits line whole = ¬ (IsInSize whole) ⊎ ((lines : ℕ) × HasLineEnds 
 -- the same of a text with a line feed at its end
 abbrev pub IsTooLarge : ℕ → Text → Type 0
 IsTooLarge line text = (whole : Text) × IsEnded text whole × IsPastLimits line whole
-
--- the beginning of a line
-abbrev pub at_line : ℕ → Position
-at_line line = record { line = line; column = 0 }
 
 -- A text with a line feed at its end, within the limits, and the line behind it, if it begins on this line.
 pub record IsNext (line : ℕ) (text whole : Text) (next : ℕ) : Type 0 where

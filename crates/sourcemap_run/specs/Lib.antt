@@ -5,8 +5,12 @@ pub mod Lines
 pub mod Differences
 pub mod Frames
 pub mod Bundled
+pub mod Counts
 pub mod Marks
+pub mod Totals
+pub mod Covered
+pub mod Contexts
 pub mod Page
-pub mod Positions
+pub mod RawLines
 pub mod Reversed
 pub mod Words

@@ -26,7 +26,7 @@ separator json = if json then codes "," else codes " "
 abbrev pub next_generated : Style → TokenRecord → Text
 next_generated style t = separator style.json ++ generated_text style t
 
--- the generated positions of tokens, each once, in their order
+-- the generated positions of tokens in their order, one for each token
 abbrev pub generated_texts : Style → List TokenRecord → Text
 generated_texts style [] = []
 generated_texts style (t ∷ ts) = generated_text style t ++ flat_map (next_generated style) ts

@@ -1,11 +1,15 @@
 //! How often the lines of originals ran.
-ghost use Rattle.std.specs.Prelude.{◌≡◌, ◌++◌, true, OnOk};
+ghost use Rattle.std.specs.Prelude.{◌≡◌, ◌++◌, ℕ, Some, true, OnOk, IfOk};
 ghost use Rattle.std.specs.List.{filter_map};
-ghost use Rattle.sourcemap_run.specs.Words.{are_tokens_sorted, pieces_of, mark_of};
+ghost use Rattle.std.specs.BTreeMap.{get, Updates};
+ghost use Rattle.sourcemap_run.specs.Words.{are_tokens_sorted, pieces_of, mark_of, line_cmp};
+ghost use Rattle.sourcemap_run.specs.Words.{raised, line_count, missed_ranges, closed, opened};
 
 use oxc_sourcemap_map::SourceMap;
 use oxc_sourcemap_queries::Piece;
 use oxc_sourcemap_tokens::{Memory, Position};
+use std::alloc::Global;
+use std::collections::BTreeMap;
 
 /// A range of generated code, and how often it ran.
 #[derive(Clone, Copy)]
@@ -46,7 +50,7 @@ fn mark_of(piece: &Piece, count: u64) -> Option<Mark>
     })
 }
 
-/// Appends what the pieces of a block say of lines, for a sorted map. For want of memory `marks` has a beginning of them.
+/// Appends what the pieces of a block say of lines, for a sorted map.
 pub fn push_marks(map: &SourceMap<'_>, block: Block, marks: &mut Vec<Mark>) -> Memory<()>
     ensures { are_tokens_sorted map.now.tokens ≡ true → OnOk result (marks.new.items
         ≡ marks.old.items ++ filter_map (mark_of block.count) (pieces_of map.now.tokens
@@ -63,4 +67,71 @@ pub fn push_marks(map: &SourceMap<'_>, block: Block, marks: &mut Vec<Mark>) -> M
         }
     }
     Ok(())
+}
+
+/// How often lines of the sources of a map ran, by source id and number.
+pub type LineCounts = BTreeMap<(u32, u32), u64>;
+
+/// Raises the count of a line to this one.
+fn raise(counts: &mut LineCounts, line: (u32, u32), count: u64) -> Memory<()>
+    ensures { OnOk result (Updates line_cmp counts.old counts.new line
+        (Some (raised (get line_cmp counts.old line) count))) }
+{
+    let most = match counts.get(&line) {
+        Some(most) if *most > count => *most,
+        _ => count,
+    };
+    counts.insert(line, most)?;
+    Ok(())
+}
+
+/// How often the lines of some marks ran: each as often as the mark of it that ran most often.
+pub fn count_lines(alloc: Global, marks: &[Mark]) -> Memory<LineCounts>
+    ensures { IfOk result (λ counts. (line : ℕ × ℕ)
+        → get line_cmp counts line ≡ line_count marks.now line) }
+{
+    let mut counts = BTreeMap::new(alloc);
+    for mark in marks {
+        raise(&mut counts, (mark.source_id, mark.line), mark.count)?;
+    }
+    Ok(counts)
+}
+
+/// Appends a range, if there is one.
+fn close(range: Option<(u32, u32)>, ranges: &mut Vec<(u32, u32)>) -> Memory<()>
+    ensures { OnOk result (ranges.new.items ≡ ranges.old.items ++ closed range) }
+{
+    if let Some(range) = range {
+        ranges.push(range)?;
+    }
+    Ok(())
+}
+
+/// A range that may be open, up to this line.
+fn opened(range: Option<(u32, u32)>, number: u32) -> (u32, u32)
+    ensures { result ≡ opened range number }
+{
+    match range {
+        Some((first, _)) => (first, number),
+        None => (number, number),
+    }
+}
+
+/// The ranges of lines that did not run, of lines with their counts, in order: each longest run of such lines, by its first and its last
+/// line. A number that is not among the lines does not end a range.
+pub fn missed_ranges(alloc: Global, lines: &[(u32, u64)]) -> Memory<Vec<(u32, u32)>>
+    ensures { IfOk result (λ ranges. ranges.items ≡ missed_ranges lines.now) }
+{
+    let mut ranges = Vec::new(alloc);
+    let mut range = None;
+    for line in lines {
+        if line.1 == 0 {
+            range = Some(opened(range, line.0));
+        } else {
+            close(range, &mut ranges)?;
+            range = None;
+        }
+    }
+    close(range, &mut ranges)?;
+    Ok(ranges)
 }

@@ -1,8 +1,9 @@
 //! The lines of a stack trace, led back.
-ghost use Rattle.std.specs.Prelude.{◌≡◌, ◌++◌, ℕ, List, [], IfOk, Ok, true, false, IfSome, IsNone};
-ghost use Rattle.std.specs.Prelude.{None, take, drop, string_bytes};
-ghost use Rattle.std.specs.List.{flat_map};
-ghost use Rattle.sourcemap_run.specs.Words.{frame_position, IsCutAt, AreParts, IsLedBack};
+ghost use Rattle.std.specs.Prelude.{◌≡◌, ◌++◌, ◌≤◌, ◌↔◌, [], IfOk, Ok, true, false, IfSome, IsSome};
+ghost use Rattle.std.specs.Prelude.{None, drop, string_bytes};
+ghost use Rattle.std.specs.Str.{IsCharBoundary};
+ghost use Rattle.sourcemap_run.specs.Words.{frame_position, IsCutAt, between, AreInRow};
+ghost use Rattle.sourcemap_run.specs.Words.{line_led_back};
 ghost use Rattle.sourcemap_run.specs.Words.{OnlyMemory, OnlyAdds, Pushes, seen, answer_to};
 ghost use Rattle.sourcemap_run.specs.Words.{location_text};
 ghost use Rattle.sourcemap_run.specs.Words.{painted, led_back};
@@ -62,8 +63,6 @@ pub struct Frame<'t> {
 }
 
 impl<'t> Frame<'t> {
-    ghost use Rattle.sourcemap_run.specs.Frames.{frame_text};
-
     /// A line that names no position.
     pub fn plain(line: &'t str) -> Frame<'t>
         ensures text { (result.front.now ≡ line.entry.now) × (result.location.now ≡ [])
@@ -78,15 +77,14 @@ impl<'t> Frame<'t> {
         }
     }
 
-    /// A line whose bytes from `start` up to but not including `end` are a position; None if a character does not begin or end
-    /// there.
-    pub fn cut(line: &'t str, start: usize, end: usize) -> Option<Frame<'t>>
-        ensures text { IfSome result (λ frame. frame_text frame ≡ line.entry.now) }
-        ensures cuts { IfSome result (λ frame.
-            (frame.front.now ≡ take start (take end line.entry.now))
-            × (frame.location.now ≡ drop start (take end line.entry.now))) }
+    /// A line whose bytes from `start` up to but not including `end` are a position; None exactly if one of them is inside a character or
+    /// past the line, or `start` is behind `end`.
+    fn cut(line: &'t str, start: usize, end: usize) -> Option<Frame<'t>>
+        ensures pieces { IfSome result (λ frame. (frame.front.now ≡ between line.entry.now 0 start)
+            × (frame.location.now ≡ between line.entry.now start end)
+            × (frame.back.now ≡ drop end line.entry.now)) }
         ensures target { IfSome result (λ frame. frame.target ≡ None) }
-        ensures none { IsNone result → ¬ (IsCutAt line.entry.now start end) }
+        ensures cuts { IsSome result ↔ IsCutAt line.entry.now start end }
     {
         let (rest, back) = line.split_at_checked(end)?;
         let (front, location) = rest.split_at_checked(start)?;
@@ -155,52 +153,29 @@ pub fn push_frame(
     Ok(())
 }
 
-/// Appends the parts of a line of a stack trace, each led back. No line feed is put behind them.
-pub fn push_frames(
-    alloc: Global,
-    tracers: &[Tracer],
-    frames: &[Frame<'_>],
-    paint: Paint<'_>,
-    out: &mut String,
-) -> Result<()>
-    ensures text { Pushes result out.old out.new
-        (flat_map (led_back (painted paint.entry) tracers.now) frames.now) }
-    ensures error { OnlyMemory result }
-    ensures adds { OnlyAdds out.old out.new }
+/// A cut of a line, with what is between byte `from` and it, and what is behind it. None if it begins before `from` or behind its own end,
+/// or if it begins or ends inside a character or past the line.
+fn frame_at<'t>(line: &'t str, from: usize, cut: &Cut) -> Option<Frame<'t>>
+    ensures pieces { IfSome result (λ frame.
+        (frame.front.now ≡ between line.entry.now from cut.now.start)
+        × (frame.location.now ≡ between line.entry.now cut.now.start cut.now.end)
+        × (frame.back.now ≡ drop cut.now.end line.entry.now)) }
+    ensures target { IfSome result (λ frame. frame.target ≡ cut.now.target) }
+    ensures cuts { IsCharBoundary line.entry.now from → (IsSome result
+        ↔ (from ≤ cut.now.start) × IsCutAt line.entry.now cut.now.start cut.now.end) }
 {
-    for frame in frames {
-        push_frame(alloc, tracers, frame, paint, out)?;
-    }
-    Ok(())
+    let frame = Frame::cut(line, cut.start, cut.end)?;
+    let (_, front) = frame.front.split_at_checked(from)?;
+    Some(Frame {
+        front,
+        target: cut.target,
+        ..frame
+    })
 }
 
-/// The parts of a line, one for each cut and one for what is behind the last one. None if a cut begins before the end of the one ahead
-/// of it, or a character does not begin or end there.
-pub fn parts_of<'t>(alloc: Global, line: &'t str, cuts: &[Cut]) -> Result<Option<Vec<Frame<'t>>>>
-    ensures parts { IfOk result (λ parts. IfSome parts (λ them.
-        AreParts line.entry.now cuts.now them.items)) }
-    ensures error { OnlyMemory result }
-{
-    let mut parts = Vec::new(alloc);
-    let (mut rest, mut from) = (line, 0usize);
-    for cut in cuts {
-        let start = cut.start.saturating_sub(from);
-        let Some(frame) = Frame::cut(rest, start, cut.end.saturating_sub(from)) else {
-            return Ok(None);
-        };
-        (rest, from) = (frame.back, cut.end);
-        parts.push(Frame {
-            back: "",
-            target: cut.target,
-            ..frame
-        })?;
-    }
-    parts.push(Frame::plain(rest))?;
-    Ok(Some(parts))
-}
-
-/// Appends a line of a stack trace: at each cut what its map says, and all else as it is. Appends nothing, and says so by false, if the
-/// line cannot be cut so.
+/// Appends a line of a stack trace: at each cut what its map says, or what stands there if it says nothing, and between them all as it
+/// is. Appends nothing, and says so by false, exactly if a cut begins before the end of the one ahead of it or behind its own end, or if it
+/// begins or ends inside a character or past the line.
 pub fn push_line(
     alloc: Global,
     tracers: &[Tracer],
@@ -209,16 +184,29 @@ pub fn push_line(
     paint: Paint<'_>,
     out: &mut String,
 ) -> Result<bool>
-    ensures led { result ≡ Ok true → (text : List ℕ)
-        × IsLedBack (painted paint.entry) tracers.now line.now cuts.now text
-        × (string_bytes out.new ≡ string_bytes out.old ++ text) }
+    ensures led { result ≡ Ok true → string_bytes out.new ≡ string_bytes out.old
+        ++ line_led_back (painted paint.entry) tracers.now line.now 0 cuts.now }
+    ensures cuts { IfOk result (λ done. (done ≡ true) ↔ AreInRow line.now 0 cuts.now) }
     ensures unchanged { result ≡ Ok false → string_bytes out.new ≡ string_bytes out.old }
     ensures error { OnlyMemory result }
     ensures adds { OnlyAdds out.old out.new }
 {
-    let Some(parts) = parts_of(alloc, line, cuts)? else {
-        return Ok(false);
-    };
-    push_frames(alloc, tracers, parts.as_slice(), paint, out)?;
+    let mut text = String::new(alloc);
+    let (mut rest, mut from) = (line, 0usize);
+    for cut in cuts {
+        let Some(frame) = frame_at(line, from, cut) else {
+            return Ok(false);
+        };
+        (rest, from) = (frame.back, cut.end);
+        push_frame(
+            alloc,
+            tracers,
+            &Frame { back: "", ..frame },
+            paint,
+            &mut text,
+        )?;
+    }
+    text.push_str(rest)?;
+    out.push_str(text.as_str())?;
     Ok(true)
 }

@@ -3,29 +3,33 @@
 
 mod answers;
 mod bundling;
+mod contexts;
 mod counting;
+mod covered;
 mod differing;
 mod frames;
 mod page;
-mod positions;
+mod raw_lines;
+mod rebasing;
 mod reversing;
 mod texts;
+mod totals;
 mod tracer;
 
 pub use answers::{Style, push_answer, push_answers, push_members};
 pub use bundling::{Bundle, line_ends, with_line_end};
-pub use counting::{Block, Mark, push_marks};
-pub use differing::count_differences;
-pub use frames::{
-    Cut, Frame, Paint, Target, answer_to, frame_position, parts_of, push_frame, push_frames,
-    push_line,
+pub use contexts::{Content, lines_are_counted};
+pub use counting::{Block, LineCounts, Mark, count_lines, missed_ranges, push_marks};
+pub use covered::{
+    counted_lines, lcov_reads_back, percent, push_covered, push_lcov, push_missed, ran,
 };
+pub use differing::count_differences;
+pub use frames::{Cut, Frame, Paint, Target, answer_to, frame_position, push_frame, push_line};
 pub use oxc_sourcemap_lookup::Bias;
 pub use page::{MARK, fill_template};
-pub use positions::position_of;
+pub use raw_lines::{Splice, push_spliced, text_of};
+pub use rebasing::rebase_sources;
 pub use reversing::push_reversed;
-pub use texts::{
-    is_hidden, push_number_member, push_object, push_original, push_shown, push_text_member,
-    push_visible,
-};
+pub use texts::{push_number_member, push_object, push_original, push_text_member};
+pub use totals::{LineTotals, Totals, add_counts, totals_add_up};
 pub use tracer::{Answer, Spot, Tracer};

@@ -11,10 +11,10 @@ fn options_of(alloc: Global, command: &Command<'_>) -> Result<String, AllocError
     let mut words = String::new(alloc);
     for arg in command.get_arguments() {
         if let Some(long) = arg.get_long() {
-            words.push_str(format!(in alloc; "--{long} ")?.as_str())?;
+            write!(words, "--{long} ")?;
         }
         if let Some(short) = arg.get_short() {
-            words.push_str(format!(in alloc; "-{short} ")?.as_str())?;
+            write!(words, "-{short} ")?;
         }
     }
     Ok(words)
@@ -48,7 +48,7 @@ fn bash(alloc: Global, program: &Command<'_>) -> Result<String, AllocError> {
     for command in program.get_subcommands() {
         let name = command.get_name();
         let options = options_of(alloc, command)?;
-        out.push_str(format!(in alloc; "        {name}) words=\"{options}\" ;;\n")?.as_str())?;
+        writeln!(out, "        {name}) words=\"{options}\" ;;")?;
     }
     out.push_str(
         "    esac
@@ -82,7 +82,7 @@ fn push_zsh_command(
     out: &mut String,
 ) -> Result<(), AllocError> {
     let name = command.get_name();
-    out.push_str(format!(in alloc; "        {name}) _arguments")?.as_str())?;
+    write!(out, "        {name}) _arguments")?;
     for arg in command.get_arguments() {
         let Some(long) = arg.get_long() else {
             continue;
@@ -93,14 +93,13 @@ fn push_zsh_command(
         } else {
             ""
         };
-        out.push_str(format!(in alloc; " --{long}\"[\"{help}\"]\"{value}")?.as_str())?;
+        write!(out, " --{long}\"[\"{help}\"]\"{value}")?;
     }
-    let rest = if name == "completions" {
-        format!(in alloc; " ':shell:({SHELLS})' ;;\n")?
+    if name == "completions" {
+        writeln!(out, " ':shell:({SHELLS})' ;;")
     } else {
-        String::from_str(alloc, " '*:file:_files' ;;\n")?
-    };
-    out.push_str(rest.as_str())
+        out.push_str(" '*:file:_files' ;;\n")
+    }
 }
 
 fn zsh(alloc: Global, program: &Command<'_>) -> Result<String, AllocError> {
@@ -113,7 +112,7 @@ fn zsh(alloc: Global, program: &Command<'_>) -> Result<String, AllocError> {
             command.get_name(),
             quote_for_shell(alloc, command.get_about().unwrap_or(""))?,
         );
-        out.push_str(format!(in alloc; "\n            {name}:{about}")?.as_str())?;
+        write!(out, "\n            {name}:{about}")?;
     }
     out.push_str(
         "\n        )\n        _describe command commands\n        return\n    fi\n    local command=$words[2]\n    shift words\n    (( CURRENT-- ))\n    case $command in\n",
@@ -137,10 +136,10 @@ fn push_fish_options(
         };
         let help = quote_for_shell(alloc, arg.get_help().unwrap_or(""))?;
         let value = if takes_value(arg) { " -r" } else { "" };
-        let line = format!(in alloc;
-            "complete -c sourcemap -n '__fish_seen_subcommand_from {name}' -l {long}{value} -d {help}\n"
+        writeln!(
+            out,
+            "complete -c sourcemap -n '__fish_seen_subcommand_from {name}' -l {long}{value} -d {help}"
         )?;
-        out.push_str(line.as_str())?;
     }
     Ok(())
 }
@@ -152,16 +151,16 @@ fn fish(alloc: Global, program: &Command<'_>) -> Result<String, AllocError> {
             command.get_name(),
             quote_for_shell(alloc, command.get_about().unwrap_or(""))?,
         );
-        let line = format!(in alloc;
-            "complete -c sourcemap -f -n __fish_use_subcommand -a {name} -d {about}\n"
+        writeln!(
+            out,
+            "complete -c sourcemap -f -n __fish_use_subcommand -a {name} -d {about}"
         )?;
-        out.push_str(line.as_str())?;
         push_fish_options(alloc, command, &mut out)?;
     }
-    let shells = format!(in alloc;
-        "complete -c sourcemap -f -n '__fish_seen_subcommand_from completions' -a '{SHELLS}'\n"
+    writeln!(
+        out,
+        "complete -c sourcemap -f -n '__fish_seen_subcommand_from completions' -a '{SHELLS}'"
     )?;
-    out.push_str(shells.as_str())?;
     Ok(out)
 }
 

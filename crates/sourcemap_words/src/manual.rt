@@ -25,11 +25,11 @@ fn push_text(text: &str, out: &mut String) -> Result<(), AllocError> {
 fn argument_words(alloc: Global, arg: &Arg<'_>) -> Result<String, AllocError> {
     let mut words = String::new(alloc);
     if let Some(short) = arg.get_short() {
-        words.push_str(format!(in alloc; "-{short}, ")?.as_str())?;
+        write!(words, "-{short}, ")?;
     }
     match arg.get_long() {
-        Some(long) if !takes_value(arg) => words.push_str(format!(in alloc; "--{long}")?.as_str())?,
-        _ => words.push_str(format!(in alloc; "{arg}")?.as_str())?,
+        Some(long) if !takes_value(arg) => write!(words, "--{long}")?,
+        _ => write!(words, "{arg}")?,
     }
     Ok(words)
 }

@@ -1,11 +1,13 @@
 //! Changes of the maps that handles hold.
-ghost use Rattle.std.specs.Prelude.{◌≡◌, ◌≢◌, Some, IsUtf8, IfErr, OnOk, OnErr, Ok, Err, false};
+ghost use Rattle.std.specs.Prelude.{◌≡◌, ◌≢◌, Some, IsUtf8, IfErr, OnOk, OnErr, Ok, Err, IsOk};
+ghost use Rattle.std.specs.Prelude.{false, true};
 ghost use Rattle.oxc_sourcemap_c.specs.Words.{out_of_memory, Changes, IsMapError, IsChange};
 ghost use Rattle.oxc_sourcemap_c.specs.Words.{IsChangeError, IsSureError, CallError, code_of};
 ghost use Rattle.oxc_sourcemap_c.specs.Words.{no_fault, IsErrorAs, IsNotText, IsNotTexts, AreTexts};
 ghost use Rattle.oxc_sourcemap_c.specs.Words.{rooted, AreContents, known_texts, IsNotContents};
 ghost use Rattle.oxc_sourcemap_c.specs.Words.{lent_items, IsSimplifyError, IsUnsorted, sorted_map};
-ghost use Rattle.oxc_sourcemap_c.specs.Words.{simplification};
+ghost use Rattle.oxc_sourcemap_c.specs.Words.{simplification, NeedsNoMemory, HoldsMap};
+ghost use Rattle.oxc_sourcemap_c.specs.Words.{are_tokens_sorted};
 
 use crate::answers::write_fault;
 use oxc_sourcemap_handles::{CallError, Fault, Handle, Held, LoadedMap};
@@ -32,6 +34,7 @@ fn change_loaded(loaded: &mut LoadedMap, alloc: Global, change: Change<'_>) -> R
         → IsChangeError change.entry loaded.old.map r) }
     ensures sure { (r : CallError) → IsSureError change.entry loaded.old.map r
         → result ≡ Err r }
+    ensures no_memory { NeedsNoMemory change.entry loaded.old.map → IsOk result }
     ensures unchanged { OnErr result (loaded.new ≡ loaded.old) }
 {
     match change {
@@ -56,6 +59,7 @@ fn change_held(held: &mut Held, alloc: Global, change: Change<'_>) -> Result<(),
         → IsMapError (Some held.old) (IsChangeError change.entry) r) }
     ensures sure { (r : CallError) → IsMapError (Some held.old) (IsSureError change.entry) r
         → result ≡ Err r }
+    ensures no_memory { HoldsMap (Some held.old) (NeedsNoMemory change.entry) → IsOk result }
     ensures unchanged { OnErr result (held.new ≡ held.old) }
 {
     match held {
@@ -72,6 +76,7 @@ fn change_map(alloc: Global, handle: &mut Handle, change: Change<'_>) -> Result<
         → IsMapError handle.old.held (IsChangeError change.entry) r) }
     ensures sure { (r : CallError) → IsMapError handle.old.held (IsSureError change.entry) r
         → result ≡ Err r }
+    ensures no_memory { HoldsMap handle.old.held (NeedsNoMemory change.entry) → IsOk result }
     ensures unchanged { OnErr result (handle.new.held ≡ handle.old.held) }
 {
     match handle.take(alloc) {
@@ -227,11 +232,13 @@ pub extern "C" fn proved_apply_source_root(
     write_fault(change_map(alloc, map, Change::ApplySourceRoot), fault)
 }
 
-/// Sorts the tokens by generated position. The map then has no index of sources.
+/// Sorts the tokens by generated position. The map then has no index of sources. Cannot fail for want of memory if the map is sorted.
 #[unsafe(no_mangle)]
 pub extern "C" fn proved_sort(alloc: Global, map: &mut Handle, fault: &mut Fault) -> u32
     ensures sorted { result ≡ 0 → Changes map.old.held map.new.held
         (λ l n. (n.map ≡ sorted_map l.map) × (n.has_order ≡ false)) }
+    ensures no_memory { HoldsMap map.old.held (λ m. are_tokens_sorted m.tokens ≡ true)
+        → result ≡ 0 }
     ensures no_error { result ≡ 0 → fault.new ≡ no_fault }
     ensures error { result ≢ 0 → (map.new.held ≡ map.old.held)
         × IsErrorAs result fault.new (IsMapError map.old.held (λ m r. ⊥)) }

@@ -147,7 +147,7 @@ fn read_found_text(alloc: Global, text: &str) -> Result<(OwnedSourceMap, Vec<Men
 {
     mending_harmless();
     let found = read_located(alloc, text)?;
-    Ok((OwnedSourceMap::new(found.map), found.mends))
+    Ok((OwnedSourceMap::from_parts(found.parts), found.mends))
 }
 
 /// The map of a text as it is found, with what was mended.

@@ -5,7 +5,7 @@ ghost use Rattle.std.specs.Cow.{cow_str_bytes};
 ghost use Rattle.std.specs.Option.{unwrap_or};
 ghost use Rattle.oxc_sourcemap_c.specs.Words.{are_tokens_sorted, NullHandle, IsSound, held_map};
 ghost use Rattle.oxc_sourcemap_c.specs.Words.{held_text, held_loaded, counts_of, numbers_of};
-ghost use Rattle.oxc_sourcemap_c.specs.Words.{text_at, flag_of, IsFound, IsText, filled};
+ghost use Rattle.oxc_sourcemap_c.specs.Words.{text_at, flag_of, IsFound, LendsText, filled};
 ghost use Rattle.oxc_sourcemap_c.specs.Words.{IsContentText, AreFilled, IsListed, IsListedBy};
 ghost use Rattle.oxc_sourcemap_c.specs.Words.{cow_texts, cow_options, bytes_of_texts, capped};
 ghost use Rattle.oxc_sourcemap_c.specs.Words.{bytes_of_options, IsFlagOf, IsOptionListed};
@@ -168,7 +168,7 @@ pub extern "C" fn proved_is_sound(map: &Lent, out: &mut u32) -> u32
 
 /// A text of the map in a handle.
 fn text_of_map<'c>(map: Lent, asked: Asked) -> Result<Text<'c>, CallError>
-    ensures found { IsFound result map.held (λ m. text_at m asked) IsText }
+    ensures found { IsFound result map.held (λ m. text_at m asked) LendsText }
 {
     let loaded = map.into_map()?;
     match asked.text_in(loaded.map()) {
@@ -180,7 +180,7 @@ fn text_of_map<'c>(map: Lent, asked: Asked) -> Result<Text<'c>, CallError>
 /// The name with this id in a map, lent.
 #[unsafe(no_mangle)]
 pub extern "C" fn proved_get_name<'c>(map: Lent, id: u32, out: &mut Text<'c>) -> u32
-    ensures found { Found result map.held (λ m. slice_get m.names id) (IsText out.new) }
+    ensures found { Found result map.held (λ m. slice_get m.names id) (LendsText out.new) }
     ensures unchanged { result ≢ 0 → out.new ≡ out.old }
 {
     write_found(text_of_map(map, Asked::Name(id)), out)
@@ -189,7 +189,7 @@ pub extern "C" fn proved_get_name<'c>(map: Lent, id: u32, out: &mut Text<'c>) ->
 /// The source with this id in a map, lent.
 #[unsafe(no_mangle)]
 pub extern "C" fn proved_get_source<'c>(map: Lent, id: u32, out: &mut Text<'c>) -> u32
-    ensures found { Found result map.held (λ m. slice_get m.sources id) (IsText out.new) }
+    ensures found { Found result map.held (λ m. slice_get m.sources id) (LendsText out.new) }
     ensures unchanged { result ≢ 0 → out.new ≡ out.old }
 {
     write_found(text_of_map(map, Asked::Source(id)), out)
@@ -199,7 +199,7 @@ pub extern "C" fn proved_get_source<'c>(map: Lent, id: u32, out: &mut Text<'c>) 
 #[unsafe(no_mangle)]
 pub extern "C" fn proved_get_source_content<'c>(map: Lent, id: u32, out: &mut Text<'c>) -> u32
     ensures found { Found result map.held (λ m. content_at m.source_contents id)
-        (IsText out.new) }
+        (LendsText out.new) }
     ensures unchanged { result ≢ 0 → out.new ≡ out.old }
 {
     write_found(text_of_map(map, Asked::SourceContent(id)), out)
@@ -208,7 +208,7 @@ pub extern "C" fn proved_get_source_content<'c>(map: Lent, id: u32, out: &mut Te
 /// The name of the generated file of a map, lent.
 #[unsafe(no_mangle)]
 pub extern "C" fn proved_get_file<'c>(map: Lent, out: &mut Text<'c>) -> u32
-    ensures found { Found result map.held (λ m. m.file) (IsText out.new) }
+    ensures found { Found result map.held (λ m. m.file) (LendsText out.new) }
     ensures unchanged { result ≢ 0 → out.new ≡ out.old }
 {
     write_found(text_of_map(map, Asked::File), out)
@@ -217,7 +217,7 @@ pub extern "C" fn proved_get_file<'c>(map: Lent, out: &mut Text<'c>) -> u32
 /// The source root of a map, lent.
 #[unsafe(no_mangle)]
 pub extern "C" fn proved_get_source_root<'c>(map: Lent, out: &mut Text<'c>) -> u32
-    ensures found { Found result map.held (λ m. m.source_root) (IsText out.new) }
+    ensures found { Found result map.held (λ m. m.source_root) (LendsText out.new) }
     ensures unchanged { result ≢ 0 → out.new ≡ out.old }
 {
     write_found(text_of_map(map, Asked::SourceRoot), out)
@@ -226,7 +226,7 @@ pub extern "C" fn proved_get_source_root<'c>(map: Lent, out: &mut Text<'c>) -> u
 /// The debug id of a map, lent.
 #[unsafe(no_mangle)]
 pub extern "C" fn proved_get_debug_id<'c>(map: Lent, out: &mut Text<'c>) -> u32
-    ensures found { Found result map.held (λ m. m.debug_id) (IsText out.new) }
+    ensures found { Found result map.held (λ m. m.debug_id) (LendsText out.new) }
     ensures unchanged { result ≢ 0 → out.new ≡ out.old }
 {
     write_found(text_of_map(map, Asked::DebugId), out)
@@ -235,7 +235,7 @@ pub extern "C" fn proved_get_debug_id<'c>(map: Lent, out: &mut Text<'c>) -> u32
 /// The text in a handle.
 fn written_text<'c>(string: Lent) -> Result<Text<'c>, CallError>
     ensures found { MatchOption (held_text string.held) (result ≡ Err NullHandle)
-        (λ text. MatchResult result (λ t. IsText t text) (λ _. ⊥)) }
+        (λ text. MatchResult result (λ t. LendsText t text) (λ _. ⊥)) }
 {
     let text = string.into_text()?;
     Ok(Text::of(text))
@@ -283,7 +283,7 @@ fn write_tokens(tokens: &[Token], out: &mut [TokenNumbers])
 
 /// Writes as many texts as there is room for.
 fn write_texts<'c>(texts: &'c [CowStr<'_>], out: &mut [Text<'c>])
-    ensures { AreFilled IsText (cow_texts texts.now) out.old out.new }
+    ensures { AreFilled LendsText (cow_texts texts.now) out.old out.new }
 {
     for i in 0..texts.len().min(out.len()) {
         out[i] = Text::of(texts[i].as_str());
@@ -364,7 +364,7 @@ pub extern "C" fn proved_get_tokens(map: &Lent, out: &mut [TokenNumbers], count:
 
 /// The number of names of the map in a handle. Writes as many as there is room for.
 fn names<'c>(map: Lent, out: &mut [Text<'c>]) -> Result<usize, CallError>
-    ensures found { IsListedBy IsText result map.held (λ m. m.names) out.old out.new }
+    ensures found { IsListedBy LendsText result map.held (λ m. m.names) out.old out.new }
 {
     let loaded = map.into_map()?;
     let names = parts_of(loaded.map().as_source_map()).names.as_slice();
@@ -375,7 +375,7 @@ fn names<'c>(map: Lent, out: &mut [Text<'c>]) -> Result<usize, CallError>
 /// All names of a map, lent, as many as there is room for, and how many there are.
 #[unsafe(no_mangle)]
 pub extern "C" fn proved_get_names<'c>(map: Lent, out: &mut [Text<'c>], count: &mut usize) -> u32
-    ensures listed { ListsBy IsText result map.held (λ m. m.names)
+    ensures listed { ListsBy LendsText result map.held (λ m. m.names)
         out.old out.new count.new }
     ensures unchanged { result ≢ 0 → (out.new ≡ out.old) × (count.new ≡ count.old) }
 {
@@ -384,7 +384,7 @@ pub extern "C" fn proved_get_names<'c>(map: Lent, out: &mut [Text<'c>], count: &
 
 /// The number of sources of the map in a handle. Writes as many as there is room for.
 fn sources<'c>(map: Lent, out: &mut [Text<'c>]) -> Result<usize, CallError>
-    ensures found { IsListedBy IsText result map.held (λ m. m.sources) out.old out.new }
+    ensures found { IsListedBy LendsText result map.held (λ m. m.sources) out.old out.new }
 {
     let loaded = map.into_map()?;
     let sources = parts_of(loaded.map().as_source_map()).sources.as_slice();
@@ -395,7 +395,7 @@ fn sources<'c>(map: Lent, out: &mut [Text<'c>]) -> Result<usize, CallError>
 /// All sources of a map, lent, as many as there is room for, and how many there are.
 #[unsafe(no_mangle)]
 pub extern "C" fn proved_get_sources<'c>(map: Lent, out: &mut [Text<'c>], count: &mut usize) -> u32
-    ensures listed { ListsBy IsText result map.held (λ m. m.sources)
+    ensures listed { ListsBy LendsText result map.held (λ m. m.sources)
         out.old out.new count.new }
     ensures unchanged { result ≢ 0 → (out.new ≡ out.old) × (count.new ≡ count.old) }
 {

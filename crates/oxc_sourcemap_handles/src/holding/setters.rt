@@ -1,10 +1,11 @@
 //! Changes of the map in a `LoadedMap`. Those of tokens take the index by original positions away.
 ghost use Rattle.std.specs.Prelude.{◌≡◌, ◌≢◌, Some, IsUtf8, IfOk, IfErr, OnOk, OnErr, Ok, Err};
-ghost use Rattle.std.specs.Prelude.{false};
+ghost use Rattle.std.specs.Prelude.{IsOk, true, false};
 ghost use Rattle.oxc_sourcemap_handles.specs.Words.{out_of_memory, rooted, IsNotText, IsNotTexts};
 ghost use Rattle.oxc_sourcemap_handles.specs.Words.{IsNotContents, AreTexts, sorted_map};
 ghost use Rattle.oxc_sourcemap_handles.specs.Words.{simplification, AreContents, known_texts};
 ghost use Rattle.oxc_sourcemap_handles.specs.Words.{lent_items, IsSimplifyError, IsUnsorted};
+ghost use Rattle.oxc_sourcemap_handles.specs.Words.{are_tokens_sorted};
 ghost use Rattle.oxc_sourcemap_handles.specs.Words.{CallError};
 
 use crate::holding::held::LoadedMap;
@@ -123,6 +124,7 @@ impl LoadedMap {
     pub fn sort(&mut self, alloc: Global) -> Result<(), CallError>
         ensures sorted { OnOk result ((self.new.map ≡ sorted_map self.old.map)
             × (self.new.has_order ≡ false)) }
+        ensures no_memory { are_tokens_sorted self.old.map.tokens ≡ true → IsOk result }
         ensures error { IfErr result (λ r. r ≡ out_of_memory) }
         ensures unchanged { OnErr result (self.new ≡ self.old) }
     {

@@ -2,7 +2,7 @@
 ghost use Rattle.std.specs.Prelude.{◌≡◌, ◌≢◌, IfOk, Some, None, IsSomeAnd, is_some};
 ghost use Rattle.std.specs.Result.{is_err};
 ghost use Rattle.serde_json.specs.Data.{Data};
-ghost use Rattle.oxc_sourcemap_json.specs.Words.{value_place, read, OnlyMemory, IsReading};
+ghost use Rattle.oxc_sourcemap_json.specs.Words.{value_place, read, OnlyMemory, IsBytePlace};
 ghost use Rattle.oxc_sourcemap_json.specs.Words.{read_map, read_value, view, OutOfMemory};
 
 use crate::read::{read_parts_from_string, read_parts_from_value};
@@ -36,7 +36,7 @@ pub fn json_fault_at(alloc: Global, text: &str) -> Result<Option<FaultPlace>>
     ensures json { (d : Data) → read text.now ≡ Some d
         → IfOk result (λ place. place ≡ value_place d) }
     ensures reading { read text.now ≡ None
-        → IfOk result (λ place. IsSomeAnd place (IsReading text.now)) }
+        → IfOk result (λ place. IsSomeAnd place (IsBytePlace text.now)) }
     ensures found { IfOk result (λ place. is_some place ≡ is_err (read_map text.now)) }
     ensures error { OnlyMemory result }
 {

@@ -1,7 +1,7 @@
 //! Where a text is not JSON.
 ghost use Rattle.std.specs.Prelude.{◌≡◌, ◌≤◌, ◌+◌, length, min, IsSomeAnd};
-ghost use Rattle.oxc_sourcemap_json.specs.Words.{OutOfMemory, BadJson, Reading, IsReading};
-ghost use Rattle.oxc_sourcemap_json.specs.Words.{IsMemory, IsReadingFrom, line_feeds, line_start};
+ghost use Rattle.oxc_sourcemap_json.specs.Words.{OutOfMemory, BadJson, Reading, IsBytePlace};
+ghost use Rattle.oxc_sourcemap_json.specs.Words.{IsMemory, IsBytePlaceFrom, line_feeds, line_start};
 
 use oxc_sourcemap_tokens::{Error, Fault, FaultPlace, FaultSpot, JsonFault};
 
@@ -64,7 +64,7 @@ fn lines_and_rest(front: &[u8]) -> (usize, usize)
 /// The place at a byte of a text that is not JSON, or at its end.
 pub fn reading_place(text: &str, byte: usize) -> FaultPlace
     requires { byte ≤ length text.now }
-    ensures { IsReadingFrom byte text.now result }
+    ensures { IsBytePlaceFrom byte text.now result }
 {
     let (line, column) = lines_and_rest(&text.as_bytes()[..byte]);
     FaultPlace::new(None, FaultSpot::Reading { line, column, byte })
@@ -74,7 +74,7 @@ pub fn reading_place(text: &str, byte: usize) -> FaultPlace
 pub(crate) fn reading_fault(text: &str, error: &serde_json::Error) -> Fault
     ensures memory { IsMemory error.now → result.error ≡ OutOfMemory }
     ensures error { ¬ (IsMemory error.now) → result.error ≡ BadJson Reading }
-    ensures place { ¬ (IsMemory error.now) → IsSomeAnd result.place (IsReading text.now) }
+    ensures place { ¬ (IsMemory error.now) → IsSomeAnd result.place (IsBytePlace text.now) }
 {
     if error.is_memory() {
         return Fault::without_place(Error::OutOfMemory);

@@ -31,7 +31,7 @@ fn ends_line(ch: char, after: &str) -> bool
 }
 
 /// The first line of a text, with its end, and what follows it. None if no line ends.
-pub(crate) fn split_line(text: &str) -> Option<(&str, &str)>
+pub fn split_line(text: &str) -> Option<(&str, &str)>
     ensures cut { IfSome result (λ parts. lines_of (chars text.now)
         ≡ chars parts.0.now ∷ lines_of (chars parts.1.now)) }
     ensures whole { IfSome result (λ parts. text.now ≡ parts.0.now ++ parts.1.now) }

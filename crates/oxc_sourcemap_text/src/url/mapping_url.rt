@@ -1,12 +1,13 @@
 //! The URL that a code names for its map.
-ghost use Rattle.std.specs.Prelude.{◌≡◌, ◌++◌, ℕ, List, [], fold, None, IfSome};
+ghost use Rattle.std.specs.Prelude.{◌≡◌, ◌++◌, ◌∷◌, ℕ, List, [], fold, length, None, Some, IfSome};
 ghost use lib.Utf8.{encode};
 ghost use Rattle.std.specs.Option.{option_map};
-ghost use Rattle.std.specs.Str.{chars};
+ghost use Rattle.std.specs.Str.{chars, IsUtf8};
 ghost use Rattle.oxc_sourcemap_text.specs.Words.{lent_chars, pieces, known_after, mapping_url};
 ghost use Rattle.oxc_sourcemap_text.specs.Words.{IsCommentAt, IsPlaced, IsMappingComment};
 ghost use Rattle.oxc_sourcemap_text.specs.Words.{second_of, url_of, url_known, all_pieces, IsQuiet};
 ghost use Rattle.oxc_sourcemap_text.specs.Words.{IsLastUpTo, IsLineOf, pieces_left};
+ghost use Rattle.oxc_sourcemap_text.specs.Words.{AreReadApart, BeginsOutside, lines_of};
 
 use crate::url::comment::{Naming, Place, around_block_end, known_after, space_at_end};
 use crate::url::language::Language;
@@ -43,7 +44,9 @@ fn read_line<'c>(
 ) -> Option<Naming<'c>>
     ensures url { url_of result
         ≡ fold known_after (url_of before.entry) (pieces slashes None (chars line.now)) }
-    ensures placed { (code front : List ℕ) → code ≡ front ++ line.now ++ after.now
+    ensures placed { (code front : List ℕ) → code ≡ front ++ line.now ++ after.now → IsUtf8 front
+        → AreReadApart slashes (chars front) (chars line.now ++ chars after.now)
+        → IsLineOf slashes (chars line.now) (chars after.now)
         → IfSome before.entry (IsPlaced slashes code) → IfSome result (IsPlaced slashes code) }
     ensures last { IsLineOf slashes (chars line.now) (chars after.now)
         → IfSome before.entry
@@ -105,9 +108,11 @@ pub struct SourceMappingComment<'c> {
     pub back: &'c str,
 }
 
-/// The comment by which a code names its map, with the URL that `source_mapping_url` finds. Takes no memory. `front` and `back`
-/// together are the code without the comment. They have as many lines, unless a carriage return ends `front` and a line feed
-/// begins `back`, which are then one end of a line.
+/// The comment by which a code names its map, with the URL that `source_mapping_url` finds. The comment begins outside of those
+/// before it on its line; it and what stands behind it name the URL by themselves. Takes no memory. `front` and `back` together are
+/// the code without the comment: they have the URL known before, if any (the law `comment_is_cut`). With a space between them they
+/// have as many lines as the code; without it, a carriage return at the end of `front` and a line feed at the beginning of `back`
+/// are one end of a line.
 ///
 /// ```rust
 /// use oxc_sourcemap::{Language, source_mapping_comment};
@@ -127,7 +132,14 @@ pub fn source_mapping_comment(code: &str, language: Language) -> Option<SourceMa
         ≡ found.front.now ++ found.comment.now ++ found.back.now) }
     ensures comment { IfSome result (λ found.
         IsMappingComment language (chars found.comment.now) (chars found.url.now)) }
+    ensures outside { IfSome result (λ found. BeginsOutside language
+        (chars found.front.now) (chars found.comment.now ++ chars found.back.now)) }
+    ensures names { IfSome result (λ found. mapping_url language
+        (chars found.comment.now ++ chars found.back.now) ≡ Some (chars found.url.now)) }
     ensures last { IfSome result (λ found. IsQuiet language (chars found.back.now)) }
+    ensures lines { IfSome result (λ found.
+        length (lines_of (chars found.front.now ++ 32 ∷ chars found.back.now))
+        ≡ length (lines_of (chars code.now))) }
 {
     let Naming { place, url } = naming(code, language.has_line_comments())?;
     let (text, rest, after) = (place.text, place.rest, place.after);

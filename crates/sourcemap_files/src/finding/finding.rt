@@ -1,17 +1,16 @@
 //! Finding the map of a code.
-use crate::finding::matching::{
-    Below, CodePath, Files, Found as Match, InputPrefix, Prefix, named_prefix,
-};
+use crate::finding::matching::{Below, CodePath, Files, Found as Match, InputPrefix, named_prefix};
 use crate::input::{is_file, read_text, shown_name, warn};
 use crate::paths::{
     file_name, folder_of, has_scheme, is_folder, is_inside, join_path, parts_of, path_of,
     path_of_url,
 };
-use oxc_sourcemap_found::{Found, fault_reason, found_fault_at, read_found};
+use oxc_sourcemap_found::{FoundParts, fault_reason, found_fault_at, read_found_parts};
 use oxc_sourcemap_json::json_fault_at;
 use oxc_sourcemap_map::SourceMap;
 use oxc_sourcemap_text::{Language, decode_data_url, source_mapping_url};
 use oxc_sourcemap_tokens::{Error, FaultPlace};
+use sourcemap_texts::Prefix;
 use sourcemap_words::{Outcome, failure_of};
 use std::alloc::{AllocError, Global};
 
@@ -471,13 +470,13 @@ pub fn found_error_text(alloc: Global, text: &str, error: Error) -> Result<Strin
 /// Reads a map as it is found. What is mended is told as a warning.
 pub fn read_map(rt: &HostRuntime, map: &MapText) -> Outcome<SourceMap<'static>> {
     let alloc = rt.alloc();
-    match read_found(alloc, map.text.as_str()) {
-        Ok(Found { map: found, mends }) => {
+    match read_found_parts(alloc, map.text.as_str()) {
+        Ok(FoundParts { parts, mends }) => {
             for mend in &mends {
                 let text = format!(in alloc; "mended: {mend}")?;
                 warn(rt, map.name.as_str(), text.as_str());
             }
-            Ok(found)
+            Ok(SourceMap::from_parts(parts))
         }
         Err(error) => {
             let text = found_error_text(alloc, map.text.as_str(), error)?;

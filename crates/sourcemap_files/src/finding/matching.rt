@@ -2,6 +2,7 @@
 //! of the disk is behind `Files`.
 use crate::paths::{has_scheme, path_of_url};
 use percent_encoding::percent_decode_str;
+use sourcemap_texts::{Candidate, Choice, Prefix, choose, longest_prefix};
 use std::alloc::{AllocError, Global};
 use std::collections::HashMap;
 
@@ -147,6 +148,12 @@ impl CodePath {
         }
     }
 
+    /// The first bytes of the path, so many, and what is behind them.
+    fn split(&self, end: usize) -> (&str, &str) {
+        let text = self.text.as_str();
+        text.split_at_checked(end).unwrap_or((text, ""))
+    }
+
     /// Whether it is the path of a file of an installed package.
     pub fn is_in_package(&self) -> bool {
         self.text
@@ -186,55 +193,51 @@ pub enum Found {
 /// the first path that determines it does so.
 #[derive(Drop)]
 pub struct InputPrefix {
-    /// The folder's own name; empty if it has none.
-    name: String,
+    /// The folder's own name between slashes; empty if it has none.
+    own: String,
     known: Option<String>,
     /// What is in the folder below prefixes of earlier paths: of each the first one.
     seen: HashMap<String, String>,
 }
 
+/// The prefixes of a path whose rests are in a folder, by their lengths. No prefix has a part `node_modules`.
+fn ends_there<F: Files>(
+    alloc: Global,
+    path: &CodePath,
+    files: &F,
+) -> Result<Vec<usize>, AllocError> {
+    let mut ends = Vec::new(alloc);
+    let text = path.text.as_str();
+    for (at, _) in text.match_indices('/') {
+        let end = at.saturating_add(1);
+        let (prefix, rest) = path.split(end);
+        if prefix.ends_with("/node_modules/") || prefix == "node_modules/" {
+            break;
+        }
+        if end >= path.root && !rest.is_empty() && files.has(rest)? {
+            ends.push(end)?;
+        }
+    }
+    Ok(ends)
+}
+
 impl InputPrefix {
-    /// For a folder with this name.
-    pub fn new(alloc: Global, name: String) -> InputPrefix {
-        InputPrefix {
-            name,
+    /// For a folder with this name; empty if it has none.
+    pub fn new(alloc: Global, name: &str) -> Result<InputPrefix, AllocError> {
+        let own = if name.is_empty() {
+            String::new(alloc)
+        } else {
+            format!(in alloc; "/{name}/")?
+        };
+        Ok(InputPrefix {
+            own,
             known: None,
             seen: HashMap::new(alloc),
-        }
+        })
     }
 
     pub fn is_known(&self) -> bool {
         self.known.is_some()
-    }
-
-    /// Whether the last part of a prefix is the folder's own name.
-    fn ends_in_name(&self, prefix: &str) -> bool {
-        let folder = prefix.strip_suffix('/').unwrap_or(prefix);
-        let last = folder.rsplit_once('/').map_or(folder, |(_, last)| last);
-        !last.is_empty() && last == self.name.as_str()
-    }
-
-    /// Whether a prefix is determined, if it leaves this rest of a path in the folder: by its last part, or by an earlier path.
-    fn determines(
-        &mut self,
-        alloc: Global,
-        path: &CodePath,
-        prefix: &str,
-        rest: &str,
-    ) -> Result<bool, AllocError> {
-        if !path.is_remote && self.ends_in_name(prefix) {
-            return Ok(true);
-        }
-        if let Some(earlier) = self.seen.get(prefix) {
-            let has_folder = rest.contains('/') || earlier.as_str().contains('/');
-            return Ok(has_folder && earlier.as_str() != rest);
-        }
-        let (prefix, rest) = (
-            String::from_str(alloc, prefix)?,
-            String::from_str(alloc, rest)?,
-        );
-        self.seen.insert(prefix, rest)?;
-        Ok(false)
     }
 
     /// What the known prefix leaves of a path, if that is in the folder.
@@ -253,7 +256,39 @@ impl InputPrefix {
         Ok(Found::Nothing)
     }
 
-    /// Finds what a prefix leaves of a path that is not in the folder as a whole. No prefix has a part `node_modules`.
+    /// Which of the prefixes of a path with these lengths is that of the input.
+    fn choice(&self, alloc: Global, path: &CodePath, ends: &[usize]) -> Result<Choice, AllocError> {
+        let mut candidates = Vec::new(alloc);
+        for end in ends {
+            let (prefix, rest) = path.split(*end);
+            let earlier = self.seen.get(prefix).map(|earlier| earlier.as_str());
+            candidates.push(Candidate {
+                prefix,
+                rest,
+                earlier,
+            })?;
+        }
+        Ok(choose(self.own.as_str(), path.is_remote, candidates.as_slice()))
+    }
+
+    /// Keeps what these prefixes leave of a path, for paths that come later.
+    fn remember(
+        &mut self,
+        alloc: Global,
+        path: &CodePath,
+        ends: &[usize],
+    ) -> Result<(), AllocError> {
+        for end in ends {
+            let (prefix, rest) = path.split(*end);
+            if !self.seen.contains_key(prefix) {
+                let Below { prefix, rest } = Below::new(alloc, prefix, rest)?;
+                self.seen.insert(prefix, rest)?;
+            }
+        }
+        Ok(())
+    }
+
+    /// Finds what a prefix leaves of a path that is not in the folder as a whole.
     pub fn find<F: Files>(
         &mut self,
         alloc: Global,
@@ -263,55 +298,37 @@ impl InputPrefix {
         if self.is_known() {
             return self.below_known(alloc, path, files);
         }
-        let mut found = Found::Nothing;
-        let text = path.text.as_str();
-        for (at, _) in text.match_indices('/') {
-            let (prefix, rest) = text
-                .split_at_checked(at.saturating_add(1))
-                .unwrap_or((text, ""));
-            if prefix.ends_with("/node_modules/") || prefix == "node_modules/" {
-                break;
-            }
-            if prefix.len() < path.root || rest.is_empty() || !files.has(rest)? {
-                continue;
-            }
-            if self.determines(alloc, path, prefix, rest)? {
-                self.known = Some(String::from_str(alloc, prefix)?);
-                return Ok(Found::Below(Below::new(alloc, prefix, rest)?));
-            }
-            if matches!(&found, Found::Nothing) {
-                found = Found::Maybe(Below::new(alloc, prefix, rest)?);
-            }
+        let ends = ends_there(alloc, path, files)?;
+        let ends = ends.as_slice();
+        let (choice, first) = (self.choice(alloc, path, ends)?, ends.first());
+        if let Choice::Determined(i) = choice
+            && let Some(end) = ends.get(i)
+        {
+            let (prefix, rest) = path.split(*end);
+            self.known = Some(String::from_str(alloc, prefix)?);
+            return Ok(Found::Below(Below::new(alloc, prefix, rest)?));
         }
-        Ok(found)
+        self.remember(alloc, path, ends)?;
+        match (choice, first) {
+            (Choice::MaybeFirst, Some(end)) => {
+                let (prefix, rest) = path.split(*end);
+                Ok(Found::Maybe(Below::new(alloc, prefix, rest)?))
+            }
+            _ => Ok(Found::Nothing),
+        }
     }
 }
 
-/// A prefix that the user names, and the folder where what is below it lies, with a slash at its end.
-#[derive(Drop)]
-pub struct Prefix {
-    left: String,
-    pub folder: String,
-}
-
-impl Prefix {
-    /// The prefix of a URL or a path; None if it is neither.
-    pub fn new(alloc: Global, left: &str, folder: String) -> Result<Option<Prefix>, AllocError> {
-        let Some(path) = CodePath::of_name(alloc, left)? else {
-            return Ok(None);
-        };
-        let mut left = path.text;
-        if !left.ends_with('/') {
-            left.push('/')?;
-        }
-        Ok(Some(Prefix { left, folder }))
+/// The prefix of a URL or a path, whose rests are in a folder with a slash at its end; None if it is neither.
+pub fn prefix_of(alloc: Global, left: &str, folder: String) -> Result<Option<Prefix>, AllocError> {
+    let Some(path) = CodePath::of_name(alloc, left)? else {
+        return Ok(None);
+    };
+    let mut left = path.text;
+    if !left.ends_with('/') {
+        left.push('/')?;
     }
-
-    /// What is behind this prefix in a path.
-    fn rest<'p>(&self, path: &'p CodePath) -> Option<&'p str> {
-        let rest = path.text.as_str().strip_prefix(self.left.as_str())?;
-        if rest.is_empty() { None } else { Some(rest) }
-    }
+    Ok(Some(Prefix { left, folder }))
 }
 
 /// The longest of some prefixes that a path has, and what is behind it there.
@@ -319,15 +336,7 @@ pub fn named_prefix<'a, 'p>(
     prefixes: &'a [Prefix],
     path: &'p CodePath,
 ) -> Option<(&'a Prefix, &'p str)> {
-    let mut longest: Option<(&Prefix, &str)> = None;
-    for prefix in prefixes {
-        let Some(rest) = prefix.rest(path) else {
-            continue;
-        };
-        let is_longer = longest.is_none_or(|(other, _)| prefix.left.len() > other.left.len());
-        if is_longer {
-            longest = Some((prefix, rest));
-        }
-    }
-    longest
+    let text = path.text.as_str();
+    let prefix = prefixes.get(longest_prefix(prefixes, text)?)?;
+    Some((prefix, text.strip_prefix(prefix.left.as_str())?))
 }

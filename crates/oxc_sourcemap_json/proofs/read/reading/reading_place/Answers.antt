@@ -2,7 +2,7 @@ use Rattle.std.proofs.Common.{◌≡◌, ◌+◌, ◌∙◌, arith, refl, sym, a
 use Rattle.std.proofs.lemmas.List.{take-append-drop, length-take-le}
 use Rattle.oxc_sourcemap_tokens.specs.declared.errors.fault.FaultPlace.{FaultPlace}
 use Rattle.oxc_sourcemap_json.specs.TextBytes.{line_start, line_feeds}
-use Rattle.oxc_sourcemap_json.specs.ValuePlaces.{IsReadingFrom}
+use Rattle.oxc_sourcemap_json.specs.ValuePlaces.{IsBytePlaceFrom}
 use Rattle.oxc_sourcemap_json.proofs.TextBytes.{front-start}
 use Rattle.oxc_sourcemap_json.proofs.read.reading.reading_place.Goals as goal
 
@@ -18,4 +18,4 @@ returns c =
     ∙ ap (λ xs. line_start xs (line_feeds (take byte text))) (sym front)) in
     let size : length (take byte c.as_bytes.result.now) ≡ byte = ap length front ∙ length-take-le byte text c.requires in
     let sum : line_start text found.result.0 + found.result.1 ≡ byte = omega (arith, begins, found.ensures.rest, size) in
-    subst (IsReadingFrom byte text) (sym c.new.ensures) (refl, refl, (omega arith, (c.requires, line, sum)))
+    subst (IsBytePlaceFrom byte text) (sym c.new.ensures) (refl, refl, (omega arith, (c.requires, line, sum)))

@@ -1,6 +1,0 @@
-//! What is wrong in maps, what differs and what ran: the commands `check`, `coverage`, `diff` and `page` of the program `sourcemap`.
-
-pub mod check;
-pub mod coverage;
-pub mod diff;
-pub mod page;

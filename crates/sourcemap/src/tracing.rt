@@ -1,7 +1,0 @@
-//! What positions and stack traces come from: the commands `trace` and `resolve` of the program `sourcemap`.
-
-mod context;
-mod maps;
-mod positions;
-pub mod resolve;
-pub mod trace;

@@ -1,0 +1,371 @@
+//! `check`: what is wrong in maps, and what they hold.
+use oxc_sourcemap_found::{FoundParts, Mend, read_found_parts};
+use oxc_sourcemap_map::SourceMap;
+use oxc_sourcemap_text::TextPositions;
+use oxc_sourcemap_tokens::{Error, Token};
+use sourcemap_files::{
+    Asked, Lookup, MapText, Progress, Status, error_text, found_error_text, is_file, is_map_file,
+    map_of_code, print, read_text, shown_name, tell,
+};
+use sourcemap_run::{push_object, push_text_member};
+use sourcemap_texts::{push_shown, push_visible};
+use sourcemap_words::{Failure, Outcome, failure_of};
+use std::alloc::{AllocError, Global};
+
+/// What is told of a map.
+#[derive(Clone, Copy, PartialEq, Eq)]
+enum Kind {
+    Summary,
+    Wrong,
+    Note,
+}
+
+impl Kind {
+    fn name(self) -> &'static str {
+        match self {
+            Kind::Summary => "summary",
+            Kind::Wrong => "wrong",
+            Kind::Note => "note",
+        }
+    }
+}
+
+/// What is told of one file, as it is printed.
+#[derive(Drop)]
+struct Report {
+    alloc: Global,
+    file: String,
+    json: bool,
+    out: String,
+    is_wrong: bool,
+}
+
+impl Report {
+    fn tell(&mut self, kind: Kind, text: &str) -> Outcome<()> {
+        self.is_wrong |= kind == Kind::Wrong;
+        if !self.json {
+            let (file, name) = (&self.file, kind.name());
+            let line = match kind {
+                Kind::Summary => format!(in self.alloc; "{file}: {text}")?,
+                _ => format!(in self.alloc; "{file}: {name}: {text}")?,
+            };
+            push_visible(line.as_str(), &mut self.out)?;
+            return Ok(self.out.push('\n')?);
+        }
+        let mut members = String::new(self.alloc);
+        push_text_member("file", self.file.as_str(), &mut members)?;
+        push_text_member("kind", kind.name(), &mut members)?;
+        push_text_member("text", text, &mut members)?;
+        push_object(members.as_str(), &mut self.out)?;
+        Ok(self.out.push('\n')?)
+    }
+}
+
+/// A number of things, as `1 line` and `2 lines`.
+fn count_of(alloc: Global, count: u64, what: &str) -> Result<String, AllocError> {
+    let end = if count == 1 { "" } else { "s" };
+    format!(in alloc; "{count} {what}{end}")
+}
+
+/// How many bytes of contents a map has.
+fn content_bytes(map: &SourceMap<'_>) -> usize {
+    let mut bytes = 0usize;
+    for content in map.get_source_contents() {
+        bytes = bytes.saturating_add(content.map_or(0, |content| content.len()));
+    }
+    bytes
+}
+
+fn tell_summary(report: &mut Report, text: &str, map: &SourceMap<'_>) -> Outcome<()> {
+    let alloc = report.alloc;
+    let tokens = map.get_tokens().as_slice();
+    let lines = tokens
+        .last()
+        .map_or(0, |token| u64::from(token.get_dst_line()) + 1);
+    let sources = count_of(alloc, map.get_sources().count() as u64, "source")?;
+    let names = count_of(alloc, map.get_names().count() as u64, "name")?;
+    let count = count_of(alloc, tokens.len() as u64, "token")?;
+    let lines = count_of(alloc, lines, "line")?;
+    let (bytes, contents) = (text.len(), content_bytes(map));
+    let text = format!(in alloc;
+        "{sources}, {names}, {count} on {lines}; {bytes} bytes, of which {contents} are contents"
+    )?;
+    report.tell(Kind::Summary, text.as_str())
+}
+
+/// Lines on which a token is before the one ahead of it.
+fn tell_unsorted(report: &mut Report, tokens: &[Token]) -> Outcome<()> {
+    let mut lines = 0u64;
+    let mut first = None;
+    let mut last = None;
+    for (ahead, token) in tokens.iter().zip(tokens.iter().skip(1)) {
+        let (line, column) = (token.get_dst_line(), token.get_dst_col());
+        if line != ahead.get_dst_line() || ahead.get_dst_col() <= column {
+            continue;
+        }
+        if last != Some(line) {
+            lines = lines.saturating_add(1);
+        }
+        last = Some(line);
+        first = first.or(Some((line, column)));
+    }
+    let Some((line, column)) = first else {
+        return Ok(());
+    };
+    let have = if lines == 1 { "has" } else { "have" };
+    let lines = count_of(report.alloc, lines, "line")?;
+    let text = format!(in report.alloc;
+        "{lines} {have} tokens out of order, the first at line {line}, column {column}"
+    )?;
+    report.tell(Kind::Wrong, text.as_str())
+}
+
+/// What the exact reader refuses, and where. What is no JSON of a map to that reader is told by what is mended of it alone; of ids and
+/// sections that tells only how many are wrong.
+fn tell_refused(report: &mut Report, text: &str, error: Error, mends: &[Mend]) -> Outcome<()> {
+    if matches!(error, Error::BadJson(_)) && !mends.is_empty() {
+        return Ok(());
+    }
+    let text = error_text(report.alloc, text, error)?;
+    report.tell(Kind::Wrong, text.as_str())
+}
+
+/// What the exact reader refuses or leaves unsorted, and where; and what the tolerant one mends.
+fn tell_faults(report: &mut Report, text: &str, mends: &[Mend]) -> Outcome<()> {
+    let alloc = report.alloc;
+    match SourceMap::from_json_string(alloc, text) {
+        Ok(map) => tell_unsorted(report, map.get_tokens().as_slice())?,
+        Err(error) => tell_refused(report, text, error, mends)?,
+    }
+    for mend in mends {
+        let text = format!(in alloc; "{mend}")?;
+        report.tell(Kind::Wrong, text.as_str())?;
+    }
+    Ok(())
+}
+
+/// Positions that are not there in a text, as many as there are and the first of them.
+#[derive(Clone, Copy, Default)]
+struct Past {
+    count: u64,
+    first: Option<(u32, u32)>,
+}
+
+impl Past {
+    fn note(&mut self, positions: &TextPositions<'_>, line: u32, column: u32) {
+        if positions.offset(line, column).is_err() {
+            self.count = self.count.saturating_add(1);
+            if self.first.is_none() {
+                self.first = Some((line, column));
+            }
+        }
+    }
+
+    fn tell(&self, report: &mut Report, what: &str) -> Outcome<()> {
+        let Some((line, column)) = self.first else {
+            return Ok(());
+        };
+        let are = if self.count == 1 { "is" } else { "are" };
+        let tokens = count_of(report.alloc, self.count, "token")?;
+        let text = format!(in report.alloc;
+            "{tokens} {are} past the end of {what} or of one of its lines, the first at line {line}, column {column}"
+        )?;
+        report.tell(Kind::Wrong, text.as_str())
+    }
+}
+
+fn tell_past_code(report: &mut Report, code: &str, tokens: &[Token]) -> Outcome<()> {
+    let positions = TextPositions::new(report.alloc, code)?;
+    let mut past = Past::default();
+    for token in tokens {
+        past.note(&positions, token.get_dst_line(), token.get_dst_col());
+    }
+    past.tell(report, "the code")
+}
+
+/// Whether a token points to a source.
+fn is_of_source(token: &Token, id: u32) -> bool {
+    token.get_source_id() == Some(id)
+}
+
+fn tell_past_content(
+    report: &mut Report,
+    map: &SourceMap<'_>,
+    id: u32,
+    content: &str,
+) -> Outcome<()> {
+    let positions = TextPositions::new(report.alloc, content)?;
+    let mut past = Past::default();
+    for token in map.get_tokens().as_slice() {
+        if is_of_source(token, id) {
+            past.note(&positions, token.get_src_line(), token.get_src_col());
+        }
+    }
+    let mut what = String::from_str(report.alloc, "the content of ")?;
+    push_shown(map.get_source(id).unwrap_or(""), &mut what)?;
+    past.tell(report, what.as_str())
+}
+
+fn tell_contents(report: &mut Report, map: &SourceMap<'_>) -> Outcome<()> {
+    let mut missing = String::new(report.alloc);
+    for (id, source) in map.get_sources().enumerate() {
+        let id = u32::try_from(id).unwrap_or(u32::MAX);
+        match map.get_source_content(id) {
+            Some(content) => tell_past_content(report, map, id, content)?,
+            None => {
+                missing.push_str(if missing.is_empty() {
+                    "no content: "
+                } else {
+                    ", "
+                })?;
+                push_shown(source, &mut missing)?;
+            }
+        }
+    }
+    if missing.is_empty() {
+        return Ok(());
+    }
+    report.tell(Kind::Note, missing.as_str())
+}
+
+/// How much a simplified map has less.
+fn tell_unneeded(report: &mut Report, map: SourceMap<'static>) -> Outcome<()> {
+    let alloc = report.alloc;
+    let (tokens, names, sources) = (
+        map.get_tokens().as_slice().len(),
+        map.get_names().count(),
+        map.get_sources().count(),
+    );
+    let mut simple = map;
+    simple.simplify(alloc)?;
+    let tokens = tokens.saturating_sub(simple.get_tokens().as_slice().len());
+    let names = names.saturating_sub(simple.get_names().count());
+    let sources = sources.saturating_sub(simple.get_sources().count());
+    if tokens == 0 && names == 0 && sources == 0 {
+        return Ok(());
+    }
+    let tokens = count_of(alloc, tokens as u64, "token")?;
+    let names = count_of(alloc, names as u64, "name")?;
+    let sources = count_of(alloc, sources as u64, "source")?;
+    let text = format!(in alloc;
+        "nothing needs {tokens}, {names} and {sources}: see `sourcemap remap --simplify`"
+    )?;
+    report.tell(Kind::Note, text.as_str())
+}
+
+/// What is told of a map, and of its code if there is one.
+fn check_map(report: &mut Report, text: &str, code: Option<&str>) -> Outcome<()> {
+    let alloc = report.alloc;
+    let FoundParts { parts, mends } = match read_found_parts(alloc, text) {
+        Ok(found) => found,
+        Err(error) => {
+            let text = found_error_text(alloc, text, error)?;
+            return report.tell(Kind::Wrong, text.as_str());
+        }
+    };
+    let map = SourceMap::from_parts(parts);
+    tell_summary(report, text, &map)?;
+    tell_faults(report, text, mends.as_slice())?;
+    if let Some(code) = code {
+        tell_past_code(report, code, map.get_tokens().as_slice())?;
+    }
+    tell_contents(report, &map)?;
+    tell_unneeded(report, map)
+}
+
+/// The code of a map that is named as its code with `.map` at the end.
+fn code_of(rt: &HostRuntime, map: &str) -> Outcome<Option<String>> {
+    match map.strip_suffix(".map") {
+        Some(code) if is_file(rt, code) => Ok(Some(read_text(rt, code)?)),
+        _ => Ok(None),
+    }
+}
+
+fn report_on(asked: &Asked<'_, '_>, file: &str) -> Result<Report, AllocError> {
+    Ok(Report {
+        alloc: asked.alloc(),
+        file: String::from_str(asked.alloc(), shown_name(file))?,
+        json: asked.has("json"),
+        out: String::new(asked.alloc()),
+        is_wrong: false,
+    })
+}
+
+/// What is told of a map and its code, as objects, one a line.
+pub fn objects_of(asked: &Asked<'_, '_>, map: &MapText, code: &str) -> Outcome<String> {
+    let mut report = report_on(asked, map.name.as_str())?;
+    report.json = true;
+    check_map(&mut report, map.text.as_str(), Some(code))?;
+    Ok(report.out)
+}
+
+/// What is told of a map, beside its code if that is there.
+fn check_as_map(rt: &HostRuntime, file: &str, text: &str, report: &mut Report) -> Outcome<()> {
+    match code_of(rt, file)? {
+        Some(code) => check_map(report, text, Some(code.as_str())),
+        None => check_map(report, text, None),
+    }
+}
+
+/// What is told of the map of a code.
+fn check_as_code(
+    asked: &Asked<'_, '_>,
+    file: &str,
+    code: &str,
+    report: &mut Report,
+) -> Outcome<()> {
+    match map_of_code(asked.rt, file, code, asked.places())? {
+        Lookup::Map(
+            MapText {
+                name,
+                folder: _,
+                text,
+            },
+        ) => {
+            report.file = name;
+            check_map(report, text.as_str(), Some(code))
+        }
+        Lookup::None(why) => report.tell(Kind::Wrong, why.as_str()),
+    }
+}
+
+/// What is told of a file.
+fn check_file(asked: &Asked<'_, '_>, file: &str) -> Outcome<Report> {
+    let mut report = report_on(asked, file)?;
+    let text = read_text(asked.rt, file)?;
+    if is_map_file(file, text.as_str()) {
+        check_as_map(asked.rt, file, text.as_str(), &mut report)?;
+    } else {
+        check_as_code(asked, file, text.as_str(), &mut report)?;
+    }
+    Ok(report)
+}
+
+/// Runs the command `check`.
+pub fn run(asked: &Asked<'_, '_>) -> Outcome<Status> {
+    let files = asked.words("FILE")?;
+    let mut progress = Progress::new(asked.rt, files.len());
+    let mut is_wrong = false;
+    let mut trouble = None;
+    for file in &files {
+        progress.begin(asked.rt, file);
+        match check_file(asked, file) {
+            Ok(report) => {
+                progress.clear(asked.rt);
+                print(asked.rt, report.out.as_str())?;
+                is_wrong |= report.is_wrong;
+            }
+            Err(Failure::Told(text)) => {
+                progress.clear(asked.rt);
+                tell(asked.rt, text.as_str());
+                trouble = Some(*file);
+            }
+            Err(failure) => return Err(failure),
+        }
+    }
+    progress.clear(asked.rt);
+    match trouble {
+        Some(file) => Err(failure_of(asked.alloc(), file, "was not checked, see above")),
+        None => Ok(Status::of(!is_wrong)),
+    }
+}

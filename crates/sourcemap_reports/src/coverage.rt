@@ -1,0 +1,375 @@
+//! `coverage`: lines of originals that ran, by V8's block coverage.
+
+use oxc_sourcemap_map::SourceMap;
+use oxc_sourcemap_text::{TextPositions, utf16_units};
+use oxc_sourcemap_tokens::Position;
+use sourcemap_files::{
+    Asked, CodeFile, InputPrefix, Lookup, MapText, Places, Progress, Sought, Status, find_code,
+    is_file, is_in_root, map_of_code, path_of_url, plain_path, print, read_map, read_text,
+    shown_name, tell, warn,
+};
+use sourcemap_run::{
+    Block, LineCounts, Mark, Totals, add_counts, count_lines, counted_lines, percent, push_covered,
+    push_lcov, push_marks, push_missed, ran,
+};
+use sourcemap_texts::{is_hidden, push_shown};
+use sourcemap_words::{Outcome, Report, Run, Script, failure_of, runs_of};
+use std::alloc::{AllocError, Global};
+use std::collections::BTreeMap;
+use std::env;
+
+/// So many codes that are left out are told one by one, and more by their number.
+const FEW: usize = 8;
+
+/// What V8 tells, by source.
+#[derive(Drop)]
+struct Coverage {
+    alloc: Global,
+    /// The current folder, with a slash at its end.
+    folder: String,
+    /// What is before the paths of codes in the root.
+    input: InputPrefix,
+    sources: Totals,
+    /// The codes that are left out, and what is told of them.
+    left_out: BTreeMap<String, String>,
+}
+
+/// The code of a script, and its positions.
+#[derive(Clone, Copy)]
+struct Code<'c> {
+    units: &'c [u16],
+    positions: &'c TextPositions<'c>,
+}
+
+/// Whether a unit is code of some line. White space and punctuation that a generator puts in or leaves out is of no line, and blocks
+/// begin and end at it.
+fn is_code(unit: u16) -> bool {
+    let is_space = matches!(unit, 9..=13 | 32 | 0xa0 | 0x2028 | 0x2029 | 0xfeff);
+    let is_mark = b"()[]{},:;".iter().any(|mark| u16::from(*mark) == unit);
+    !is_space && !is_mark
+}
+
+/// Whether there is code in a piece. A piece that goes past the end of its line ends with it.
+fn has_code(code: &Code<'_>, mark: &Mark) -> bool {
+    let Ok(start) = code.positions.offset(mark.start.line, mark.start.column) else {
+        return false;
+    };
+    let end = match code.positions.offset(mark.end.line, mark.end.column) {
+        Ok(end) => end as usize,
+        Err(_) => code.units.len(),
+    };
+    let part = code.units.get(start as usize..end).unwrap_or(&[]);
+    part.iter().any(|unit| is_code(*unit))
+}
+
+/// The positions of a run; None if V8 tells of another code.
+fn block_of(positions: &TextPositions<'_>, run: &Run) -> Option<Block> {
+    let (line, column) = positions.position(run.start).ok()?;
+    let (end_line, end_column) = positions.position(run.end).ok()?;
+    Some(Block {
+        start: Position { line, column },
+        end: Position {
+            line: end_line,
+            column: end_column,
+        },
+        count: run.count,
+    })
+}
+
+/// What all pieces of a script say of lines.
+fn marks_of(
+    alloc: Global,
+    map: &SourceMap<'_>,
+    positions: &TextPositions<'_>,
+    runs: &[Run],
+) -> Result<Vec<Mark>, AllocError> {
+    let mut marks = Vec::new(alloc);
+    for run in runs {
+        if let Some(block) = block_of(positions, run) {
+            push_marks(map, block, &mut marks)?;
+        }
+    }
+    Ok(marks)
+}
+
+/// How often lines ran, by source id and number: as often as the code of theirs that ran most often.
+fn lines_of(alloc: Global, code: &str, map: &SourceMap<'_>, runs: &[Run]) -> Outcome<LineCounts> {
+    let positions = TextPositions::new(alloc, code)?;
+    let units = utf16_units(alloc, code)?;
+    let code = Code {
+        units: units.as_slice(),
+        positions: &positions,
+    };
+    let mut marks = marks_of(alloc, map, &positions, runs)?;
+    marks.retain(|mark| has_code(&code, mark));
+    Ok(count_lines(alloc, marks.as_slice())?)
+}
+
+/// The path of a source of a map in a folder, `..` taken together with the parts before it: from the current folder if it is in that,
+/// else from the root. An empty path, a URL but one of a file, and a path from a drive stay.
+fn path_from_here(
+    alloc: Global,
+    current: &str,
+    folder: &str,
+    source: &str,
+) -> Result<String, AllocError> {
+    if source.is_empty() {
+        return Ok(String::new(alloc));
+    }
+    let named = if source.starts_with("file:") {
+        path_of_url(alloc, source)?
+    } else {
+        None
+    };
+    let source = named.as_ref().map_or(source, |path| path.as_str());
+    let (folder, path) = match source.strip_prefix('/') {
+        Some(path) => (String::from_str(alloc, "/")?, path),
+        None if folder.starts_with('/') => (String::from_str(alloc, folder)?, source),
+        None => (format!(in alloc; "{current}{folder}")?, source),
+    };
+    let whole = plain_path(alloc, folder.as_str(), path)?;
+    String::from_str(
+        alloc,
+        whole
+            .as_str()
+            .strip_prefix(current)
+            .unwrap_or(whole.as_str()),
+    )
+}
+
+impl Coverage {
+    fn new(asked: &Asked<'_, '_>) -> Outcome<Coverage> {
+        let alloc = asked.alloc();
+        let folder = match env::current_dir(asked.rt) {
+            Ok(folder) => format!(in alloc; "{}/", folder.as_path().as_str())?,
+            Err(error) => return Err(failure_of(alloc, "the current folder", error)),
+        };
+        Ok(Coverage {
+            alloc,
+            folder,
+            input: asked.input_prefix()?,
+            sources: Totals::new(alloc),
+            left_out: BTreeMap::new(alloc),
+        })
+    }
+
+    /// Adds the lines of a script to those of its sources.
+    fn add(&mut self, map: &SourceMap<'_>, folder: &str, lines: &LineCounts) -> Outcome<()> {
+        let mut paths = Vec::new(self.alloc);
+        for source in map.get_sources() {
+            paths.push(path_from_here(self.alloc, self.folder.as_str(), folder, source)?)?;
+        }
+        Ok(add_counts(self.alloc, &mut self.sources, paths.as_slice(), lines)?)
+    }
+
+    fn leave_out(&mut self, code: &str, why: String) -> Outcome<()> {
+        let _ = self
+            .left_out
+            .insert(String::from_str(self.alloc, code)?, why)?;
+        Ok(())
+    }
+
+    /// Adds what V8 tells of a script with this code and this map.
+    fn add_mapped(
+        &mut self,
+        asked: &Asked<'_, '_>,
+        script: &Script,
+        code: &str,
+        text: &MapText,
+    ) -> Outcome<()> {
+        let mut map = read_map(asked.rt, text)?;
+        map.apply_source_root(self.alloc)?;
+        let runs = runs_of(self.alloc, script)?;
+        let lines = lines_of(self.alloc, code, &map, runs.as_slice())?;
+        self.add(&map, text.folder.as_str(), &lines)
+    }
+
+    /// The code of a script, if it is there.
+    fn code_of(&mut self, asked: &Asked<'_, '_>, url: &str) -> Outcome<Option<CodeFile>> {
+        let found = match find_code(asked.rt, url, asked.places(), &mut self.input)? {
+            Sought::Code(found) => found,
+            _sought => return Ok(None),
+        };
+        if is_file(asked.rt, found.path.as_str()) {
+            Ok(Some(found))
+        } else {
+            Ok(None)
+        }
+    }
+
+    /// Adds what V8 tells of a script, if its code is found and has a map.
+    fn add_script(&mut self, asked: &Asked<'_, '_>, script: &Script) -> Outcome<()> {
+        let url = script.url.as_str();
+        if is_of_engine(url) {
+            return Ok(());
+        }
+        match self.code_of(asked, url)? {
+            Some(found) => self.add_code(asked, script, found),
+            None => {
+                let why = format!(in self.alloc;
+                    "{url} is not in the root: name its folder by --root"
+                )?;
+                self.leave_out(url, why)
+            }
+        }
+    }
+
+    /// Adds what V8 tells of a script with this code, if that has a map.
+    fn add_code(&mut self, asked: &Asked<'_, '_>, script: &Script, found: CodeFile) -> Outcome<()> {
+        let rt = asked.rt;
+        let path = found.path.as_str();
+        let places = Places {
+            root: found.folder.as_str(),
+            ..asked.places()
+        };
+        if !is_in_root(rt, path, places) {
+            let why = format!(in self.alloc;
+                "{path} is a link out of the root: allow it by --outside"
+            )?;
+            return self.leave_out(path, why);
+        }
+        let code = read_text(rt, path)?;
+        match map_of_code(rt, path, code.as_str(), places)? {
+            Lookup::Map(text) => self.add_mapped(asked, script, code.as_str(), &text),
+            Lookup::None(why) => self.leave_out(path, why),
+        }
+    }
+
+    /// Tells which codes are left out, or how many if they are not few, and that nothing is found.
+    fn tell_left_out(&self, rt: &HostRuntime) -> Outcome<()> {
+        let count = self.left_out.len();
+        for why in self.left_out.values().take(FEW) {
+            warn(rt, "left out", why.as_str());
+        }
+        if count > FEW {
+            let more = count.saturating_sub(FEW);
+            let codes = if more == 1 { "code is" } else { "codes are" };
+            let text = format!(in self.alloc; "{more} more {codes} left out")?;
+            tell(rt, text.as_str());
+        }
+        if self.sources.is_empty() {
+            tell(rt, "no line of an original is found in what V8 tells");
+        }
+        Ok(())
+    }
+}
+
+/// Whether V8 names a script that is no file: of Node, or of a text that was evaluated.
+fn is_of_engine(url: &str) -> bool {
+    url.is_empty() || url.starts_with("node:") || url.starts_with("evalmachine.")
+}
+
+/// Adds what a file of V8 tells.
+fn add_file(asked: &Asked<'_, '_>, file: &str, coverage: &mut Coverage) -> Outcome<()> {
+    let alloc = asked.alloc();
+    let text = read_text(asked.rt, file)?;
+    let report: Report = match serde_json::from_str(alloc, text.as_str()) {
+        Ok(report) => report,
+        Err(error) => {
+            let text = format!(in alloc;
+                "is no coverage of V8, as Node writes it for NODE_V8_COVERAGE: {error}"
+            )?;
+            return Err(failure_of(alloc, shown_name(file), text.as_str()));
+        }
+    };
+    for script in &report.result {
+        coverage.add_script(asked, script)?;
+    }
+    Ok(())
+}
+
+fn push_row(
+    alloc: Global,
+    source: &str,
+    ran: u64,
+    all: u64,
+    missed: &str,
+    out: &mut String,
+) -> Outcome<()> {
+    let Some(percent) = percent(ran, all) else {
+        return Ok(out.push_str("no lines\n")?);
+    };
+    let tail = if missed.is_empty() { "" } else { "  missed: " };
+    let row = format!(in alloc; "{percent:>3} %  {ran:>6} of {all:>6} lines  ")?;
+    out.push_str(row.as_str())?;
+    push_shown(source, out)?;
+    out.push_str(format!(in alloc; "{tail}{missed}\n")?.as_str())?;
+    Ok(())
+}
+
+fn table(alloc: Global, sources: &Totals) -> Outcome<String> {
+    let mut out = String::new(alloc);
+    let (mut total, mut all) = (0u64, 0u64);
+    for (source, lines) in sources {
+        let lines = counted_lines(alloc, lines)?;
+        let (own, count) = (ran(lines.as_slice()), lines.len() as u64);
+        let mut missed = String::new(alloc);
+        push_missed(alloc, lines.as_slice(), &mut missed)?;
+        total = total.saturating_add(own);
+        all = all.saturating_add(count);
+        push_row(
+            alloc,
+            source.as_str(),
+            own,
+            count,
+            missed.as_str(),
+            &mut out,
+        )?;
+    }
+    push_row(alloc, "all", total, all, "", &mut out)?;
+    Ok(out)
+}
+
+/// The lines as lcov reads them, to which a line feed in a path would be the end of it.
+fn lcov(rt: &HostRuntime, sources: &Totals) -> Outcome<String> {
+    let alloc = rt.alloc();
+    let mut out = String::new(alloc);
+    for (source, lines) in sources {
+        if source.as_str().chars().any(|ch| is_hidden(ch)) {
+            let mut shown = String::new(alloc);
+            push_shown(source.as_str(), &mut shown)?;
+            warn(
+                rt,
+                shown.as_str(),
+                "has a hidden character in its path, and is left out",
+            );
+            continue;
+        }
+        let lines = counted_lines(alloc, lines)?;
+        push_lcov(alloc, source.as_str(), lines.as_slice(), &mut out)?;
+    }
+    Ok(out)
+}
+
+fn objects(alloc: Global, sources: &Totals) -> Outcome<String> {
+    let mut out = String::new(alloc);
+    for (source, lines) in sources {
+        let lines = counted_lines(alloc, lines)?;
+        push_covered(alloc, source.as_str(), lines.as_slice(), &mut out)?;
+    }
+    Ok(out)
+}
+
+/// Runs the command `coverage`.
+pub fn run(asked: &Asked<'_, '_>) -> Outcome<Status> {
+    let alloc = asked.alloc();
+    let files = asked.words("V8.json")?;
+    let mut progress = Progress::new(asked.rt, files.len());
+    let mut coverage = Coverage::new(asked)?;
+    for file in &files {
+        progress.begin(asked.rt, file);
+        add_file(asked, file, &mut coverage)?;
+    }
+    progress.clear(asked.rt);
+    coverage.tell_left_out(asked.rt)?;
+    let sources = &coverage.sources;
+    let text = if asked.has("json") {
+        objects(alloc, sources)?
+    } else if asked.has("lcov") {
+        lcov(asked.rt, sources)?
+    } else {
+        table(alloc, sources)?
+    };
+    print(asked.rt, text.as_str())?;
+    Ok(Status::of(!sources.is_empty()))
+}

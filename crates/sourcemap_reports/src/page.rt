@@ -1,0 +1,183 @@
+//! `page`: a code beside its originals, in one file for browsers.
+use crate::check::objects_of;
+use sourcemap_files::{
+    Asked, Lookup, MapText, Status, folder_of, is_file, is_map, map_of_code, map_of_file, print,
+    read_map, read_text, real_name, shown_name, usage, write_text,
+};
+use sourcemap_run::{MARK, fill_template, push_number_member, push_object, push_text_member};
+use sourcemap_words::{Outcome, failure_of};
+use std::alloc::{AllocError, Global};
+use std::env;
+
+const VARIABLE: &str = "SOURCEMAP_PAGE";
+/// The template beside the program, from the folder that the program is in.
+const BESIDE: &str = "../share/sourcemap/page.html";
+
+/// The path of the template beside the program; None if the system does not tell where the program is.
+fn beside_program(rt: &HostRuntime) -> Result<Option<String>, AllocError> {
+    let Ok(program) = env::current_exe(rt) else {
+        return Ok(None);
+    };
+    let folder = folder_of(program.as_path().as_str());
+    Ok(Some(format!(in rt.alloc(); "{folder}{BESIDE}")?))
+}
+
+/// The path of the template: of `--template`, else of the environment, else beside the program.
+fn template_path(asked: &Asked<'_, '_>) -> Outcome<String> {
+    let alloc = asked.alloc();
+    if let Some(path) = asked.matches.get_str("template") {
+        return Ok(String::from_str(alloc, path)?);
+    }
+    if let Ok(path) = env::var(asked.rt, VARIABLE) {
+        return Ok(path);
+    }
+    match beside_program(asked.rt)? {
+        Some(path) if is_file(asked.rt, path.as_str()) => Ok(path),
+        Some(path) => Err(failure_of(
+            alloc,
+            path.as_str(),
+            "the template of pages is not there: name it by --template or SOURCEMAP_PAGE",
+        )),
+        None => Err(usage(
+            asked.rt,
+            "the template of pages is not found: name it by --template or SOURCEMAP_PAGE",
+        )),
+    }
+}
+
+/// The map that is named, or that of the code.
+fn map_text(asked: &Asked<'_, '_>, code: &str, text: &str) -> Outcome<MapText> {
+    if let Some(map) = asked.matches.get_str("MAP") {
+        return map_of_file(asked.rt, map, asked.places());
+    }
+    match map_of_code(asked.rt, code, text, asked.places())? {
+        Lookup::Map(map) => Ok(map),
+        Lookup::None(why) => Err(failure_of(asked.alloc(), shown_name(code), why.as_str())),
+    }
+}
+
+/// Appends an object of a name and a text.
+fn push_named(alloc: Global, name: &str, text: &str, out: &mut String) -> Outcome<()> {
+    let mut members = String::new(alloc);
+    push_text_member("name", name, &mut members)?;
+    push_text_member("text", text, &mut members)?;
+    Ok(push_object(members.as_str(), out)?)
+}
+
+/// The data of a page: the code, the map, and what `check` says of them.
+fn data_of(asked: &Asked<'_, '_>, code: &str, text: &str, map: &MapText) -> Outcome<String> {
+    let alloc = asked.alloc();
+    let mut out = String::from_str(alloc, "{\"code\":")?;
+    push_named(alloc, shown_name(code), text, &mut out)?;
+    out.push_str(",\"map\":")?;
+    push_named(alloc, map.name.as_str(), map.text.as_str(), &mut out)?;
+    out.push_str(",\"report\":[")?;
+    let objects = objects_of(asked, map, text)?;
+    for (i, object) in objects.as_str().lines().enumerate() {
+        if i > 0 {
+            out.push(',')?;
+        }
+        out.push_str(object)?;
+    }
+    out.push_str("]}")?;
+    Ok(out)
+}
+
+/// The page, of the template and its data.
+fn page_of(asked: &Asked<'_, '_>, content: &str) -> Outcome<String> {
+    let alloc = asked.alloc();
+    let path = template_path(asked)?;
+    let template = read_text(asked.rt, path.as_str())?;
+    match fill_template(alloc, template.as_str(), content)? {
+        Some(page) => Ok(page),
+        None => {
+            let text = format!(in alloc; "is no template of pages: it has no mark {MARK}")?;
+            Err(failure_of(alloc, path.as_str(), text.as_str()))
+        }
+    }
+}
+
+/// The object of `--json`.
+fn object_of(asked: &Asked<'_, '_>, code: &str, map: &MapText, bytes: usize) -> Outcome<String> {
+    let alloc = asked.alloc();
+    let mut members = String::new(alloc);
+    push_text_member("output", asked.word("output"), &mut members)?;
+    push_text_member("code", code, &mut members)?;
+    push_text_member("map", map.name.as_str(), &mut members)?;
+    push_number_member(alloc, "bytes", bytes as u64, &mut members)?;
+    let mut object = String::new(alloc);
+    push_object(members.as_str(), &mut object)?;
+    object.push('\n')?;
+    Ok(object)
+}
+
+/// Refuses words that are wrong together.
+fn check_words(asked: &Asked<'_, '_>) -> Outcome<()> {
+    if asked.word("CODE") == "-" && asked.word("MAP") == "-" {
+        return Err(usage(
+            asked.rt,
+            "standard input is the code: name a file for the map",
+        ));
+    }
+    if asked.has("json") && asked.word("output") == "-" {
+        return Err(usage(
+            asked.rt,
+            "standard output has the page: name a file by -o, or leave out --json",
+        ));
+    }
+    Ok(())
+}
+
+/// Refuses to write the page over a file that it is made of.
+fn check_output(asked: &Asked<'_, '_>, map: &MapText) -> Outcome<()> {
+    let (rt, output) = (asked.rt, asked.word("output"));
+    let real = real_name(rt, output)?;
+    let is_code = real == real_name(rt, asked.word("CODE"))?;
+    if output != "-" && (is_code || real == real_name(rt, map.name.as_str())?) {
+        return Err(failure_of(
+            asked.alloc(),
+            output,
+            "is the code or the map: name another file by -o",
+        ));
+    }
+    Ok(())
+}
+
+/// The text of the code. A map in its place is refused.
+fn read_code(asked: &Asked<'_, '_>) -> Outcome<String> {
+    let code = asked.word("CODE");
+    let text = read_text(asked.rt, code)?;
+    if is_map(text.as_str()) {
+        return Err(failure_of(
+            asked.alloc(),
+            shown_name(code),
+            "is a map: name its code, and the map behind it",
+        ));
+    }
+    Ok(text)
+}
+
+/// Writes the page, and tells of it.
+fn write(asked: &Asked<'_, '_>, text: &str, map: &MapText) -> Outcome<()> {
+    let code = asked.word("CODE");
+    let content = data_of(asked, code, text, map)?;
+    let page = page_of(asked, content.as_str())?;
+    write_text(asked.rt, asked.word("output"), page.as_str())?;
+    if asked.has("json") {
+        let object = object_of(asked, code, map, page.len())?;
+        print(asked.rt, object.as_str())?;
+    }
+    Ok(())
+}
+
+/// Runs the command `page`.
+pub fn run(asked: &Asked<'_, '_>) -> Outcome<Status> {
+    check_words(asked)?;
+    let code = asked.word("CODE");
+    let text = read_code(asked)?;
+    let map = map_text(asked, code, text.as_str())?;
+    read_map(asked.rt, &map)?;
+    check_output(asked, &map)?;
+    write(asked, text.as_str(), &map)?;
+    Ok(Status::Found)
+}

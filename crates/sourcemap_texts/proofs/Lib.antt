@@ -1,0 +1,8 @@
+pub mod Numerals
+pub mod Longest
+pub mod OwnFolder
+pub mod LastCuts
+pub mod LentTexts
+pub mod Ways
+pub mod Moves
+mod Worked

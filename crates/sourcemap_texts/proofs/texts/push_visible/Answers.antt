@@ -1,0 +1,11 @@
+use Rattle.std.proofs.Common.{◌++◌, ◌∙◌, ap, sym, map-id, string_bytes}
+use Rattle.std.specs.List.{flat_map}
+use Rattle.std.proofs.lemmas.Iterator.{YieldsList-from_chars}
+use Rattle.std.proofs.lemmas.Iterator.Consumers.{YieldsList-end}
+use Rattle.sourcemap_texts.specs.Texts.{visible_char}
+use Rattle.sourcemap_texts.proofs.texts.push_visible.Goals as goal
+
+pub returns-clause-text : goal.returns-clause-text
+returns-clause-text c =
+    let end = YieldsList-end (YieldsList-from_chars c.args.text.now c.utf8.text cc) c.loop-ch.yielded _ c.loop-ch.yielded_by _ _ c.in-None.is c.next.ensures.steps in
+    c.loop-ch.invariant.bytes ∙ ap (λ cs. string_bytes c.args.out.now ++ flat_map visible_char cs) (sym (map-id c.loop-ch.yielded) ∙ end.0)

@@ -1,0 +1,5 @@
+pub mod Texts
+pub mod Positions
+pub mod Matching
+pub mod Paths
+pub mod Words

@@ -1,0 +1,98 @@
+-- Paths of sources, and what they name. A place in the tree of folders is given by its parts from the root on.
+use Rattle.std.specs.Prelude.{◌≡◌, ◌-◌, ℕ, Bool, not, true, false, ◌&&◌, ◌||◌, ◌==◌, List, [], ◌∷◌}
+use Rattle.std.specs.Prelude.{◌++◌}
+use Rattle.std.specs.Prelude.{codes, take, length, map, slice_index, if◌then◌else◌, String}
+use Rattle.std.specs.Prelude.{string_bytes}
+use Rattle.std.specs.List.{fold, list_any, slice_split, join_by, repeat, AllZip}
+use Rattle.std.specs.Str.{bytes_eq}
+use Rattle.std.specs.declared.alloc.Global.{Global}
+use Rattle.oxc_sourcemap_parts.specs.Record.{Text, MapRecord}
+use Rattle.oxc_sourcemap_parts.specs.Roots.{rooted}
+use Rattle.sourcemap_texts.specs.Positions.{is_colon}
+
+abbrev pub is_slash : ℕ → Bool
+is_slash byte = byte == 47
+
+-- the parts of a path, between its slashes
+abbrev pub parts_of : Text → List Text
+parts_of path = slice_split is_slash path
+
+-- a part leads nowhere: it is empty, or `.`
+abbrev pub is_here : Text → Bool
+is_here part = bytes_eq part [] || bytes_eq part (codes ".")
+
+-- where a part leads from a place: `..` to the folder that it is in, of which the root has none, and a name into the folder
+abbrev pub stepped : List Text → Text → List Text
+stepped place part =
+    if is_here part then place
+    else if bytes_eq part (codes "..") then take (length place - 1) place else place ++ part ∷ []
+
+-- where a path leads from a place
+abbrev pub led : List Text → Text → List Text
+led place path = fold stepped place (parts_of path)
+
+-- the folder that a folder is in: the root if its path begins with a slash, else `current`
+abbrev pub outer_folder : Text → Text → Text
+outer_folder current folder = if slice_index folder 0 == 47 then [] else current
+
+-- the place of a folder
+abbrev pub place_of : Text → Text → List Text
+place_of current folder = led (led [] (outer_folder current folder)) folder
+
+-- the place that a path names in a folder
+abbrev pub named : Text → Text → Text → List Text
+named current folder path = led (place_of current folder) path
+
+-- a path begins with a slash of some system
+abbrev pub begins_with_slash : Text → Bool
+begins_with_slash path = slice_index path 0 == 47 || slice_index path 0 == 92
+
+-- a path stands by itself: it is from the root or from a drive, or a URL
+abbrev pub is_absolute : Text → Bool
+is_absolute path = begins_with_slash path || list_any is_colon path
+
+-- a path names something by the folder that it is in
+abbrev pub is_in_folder : Text → Bool
+is_in_folder path = not (bytes_eq path [] || is_absolute path)
+
+-- the first of these parts does not make a path one from a drive, or a URL
+abbrev pub begins_plainly : List Text → Bool
+begins_plainly [] = false
+begins_plainly (part ∷ parts) = is_in_folder part
+
+-- A path of the folder `from` that became one of the folder `to`. If the path named something by its folder, the new one names it in
+-- the folder `to`, and is no URL and from no root or drive. Else it stays, and so does every path where both folders are one.
+pub record IsMoved (current from to path moved : Text) : Type 0 where
+  pub same_place : is_in_folder path ≡ true → named current to moved ≡ named current from path
+  pub plain : is_in_folder path ≡ true → begins_plainly (parts_of moved) ≡ true
+  pub absolute_stays : is_in_folder path ≡ false → moved ≡ path
+  pub stays : place_of current to ≡ place_of current from → moved ≡ path
+
+-- A map of the folder `from` that became one of the folder `to`: its source root is put before its sources, these are led there, and all
+-- else is as it was.
+pub record IsRebased (current from to : Text) (old new : MapRecord) : Type 0 where
+  pub paths : List Text
+  pub moved : AllZip (IsMoved current from to) (rooted old).sources paths
+  pub whole : new ≡ record (rooted old) { sources = paths }
+
+-- ---- words of functions that are not public
+-- the bytes of texts
+abbrev pub written : List (String Global) → List Text
+written texts = map string_bytes texts
+
+-- a part of a place: one that leads from a folder into it, without a slash
+abbrev pub is_name : Text → Bool
+is_name part = not (is_here part || bytes_eq part (codes "..") || list_any is_slash part)
+
+-- `./` in front of parts that a path may not begin with
+abbrev pub front_of : ℕ → List Text → Text
+front_of up parts = if up == 0 && not (begins_plainly parts) then codes "./" else []
+
+-- the path that goes up so many folders, and then has these parts
+abbrev pub climbing : ℕ → List Text → Text
+climbing up parts = repeat up (codes "../") ++ (front_of up parts ++ join_by (λ part. part) (codes "/") parts)
+
+-- A path leads from the place `base` to another one, and is neither from the root or from a drive, nor a URL.
+pub record LeadsTo (base place : List Text) (path : Text) : Type 0 where
+  pub there : led base path ≡ place
+  pub plain : begins_plainly (parts_of path) ≡ true

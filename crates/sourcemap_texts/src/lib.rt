@@ -1,0 +1,12 @@
+//! Texts of the program `sourcemap`, as functions over values: how they are shown, positions in words, and which code a path names.
+#![tactic(auto)]
+
+mod matching;
+mod paths;
+mod positions;
+mod texts;
+
+pub use matching::{Candidate, Choice, Prefix, choose, longest_prefix};
+pub use paths::{is_absolute, relative_path};
+pub use positions::{position_of, source_position_of};
+pub use texts::{is_hidden, push_shown, push_visible, push_visible_char, push_visible_string};

@@ -1,0 +1,209 @@
+//! Paths of sources, led from one folder to another.
+ghost use Rattle.std.specs.Prelude.{◌≡◌, ◌<◌, ◌≤◌, true, IfOk, OnOk, length, take};
+ghost use Rattle.std.specs.Prelude.{string_bytes};
+ghost use Rattle.std.specs.List.{common_prefix_len, list_all, list_any};
+ghost use Rattle.std.specs.Str.{bytes_eq};
+ghost use Rattle.sourcemap_texts.specs.Words.{lent_items, parts_of, stepped, led, outer_folder};
+ghost use Rattle.sourcemap_texts.specs.Words.{place_of, begins_with_slash, is_absolute};
+ghost use Rattle.sourcemap_texts.specs.Words.{is_in_folder, is_colon, is_name, begins_plainly};
+ghost use Rattle.sourcemap_texts.specs.Words.{front_of, climbing, LeadsTo, IsMoved};
+
+use oxc_sourcemap_tokens::Memory;
+use std::alloc::Global;
+
+/// Whether a path begins with a slash of some system.
+fn begins_with_slash(path: &str) -> bool
+    ensures { result ≡ begins_with_slash path.now }
+{
+    matches!(path.as_bytes().first(), Some(b'/' | b'\\'))
+}
+
+/// Whether a path has a colon.
+fn has_colon(path: &str) -> bool
+    ensures { result ≡ list_any is_colon path.now }
+{
+    path.as_bytes().iter().any(|byte| *byte == b':')
+}
+
+/// Whether a path stands by itself: from the root, from a drive, or a URL.
+pub fn is_absolute(path: &str) -> bool
+    ensures { result ≡ is_absolute path.now }
+{
+    begins_with_slash(path) || has_colon(path)
+}
+
+/// Whether a path names something by the folder that it is in.
+fn is_in_folder(path: &str) -> bool
+    ensures { result ≡ is_in_folder path.now }
+{
+    !path.is_empty() && !is_absolute(path)
+}
+
+/// A place in the tree of folders, as paths led there.
+#[derive(Drop)]
+struct Place<'p> {
+    /// How often they went above the root.
+    above: usize,
+    /// Its parts from the root on.
+    parts: Vec<&'p str>,
+}
+
+/// The parts of a path, between its slashes.
+fn parts_of<'p>(alloc: Global, path: &'p str) -> Memory<Vec<&'p str>>
+    ensures { IfOk result (λ parts. lent_items parts.items ≡ parts_of path.entry.now) }
+{
+    path.split('/').collect(alloc)
+}
+
+impl<'p> Place<'p> {
+    /// Goes where a part leads.
+    fn step(&mut self, part: &'p str) -> Memory<()>
+        ensures { OnOk result (lent_items self.new.parts.items
+            ≡ stepped (lent_items self.old.parts.items) part.entry.now) }
+    {
+        if part.is_empty() || part == "." {
+            return Ok(());
+        }
+        if part != ".." {
+            self.parts.push(part)?;
+            return Ok(());
+        }
+        if self.parts.pop().is_none() {
+            self.above = self.above.saturating_add(1);
+        }
+        Ok(())
+    }
+
+    /// Goes where a path leads.
+    fn follow(&mut self, alloc: Global, path: &'p str) -> Memory<()>
+        ensures { OnOk result (lent_items self.new.parts.items
+            ≡ led (lent_items self.old.parts.items) path.entry.now) }
+    {
+        let parts = parts_of(alloc, path)?;
+        for part in parts.as_slice() {
+            self.step(*part)?;
+        }
+        Ok(())
+    }
+}
+
+/// The folder that a folder is in: the root if it begins with a slash, else `current`.
+fn outer_folder<'p>(current: &'p str, folder: &str) -> &'p str
+    ensures { result.now ≡ outer_folder current.entry.now folder.now }
+{
+    match folder.as_bytes().first() {
+        Some(b'/') => "",
+        _ => current,
+    }
+}
+
+/// The place of a folder.
+fn place_of<'p>(alloc: Global, current: &'p str, folder: &'p str) -> Memory<Place<'p>>
+    ensures { IfOk result (λ place. lent_items place.parts.items
+        ≡ place_of current.entry.now folder.entry.now) }
+{
+    let mut place = Place {
+        above: 0,
+        parts: Vec::new(alloc),
+    };
+    place.follow(alloc, outer_folder(current, folder))?;
+    place.follow(alloc, folder)?;
+    Ok(place)
+}
+
+/// How many parts two places have in common from the root on.
+fn common_count(a: &[&str], b: &[&str]) -> usize
+    ensures { result ≡ common_prefix_len bytes_eq (lent_items a.now) (lent_items b.now) }
+{
+    let mut count = 0;
+    while count < a.len() && count < b.len() && a[count] == b[count] {
+        count += 1;
+    }
+    count
+}
+
+/// Whether the first of these parts does not make a path one from a drive, or a URL.
+fn begins_plainly(parts: &[&str]) -> bool
+    ensures { result ≡ begins_plainly (lent_items parts.now) }
+{
+    match parts.first() {
+        Some(part) => is_in_folder(part),
+        None => false,
+    }
+}
+
+/// `./` in front of parts whose first one could be read as the scheme of a URL.
+fn front_of(up: usize, parts: &[&str]) -> &'static str
+    ensures { result.now ≡ front_of up (lent_items parts.now) }
+{
+    if up == 0 && !begins_plainly(parts) {
+        "./"
+    } else {
+        ""
+    }
+}
+
+/// A path that goes up so many folders, and then has these parts.
+fn climbing_path(alloc: Global, up: usize, parts: &[&str]) -> Memory<String>
+    ensures { IfOk result (λ path. string_bytes path ≡ climbing up (lent_items parts.now)) }
+{
+    let mut path = "../".repeat(alloc, up)?;
+    path.push_str(front_of(up, parts))?;
+    path.push_str(parts.join(alloc, "/")?.as_str())?;
+    Ok(path)
+}
+
+/// How many parts a place has in common with the place `base`; none if it is above the root.
+fn shared_count(base: &[&str], place: &Place<'_>) -> usize
+    ensures within { (result ≤ length base.now) × (result ≤ length place.now.parts.items) }
+    ensures same { take result (lent_items base.now)
+        ≡ take result (lent_items place.now.parts.items) }
+    ensures above { 0 < place.now.above → result ≡ 0 }
+{
+    if place.above > 0 {
+        return 0;
+    }
+    common_count(base, place.parts.as_slice())
+}
+
+/// The path of a place, as it is seen from the place `base`. A place above the root is as far above it.
+fn path_from(alloc: Global, base: &[&str], place: &Place<'_>) -> Memory<String>
+    ensures { IfOk result (λ path. list_all is_name (lent_items place.now.parts.items) ≡ true
+        → LeadsTo (lent_items base.now) (lent_items place.now.parts.items) (string_bytes path)) }
+{
+    let shared = shared_count(base, place);
+    let up = (base.len() - shared).saturating_add(place.above);
+    climbing_path(alloc, up, &place.parts.as_slice()[shared..])
+}
+
+/// Whether two places are one.
+fn are_same(a: &[&str], b: &[&str]) -> bool
+    ensures yes { result ≡ true → lent_items a.now ≡ lent_items b.now }
+    ensures no { lent_items a.now ≡ lent_items b.now → result ≡ true }
+{
+    a == b
+}
+
+/// A path that is relative to the folder `from`, as one that is relative to the folder `to`. The folders are in the folder `current`,
+/// which begins with a slash, where they do not begin with one themselves. What stands by itself (a path from the root or a drive, a
+/// URL) stays, and so does every path where both folders are one. A path above the root stays as far above it.
+///
+/// By the names of folders, and not by where links lead: sources were written, and are read, relative to the folder by its name.
+pub fn relative_path<'p>(
+    alloc: Global,
+    current: &'p str,
+    from: &'p str,
+    to: &'p str,
+    path: &'p str,
+) -> Memory<String>
+    ensures { IfOk result (λ moved. IsMoved current.entry.now from.entry.now to.entry.now
+        path.entry.now (string_bytes moved)) }
+{
+    let base = place_of(alloc, current, to)?;
+    let mut place = place_of(alloc, current, from)?;
+    if !is_in_folder(path) || are_same(base.parts.as_slice(), place.parts.as_slice()) {
+        return String::from_str(alloc, path);
+    }
+    place.follow(alloc, path)?;
+    path_from(alloc, base.parts.as_slice(), &place)
+}

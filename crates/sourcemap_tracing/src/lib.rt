@@ -1,0 +1,8 @@
+//! What positions and stack traces come from: the commands `trace` and `resolve` of the program `sourcemap`.
+#![tactic(auto)]
+
+mod context;
+mod maps;
+mod positions;
+pub mod resolve;
+pub mod trace;

@@ -1,0 +1,504 @@
+//! `resolve`: the frames of a stack trace, led back, line by line.
+use crate::maps::{Led, Maps, Matched, REASONS, Reason, Stay};
+use oxc_sourcemap_json::push_json_string;
+use sourcemap_files::{Asked, Status, print_bytes, shown_name, warn};
+use sourcemap_run::{
+    Cut, Frame, Paint, Splice, answer_to, push_frame, push_line, push_members, push_number_member,
+    push_object, push_spliced, push_text_member, text_of,
+};
+use sourcemap_texts::push_visible;
+use sourcemap_words::{Finder, Named, Outcome, Patterns, file_failure};
+use std::alloc::{AllocError, Global};
+use std::io::{BufRead, BufReader, IsTerminal, Read};
+use std::{env, fs};
+
+/// No colour.
+const PLAIN: Paint<'static> = Paint {
+    before: "",
+    after: "",
+};
+
+/// What is written at once.
+const MUCH: usize = 65536;
+
+/// A frame with what it comes to.
+#[derive(Drop)]
+struct LedFrame {
+    named: Named,
+    led: Led,
+}
+
+/// A line of the input.
+#[derive(Drop)]
+struct LineRead {
+    /// Its text, with NUL for each byte that is no UTF-8.
+    text: String,
+    is_text: bool,
+    frames: Vec<LedFrame>,
+    /// Why an engine's own frame stays as it is.
+    elsewhere: Option<&'static str>,
+}
+
+/// How many frames were seen, how many led back, and why the others stayed.
+#[derive(Clone, Copy)]
+struct Count {
+    frames: u64,
+    led: u64,
+    stayed: [u64; REASONS.len()],
+}
+
+/// How lines are printed.
+#[derive(Clone, Copy)]
+enum Form {
+    Lines(Paint<'static>),
+    Explained(Paint<'static>),
+    Objects,
+}
+
+/// What leads lines back.
+#[derive(Drop)]
+struct Resolver<'a, 'm, 'r> {
+    asked: &'a Asked<'a, 'm>,
+    finder: Finder<'r>,
+    maps: Maps,
+    form: Form,
+    count: Count,
+    out: Vec<u8>,
+}
+
+impl Count {
+    fn stay(&mut self, reason: Reason) {
+        for (count, other) in self.stayed.iter_mut().zip(REASONS.iter()) {
+            if *other == reason {
+                *count = count.saturating_add(1);
+            }
+        }
+    }
+
+    fn add(&mut self, line: &LineRead) {
+        for frame in &line.frames {
+            self.frames = self.frames.saturating_add(1);
+            match &frame.led.stay {
+                Some(stay) => self.stay(stay.reason),
+                None => self.led = self.led.saturating_add(1),
+            }
+        }
+        if line.elsewhere.is_some() {
+            self.frames = self.frames.saturating_add(1);
+            self.stay(Reason::Elsewhere);
+        }
+    }
+
+    /// The commonest reason, and how many frames stayed for it.
+    fn commonest(&self) -> (u64, Reason) {
+        let mut most = (0, Reason::NotThere);
+        for (count, reason) in self.stayed.iter().zip(REASONS.iter()) {
+            if *count > most.0 {
+                most = (*count, *reason);
+            }
+        }
+        most
+    }
+}
+
+/// What holds of frames that stay for a reason, of one and of several.
+fn short(reason: Reason) -> (&'static str, &'static str) {
+    match reason {
+        Reason::NotThere => (
+            "names a file that is not here: see --root and --prefix",
+            "name files that are not here: see --root and --prefix",
+        ),
+        Reason::NoMap => (
+            "has no map that can be read",
+            "have no map that can be read",
+        ),
+        Reason::PastEnd => (
+            "is past the end of a code, which is of another build",
+            "are past the end of a code, which is of another build",
+        ),
+        Reason::NotMapped => (
+            "is at a position without an original",
+            "are at positions without an original",
+        ),
+        Reason::Elsewhere => ("is the engine's own", "are the engine's own"),
+    }
+}
+
+/// Where in a line frames name positions.
+fn cuts_of(alloc: Global, frames: &[LedFrame]) -> Result<Vec<Cut>, AllocError> {
+    let mut cuts = Vec::new(alloc);
+    for LedFrame { named, led } in frames {
+        cuts.push(Cut {
+            start: named.start,
+            end: named.end,
+            target: led.target,
+        })?;
+    }
+    Ok(cuts)
+}
+
+/// What a frame is led back to, as it is written into its line; None if it stays.
+fn place_text(
+    alloc: Global,
+    maps: &Maps,
+    frame: &LedFrame,
+    paint: Paint<'_>,
+) -> Outcome<Option<String>> {
+    if frame.led.stay.is_some() {
+        return Ok(None);
+    }
+    let place = Frame {
+        target: frame.led.target,
+        ..Frame::plain("")
+    };
+    let mut text = String::new(alloc);
+    if !frame.named.is_in_json {
+        push_frame(alloc, maps.tracers.as_slice(), &place, paint, &mut text)?;
+        return Ok(Some(text));
+    }
+    push_frame(alloc, maps.tracers.as_slice(), &place, PLAIN, &mut text)?;
+    let mut string = String::new(alloc);
+    push_json_string(text.as_str(), &mut string)?;
+    let inside = string.as_str().strip_prefix('"').unwrap_or("");
+    let inside = inside.strip_suffix('"').unwrap_or(inside);
+    Ok(Some(String::from_str(alloc, inside)?))
+}
+
+/// What the frames of a line become; None of those that stay.
+fn place_texts(
+    alloc: Global,
+    maps: &Maps,
+    frames: &[LedFrame],
+    paint: Paint<'_>,
+) -> Outcome<Vec<Option<String>>> {
+    let mut texts = Vec::new(alloc);
+    for frame in frames {
+        texts.push(place_text(alloc, maps, frame, paint)?)?;
+    }
+    Ok(texts)
+}
+
+/// Appends a line whose bytes all stay but those of the places that are led back.
+fn push_bytes(
+    alloc: Global,
+    maps: &Maps,
+    (line, frames): (&[u8], &[LedFrame]),
+    paint: Paint<'_>,
+    out: &mut Vec<u8>,
+) -> Outcome<()> {
+    let texts = place_texts(alloc, maps, frames, paint)?;
+    let mut splices = Vec::new(alloc);
+    for (frame, text) in frames.iter().zip(texts.iter()) {
+        if let Some(text) = text {
+            splices.push(Splice {
+                start: frame.named.start,
+                end: frame.named.end,
+                text: text.as_str(),
+            })?;
+        }
+    }
+    Ok(push_spliced(line, splices.as_slice(), out)?)
+}
+
+/// Appends a line, led back, without a line feed.
+fn push_led(
+    alloc: Global,
+    maps: &Maps,
+    line: &[u8],
+    read: &LineRead,
+    paint: Paint<'_>,
+    out: &mut Vec<u8>,
+) -> Outcome<()> {
+    let frames = read.frames.as_slice();
+    if frames.is_empty() {
+        return Ok(out.extend_from_slice(line)?);
+    }
+    let is_in_json = frames.iter().any(|frame| frame.named.is_in_json);
+    if read.is_text && !is_in_json {
+        let cuts = cuts_of(alloc, frames)?;
+        let (line, tracers) = (read.text.as_str(), maps.tracers.as_slice());
+        let mut text = String::new(alloc);
+        if push_line(alloc, tracers, line, cuts.as_slice(), paint, &mut text)? {
+            return Ok(out.extend_from_slice(text.as_bytes())?);
+        }
+    }
+    push_bytes(alloc, maps, (line, frames), paint, out)
+}
+
+/// Appends a line of its own below a frame.
+fn push_note(alloc: Global, text: &str, out: &mut Vec<u8>) -> Outcome<()> {
+    let mut visible = String::new(alloc);
+    push_visible(text, &mut visible)?;
+    out.extend_from_slice(b"        # ")?;
+    out.extend_from_slice(visible.as_bytes())?;
+    Ok(out.push(b'\n')?)
+}
+
+/// How the code of a frame was found, if by less than its whole path.
+fn how_matched(alloc: Global, matched: &Matched) -> Result<Option<String>, AllocError> {
+    Ok(match matched {
+        Matched::Whole => None,
+        Matched::Prefix { prefix, path } => {
+            Some(format!(in alloc; "found as {path} below the prefix {prefix}")?)
+        }
+        Matched::Name { map } => Some(format!(in alloc; "found by its name alone: {map}")?),
+    })
+}
+
+/// Appends the lines below a line: how each frame was found, and why it stays.
+fn push_notes(alloc: Global, read: &LineRead, out: &mut Vec<u8>) -> Outcome<()> {
+    for frame in &read.frames {
+        if let Some(how) = how_matched(alloc, &frame.led.matched)? {
+            push_note(alloc, how.as_str(), out)?;
+        }
+        if let Some(stay) = &frame.led.stay {
+            push_note(alloc, stay.why.as_str(), out)?;
+        }
+    }
+    if let Some(why) = read.elsewhere {
+        push_note(alloc, why, out)?;
+    }
+    Ok(())
+}
+
+/// The members of how the code of a frame was found.
+fn push_matched_members(matched: &Matched, out: &mut String) -> Outcome<()> {
+    match matched {
+        Matched::Whole => {}
+        Matched::Prefix { prefix, .. } => {
+            push_text_member("matched", "prefix", out)?;
+            push_text_member("prefix", prefix.as_str(), out)?;
+        }
+        Matched::Name { .. } => push_text_member("matched", "maps", out)?,
+    }
+    Ok(())
+}
+
+/// The members of a frame, and of what it comes from.
+fn push_frame_members(
+    alloc: Global,
+    maps: &Maps,
+    frame: &LedFrame,
+    out: &mut String,
+) -> Outcome<()> {
+    let LedFrame { named, led } = frame;
+    push_text_member("file", named.file.as_str(), out)?;
+    push_number_member(alloc, "line", u64::from(named.line), out)?;
+    push_number_member(alloc, "column", u64::from(named.column), out)?;
+    push_matched_members(&led.matched, out)?;
+    if let Some(target) = led.target {
+        if let Some(name) = maps.names.get(target.map) {
+            push_text_member("map", name.as_str(), out)?;
+        }
+        let answer = answer_to(maps.tracers.as_slice(), Some(target));
+        push_members(alloc, answer, 1, out)?;
+    }
+    if let Some(Stay { why, .. }) = &led.stay {
+        push_text_member("why", why.as_str(), out)?;
+    }
+    Ok(())
+}
+
+/// Appends the member of the frames of a line, of which there are several.
+fn push_frame_list(
+    alloc: Global,
+    maps: &Maps,
+    frames: &[LedFrame],
+    out: &mut String,
+) -> Outcome<()> {
+    out.push_str(",\"frames\":[")?;
+    for (i, frame) in frames.iter().enumerate() {
+        if i > 0 {
+            out.push(',')?;
+        }
+        let mut members = String::new(alloc);
+        push_frame_members(alloc, maps, frame, &mut members)?;
+        push_object(members.as_str(), out)?;
+    }
+    Ok(out.push(']')?)
+}
+
+/// Appends a line as a JSON object.
+fn push_line_object(
+    alloc: Global,
+    maps: &Maps,
+    line: &[u8],
+    read: &LineRead,
+    out: &mut Vec<u8>,
+) -> Outcome<()> {
+    let mut resolved = Vec::new(alloc);
+    push_led(alloc, maps, line, read, PLAIN, &mut resolved)?;
+    let mut members = String::new(alloc);
+    let text = String::from_utf8_lossy(alloc, line)?;
+    push_text_member("text", text.as_str(), &mut members)?;
+    let resolved = String::from_utf8_lossy(alloc, resolved.as_slice())?;
+    push_text_member("resolved", resolved.as_str(), &mut members)?;
+    match read.frames.as_slice() {
+        [] => {}
+        [frame] => push_frame_members(alloc, maps, frame, &mut members)?,
+        frames => push_frame_list(alloc, maps, frames, &mut members)?,
+    }
+    if let Some(why) = read.elsewhere {
+        push_text_member("why", why, &mut members)?;
+    }
+    let mut object = String::new(alloc);
+    push_object(members.as_str(), &mut object)?;
+    Ok(out.extend_from_slice(object.as_bytes())?)
+}
+
+/// The colour of what was led back: on a terminal, unless NO_COLOR is set.
+fn paint_of(rt: &HostRuntime) -> Paint<'static> {
+    let is_plain = match env::var(rt, "NO_COLOR") {
+        Ok(value) => !value.is_empty(),
+        Err(_) => false,
+    };
+    if is_plain || !rt.stdout().is_terminal() {
+        return PLAIN;
+    }
+    Paint {
+        before: "\u{1b}[36m",
+        after: "\u{1b}[0m",
+    }
+}
+
+fn form_of(asked: &Asked<'_, '_>) -> Form {
+    if asked.has("json") {
+        return Form::Objects;
+    }
+    let paint = paint_of(asked.rt);
+    if asked.has("explain") {
+        Form::Explained(paint)
+    } else {
+        Form::Lines(paint)
+    }
+}
+
+impl<'a, 'm, 'r> Resolver<'a, 'm, 'r> {
+    /// What a line names, and what its frames come to.
+    fn read(&mut self, line: &[u8]) -> Outcome<LineRead> {
+        let alloc = self.asked.alloc();
+        let text = text_of(alloc, line)?;
+        let is_text = text.as_str().as_bytes() == line;
+        let found = self.finder.read(alloc, text.as_str())?;
+        let mut frames = Vec::new(alloc);
+        for named in found.frames {
+            let led = self.maps.lead(self.asked, &named)?;
+            frames.push(LedFrame { named, led })?;
+        }
+        Ok(LineRead {
+            text,
+            is_text,
+            frames,
+            elsewhere: found.elsewhere,
+        })
+    }
+
+    /// Answers for a line, which has no line feed.
+    fn answer(&mut self, line: &[u8]) -> Outcome<()> {
+        let alloc = self.asked.alloc();
+        let read = self.read(line)?;
+        self.count.add(&read);
+        let form = self.form;
+        let out = &mut self.out;
+        match form {
+            Form::Objects => push_line_object(alloc, &self.maps, line, &read, out)?,
+            Form::Lines(paint) | Form::Explained(paint) => {
+                push_led(alloc, &self.maps, line, &read, paint, out)?
+            }
+        }
+        out.push(b'\n')?;
+        if let Form::Explained(_) = form {
+            push_notes(alloc, &read, out)?;
+        }
+        Ok(())
+    }
+
+    /// Prints what is answered so far.
+    fn flush(&mut self) -> Outcome<()> {
+        print_bytes(self.asked.rt, self.out.as_slice())?;
+        self.out.clear();
+        Ok(())
+    }
+
+    /// Answers for each line of an input as it comes: before more is waited for, what was read is answered.
+    fn answer_all<R: Read + Drop>(&mut self, mut reader: BufReader<R>) -> Outcome<()> {
+        let alloc = self.asked.alloc();
+        let mut line = Vec::new(alloc);
+        for _ in 0..u64::MAX {
+            if self.out.len() > MUCH || !reader.buffer().contains(&b'\n') {
+                self.flush()?;
+            }
+            line.clear();
+            match reader.read_until(b'\n', &mut line) {
+                Ok(0) => break,
+                Ok(_) => {}
+                Err(error) => {
+                    let name = shown_name(self.asked.word("TRACE"));
+                    return Err(file_failure(alloc, name, error));
+                }
+            }
+            let bytes = line.as_slice();
+            self.answer(bytes.strip_suffix(b"\n").unwrap_or(bytes))?;
+        }
+        self.flush()
+    }
+
+    /// Reads the file or the standard input.
+    fn run(&mut self) -> Outcome<()> {
+        let (rt, alloc) = (self.asked.rt, self.asked.alloc());
+        let path = self.asked.word("TRACE");
+        if path == "-" {
+            return match BufReader::new(alloc, rt.stdin()) {
+                Ok(reader) => self.answer_all(reader),
+                Err(error) => Err(file_failure(alloc, path, error)),
+            };
+        }
+        let opened = fs::open(rt, path).and_then(|file| BufReader::new(alloc, file));
+        match opened {
+            Ok(reader) => self.answer_all(reader),
+            Err(error) => Err(file_failure(alloc, path, error)),
+        }
+    }
+
+    /// Says on standard error that nothing was led back, and for the most part why.
+    fn tell_nothing(&self) -> Outcome<()> {
+        let Count { frames, led, .. } = self.count;
+        if frames == 0 || led > 0 || !matches!(self.form, Form::Lines(_)) {
+            return Ok(());
+        }
+        let (count, reason) = self.count.commonest();
+        let (one, several) = short(reason);
+        let why = if count == 1 { one } else { several };
+        let are = if frames == 1 {
+            "frame is"
+        } else {
+            "frames are"
+        };
+        let text = format!(in self.asked.alloc();
+            "0 of {frames} {are} led back; {count} {why} (--explain says more)"
+        )?;
+        warn(self.asked.rt, "resolve", text.as_str());
+        Ok(())
+    }
+}
+
+/// Runs the command `resolve`.
+pub fn run(asked: &Asked<'_, '_>) -> Outcome<Status> {
+    let alloc = asked.alloc();
+    let patterns = Patterns::new(alloc)?;
+    let mut resolver = Resolver {
+        asked,
+        finder: patterns.finder(alloc)?,
+        maps: Maps::new(alloc, asked.input_prefix()?),
+        form: form_of(asked),
+        count: Count {
+            frames: 0,
+            led: 0,
+            stayed: [0; REASONS.len()],
+        },
+        out: Vec::new(alloc),
+    };
+    resolver.run()?;
+    resolver.tell_nothing()?;
+    Ok(Status::of(resolver.count.led > 0))
+}

@@ -1,0 +1,231 @@
+//! `trace`: what generated positions come from.
+use crate::context::Contents;
+use crate::positions::{position_of_line, positions_in};
+use oxc_sourcemap_map::{SourceIndex, SourceMap};
+use oxc_sourcemap_tokens::Position;
+use sourcemap_files::{Asked, Status, print, rooted_map, tell, usage};
+use sourcemap_run::{Answer, Bias, Style, Tracer, push_answer, push_answers, push_reversed};
+use sourcemap_texts::source_position_of;
+use sourcemap_words::{Failure, Outcome, failure_of, file_failure};
+use std::io::{BufRead, BufReader};
+
+fn bias_of(asked: &Asked<'_, '_>) -> Outcome<Bias> {
+    match (asked.has("clamped"), asked.has("upper")) {
+        (true, true) => Err(usage(asked.rt, "--clamped and --upper exclude one another")),
+        (true, false) => Ok(Bias::Clamped),
+        (false, true) => Ok(Bias::After),
+        (false, false) => Ok(Bias::Before),
+    }
+}
+
+/// Whether the positions are the lines of standard input.
+fn reads_lines(asked: &Asked<'_, '_>) -> Outcome<bool> {
+    let words = asked.words("POSITION")?;
+    Ok(matches!(words.as_slice(), [] | ["-"]))
+}
+
+/// Whether the map says of some position what it comes from.
+fn finds_any(tracer: &Tracer, positions: &[Position], bias: Bias) -> bool {
+    positions.iter().any(|position| matches!(tracer.answer(*position, bias), Answer::At(_)))
+}
+
+/// What answers positions.
+#[derive(Drop)]
+struct Answers<'m> {
+    tracer: &'m Tracer,
+    style: Style,
+    /// The lines around positions, if they are asked for.
+    contents: Option<Contents<'m>>,
+    /// Whether the map said of some position what it comes from.
+    is_found: bool,
+}
+
+impl<'m> Answers<'m> {
+    fn new(asked: &Asked<'_, '_>, tracer: &'m Tracer, style: Style) -> Answers<'m> {
+        let contents = match asked.number("context") {
+            Some(around) if !style.json => Some(Contents::new(asked.alloc(), around, style.base)),
+            _ => None,
+        };
+        Answers {
+            tracer,
+            style,
+            contents,
+            is_found: false,
+        }
+    }
+
+    /// Appends the lines around what a position comes from.
+    fn push_context(&mut self, position: Position, out: &mut String) -> Outcome<()> {
+        let (tracer, bias) = (self.tracer, self.style.bias);
+        let Answer::At(spot) = tracer.answer(position, bias) else {
+            return Ok(());
+        };
+        let id = tracer
+            .token(position, bias)
+            .and_then(|token| token.get_source_id());
+        if let Some(contents) = &mut self.contents
+            && let Some(id) = id
+        {
+            let place = Position {
+                line: spot.line,
+                column: spot.column,
+            };
+            contents.push(id, spot.content, place, out)?;
+        }
+        Ok(())
+    }
+
+    /// Prints the answers for positions.
+    fn print(&mut self, rt: &HostRuntime, positions: &[Position]) -> Outcome<()> {
+        let (alloc, tracer, style) = (rt.alloc(), self.tracer, self.style);
+        let mut out = String::new(alloc);
+        if self.contents.is_none() {
+            push_answers(alloc, tracer, positions, style, &mut out)?;
+        } else {
+            for position in positions {
+                push_answer(alloc, tracer, *position, style, &mut out)?;
+                self.push_context(*position, &mut out)?;
+            }
+        }
+        self.is_found |= finds_any(tracer, positions, style.bias);
+        print(rt, out.as_str())
+    }
+
+    /// Prints the answer for a line without a position, so that each line of the input has one.
+    fn print_none(&self, rt: &HostRuntime) -> Outcome<()> {
+        print(rt, if self.style.json { "{}\n" } else { "\n" })
+    }
+
+    /// Prints the answer for a line of standard input, and tells whether it has a position or is empty: what else it has is told.
+    fn print_line(&mut self, rt: &HostRuntime, line: &[u8], number: usize) -> Outcome<bool> {
+        let base = u32::from(self.style.base);
+        match position_of_line(rt.alloc(), line, number, base) {
+            Ok(Some(position)) => {
+                self.print(rt, &[position])?;
+                Ok(true)
+            }
+            Ok(None) => {
+                self.print_none(rt)?;
+                Ok(true)
+            }
+            Err(Failure::Told(message)) => {
+                tell(rt, message.as_str());
+                self.print_none(rt)?;
+                Ok(false)
+            }
+            Err(failure) => Err(failure),
+        }
+    }
+
+    /// Prints the answers for the lines of standard input, each as it comes. Fails at the end if some were no positions.
+    fn print_lines(&mut self, rt: &HostRuntime) -> Outcome<()> {
+        let alloc = rt.alloc();
+        let mut bad = 0u64;
+        let reader = match BufReader::new(alloc, rt.reader()) {
+            Ok(reader) => reader,
+            Err(error) => return Err(file_failure(alloc, "standard input", error)),
+        };
+        for (i, line) in reader.split(alloc, b'\n').enumerate() {
+            let line = match line {
+                Ok(line) => line,
+                Err(error) => return Err(file_failure(alloc, "standard input", error)),
+            };
+            if !self.print_line(rt, line.as_slice(), i.saturating_add(1))? {
+                bad = bad.saturating_add(1);
+            }
+        }
+        if bad == 0 {
+            return Ok(());
+        }
+        let lines = if bad == 1 { "line is" } else { "lines are" };
+        let text = format!(in alloc; "{bad} {lines} no position, see above")?;
+        Err(failure_of(alloc, "standard input", text.as_str()))
+    }
+}
+
+/// The id of a source: the one with this path, else the only one whose path ends so.
+fn source_id(map: &SourceMap<'_>, path: &str) -> Option<u32> {
+    let mut found = None;
+    let mut count = 0u32;
+    for (id, source) in map.get_sources().enumerate() {
+        if source == path {
+            return u32::try_from(id).ok();
+        }
+        let before = source.strip_suffix(path).unwrap_or("");
+        if before.ends_with('/') {
+            found = u32::try_from(id).ok();
+            count = count.saturating_add(1);
+        }
+    }
+    if count == 1 { found } else { None }
+}
+
+/// `trace --reverse`.
+fn reverse(asked: &Asked<'_, '_>, map: &SourceMap<'_>, style: Style) -> Outcome<Status> {
+    let alloc = asked.alloc();
+    let index = SourceIndex::new(alloc, map)?;
+    let mut out = String::new(alloc);
+    let mut status = Status::Nothing;
+    let words = asked.words("reverse")?;
+    for word in &words {
+        let Some((source, position)) = source_position_of(word, u32::from(style.base)) else {
+            return Err(failure_of(
+                alloc,
+                word,
+                "is no original position: write SOURCE:LINE:COLUMN",
+            ));
+        };
+        let Some(id) = source_id(map, source) else {
+            return Err(failure_of(
+                alloc,
+                source,
+                "is no source of the map, or the end of several: see `sourcemap check`",
+            ));
+        };
+        if push_reversed(alloc, &index, id, source, position, style, &mut out)? {
+            status = Status::Found;
+        }
+    }
+    print(asked.rt, out.as_str())?;
+    Ok(status)
+}
+
+fn style_of(asked: &Asked<'_, '_>) -> Outcome<Style> {
+    Ok(Style {
+        bias: bias_of(asked)?,
+        base: u8::from(asked.has("one-based")),
+        json: asked.has("json"),
+    })
+}
+
+/// `trace` without `--reverse`.
+fn forward(asked: &Asked<'_, '_>, map: SourceMap<'static>, style: Style) -> Outcome<Status> {
+    let tracer = Tracer::new(asked.alloc(), map)?;
+    let mut answers = Answers::new(asked, &tracer, style);
+    if reads_lines(asked)? {
+        answers.print_lines(asked.rt)?;
+    } else {
+        let words = asked.words("POSITION")?;
+        let positions = positions_in(asked.alloc(), words.as_slice(), u32::from(style.base))?;
+        answers.print(asked.rt, positions.as_slice())?;
+    }
+    Ok(Status::of(answers.is_found))
+}
+
+/// Runs the command `trace`.
+pub fn run(asked: &Asked<'_, '_>) -> Outcome<Status> {
+    let style = style_of(asked)?;
+    let is_forward = asked.words("reverse")?.is_empty();
+    if is_forward && asked.word("MAP") == "-" && reads_lines(asked)? {
+        return Err(usage(
+            asked.rt,
+            "standard input is the map: give positions as arguments, or name the map, and standard input has them",
+        ));
+    }
+    let map = rooted_map(asked.rt, asked.word("MAP"), asked.places())?;
+    if is_forward {
+        forward(asked, map, style)
+    } else {
+        reverse(asked, &map, style)
+    }
+}

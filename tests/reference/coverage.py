@@ -3,7 +3,7 @@
 
     tests/reference/coverage.py [FOLDER]
 
-FOLDER, crates/coverage/data if not given, has bundle.js and bundle.min.js, each with its .map and its .coverage.json.
+FOLDER, tests/coverage if not given, has bundle.js and bundle.min.js, each with its .map and its .coverage.json.
 
 Each UTF-16 unit of the code has a count, that of the innermost range that contains it, and an original line, that of the token
 that the exact lookup finds at it. White space and the punctuation `( ) [ ] { } , : ;` count for no line: a generator puts them in
@@ -166,4 +166,4 @@ def main(folder):
 
 
 if __name__ == "__main__":
-    main(sys.argv[1] if len(sys.argv) > 1 else os.path.join(os.path.dirname(os.path.abspath(__file__)), "..", "..", "crates", "coverage", "data"))
+    main(sys.argv[1] if len(sys.argv) > 1 else os.path.join(os.path.dirname(os.path.abspath(__file__)), "..", "coverage"))

@@ -1,4 +1,4 @@
-"""The examples, with their output compared. The data is that of the examples in C, and of crates/coverage."""
+"""The examples, with their output compared. The data is that of the examples in C, and of tests/coverage."""
 
 import json
 import os
@@ -37,10 +37,9 @@ class Examples(unittest.TestCase):
         self.assertEqual(said, b"    at f (a.ts:3:1)\n")
 
     def test_coverage(self):
-        folder = TOP / "crates/coverage"
-        words = (folder / "args").read_text(encoding="utf-8").split()
-        said = ran("coverage.py", *words, folder=folder / "data")
-        self.assertEqual(said.decode(), (folder / "stdout").read_text(encoding="utf-8"))
+        folder = TOP / "tests/coverage"
+        said = ran("coverage.py", "bundle.js", "bundle.min.js", folder=folder)
+        self.assertEqual(said.decode(), (folder / "covered.txt").read_text(encoding="utf-8"))
 
     def test_coverage_of_many_functions(self):
         # Each on a line of its own, and every other one does not run. (That takes half a second, and a minute if time grows with the

@@ -72,7 +72,7 @@ fn lines_of_many_functions_are_counted() {
 
 #[test]
 fn lines_that_ran_are_counted() {
-    let folder = at("crates/coverage/data");
+    let folder = at("tests/coverage");
     let covered = ["bundle.js", "bundle.min.js"].map(|name| coverage::covered(&folder, name).unwrap());
-    assert_eq!(covered.concat(), text("crates/coverage/stdout"));
+    assert_eq!(covered.concat(), text("tests/coverage/covered.txt"));
 }

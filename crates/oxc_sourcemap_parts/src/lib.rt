@@ -10,7 +10,7 @@ mod strings;
 
 pub use iterators::{Contents, Names, Sources, Texts, Tokens, contents_in, texts_in, tokens_in};
 pub use parts::{SourceMapParts, owned_parts};
-pub use roots::apply_root;
+pub use roots::{apply_root, has_scheme};
 pub use soundness::{are_sorted, are_sound};
 pub use strings::{
     clone_ids, from_optional_strings, from_string, from_strings, into_optional_strings,

@@ -32,8 +32,11 @@ fn ends_scheme(bytes: &[u8]) -> bool
     false
 }
 
-/// Whether a text begins with a scheme and a colon.
-fn has_scheme(bytes: &[u8]) -> bool
+/// Whether a text begins with a scheme and a colon, as a URL does, and a path from a drive of Windows: a letter, then letters, digits,
+/// `+`, `-` and `.`, then `:`.
+///
+/// `has_scheme(b"webpack:///a.ts")` is true, and `has_scheme(b"src/a:b.ts")` is false.
+pub fn has_scheme(bytes: &[u8]) -> bool
     ensures { result ≡ has_scheme bytes.now }
 {
     match bytes.split_first() {

@@ -1,6 +1,6 @@
 //! Paths, as texts with slashes.
 use percent_encoding::percent_decode_str;
-use sourcemap_texts::is_absolute;
+use sourcemap_texts::{is_absolute, is_url};
 use std::alloc::{AllocError, Global};
 use std::fs;
 use url::Url;
@@ -18,20 +18,6 @@ pub fn file_name(path: &str) -> &str {
     match path.rsplit_once('/') {
         Some((_, name)) => name,
         None => path,
-    }
-}
-
-/// Whether a text begins as a URL does: a scheme of two characters and more, and `:`. One letter is a drive of Windows.
-pub fn has_scheme(text: &str) -> bool {
-    match text.split_once(':') {
-        Some((scheme, _)) => {
-            scheme.len() > 1
-                && scheme.bytes().all(|b| b.is_ascii_alphanumeric()
-                    || b == b'+'
-                    || b == b'-'
-                    || b == b'.')
-        }
-        None => false,
     }
 }
 
@@ -53,7 +39,7 @@ pub fn with_slash(alloc: Global, folder: &str) -> Result<String, AllocError> {
 
 /// The path of a URL or of a relative reference, without query and fragment, its escapes decoded; None if it is no text then.
 pub fn path_of_url(alloc: Global, url: &str) -> Result<Option<String>, AllocError> {
-    let path = if has_scheme(url) {
+    let path = if is_url(url) {
         match Url::parse(alloc, url) {
             Ok(url) => String::from_str(alloc, url.path())?,
             Err(_) => return Ok(None),

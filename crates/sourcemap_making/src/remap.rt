@@ -2,11 +2,12 @@
 use crate::rebasing::rebase;
 use oxc_sourcemap_map::SourceMap;
 use sourcemap_files::{
-    Asked, Lookup, MapText, Status, folder_of, has_scheme, is_file, is_inside, limit_of,
+    Asked, Lookup, MapText, Status, folder_of, is_file, is_inside, limit_of,
     limited_json, map_of_code, map_of_file, plain_path, print, read_map, read_text, real_name,
     usage, warn, write_text,
 };
 use sourcemap_run::{push_number_member, push_object, push_text_member};
+use sourcemap_texts::is_url;
 use sourcemap_words::{Outcome, failure_of};
 use std::alloc::Global;
 
@@ -36,7 +37,7 @@ fn has_been(way: &Way<'_>, name: &str) -> bool {
 
 /// The map of a source, found beside it; None if the source is not there, or has no map.
 fn map_of_source(asked: &Asked<'_, '_>, folder: &str, source: &str) -> Outcome<Option<MapText>> {
-    if source.is_empty() || has_scheme(source) {
+    if source.is_empty() || is_url(source) {
         return Ok(None);
     }
     let (rt, places) = (asked.rt, asked.places());

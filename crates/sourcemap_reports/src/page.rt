@@ -4,7 +4,7 @@ use sourcemap_files::{
     Asked, Lookup, MapText, Status, folder_of, is_file, is_map, map_of_code, map_of_file, print,
     read_map, read_text, real_name, shown_name, usage, write_text,
 };
-use sourcemap_run::{MARK, fill_template, push_number_member, push_object, push_text_member};
+use sourcemap_run::{DATA_MARK, fill_template, push_number_member, push_object, push_text_member};
 use sourcemap_words::{Outcome, failure_of};
 use std::alloc::{AllocError, Global};
 use std::env;
@@ -91,7 +91,7 @@ fn page_of(asked: &Asked<'_, '_>, content: &str) -> Outcome<String> {
     match fill_template(alloc, template.as_str(), content)? {
         Some(page) => Ok(page),
         None => {
-            let text = format!(in alloc; "is no template of pages: it has no mark {MARK}")?;
+            let text = format!(in alloc; "is no template of pages: it has no mark {DATA_MARK}")?;
             Err(failure_of(alloc, path.as_str(), text.as_str()))
         }
     }

@@ -1,4 +1,4 @@
--- The text for lcov reads back.
+-- The text for lcov tells originals apart.
 use Rattle.std.proofs.Common.{◌≡◌, ℕ, ◌+◌, ◌<◌, ◌≤◌, ◌^◌, false, ◌==◌, List, [], ◌∷◌, ◌++◌, refl}
 use Rattle.std.proofs.Common.{sym, ap}
 use Rattle.std.proofs.Common.{◌∙◌, arith, append_assoc, decimal, codes, length}
@@ -9,7 +9,7 @@ use Rattle.std.proofs.lemmas.Fmt.{decimal_is_IsNumeral, decimal_injective}
 use Rattle.std.proofs.lemmas.List.{append_cancel_left}
 use Rattle.oxc_sourcemap_parts.specs.Record.{Text}
 use Rattle.sourcemap_run.specs.Covered.{ran, lcov_line, lcov_end, lcov_text, lcov_texts, FitsLcov}
-use Rattle.sourcemap_run.specs.Covered.{CanBeTold, LcovReadsBack}
+use Rattle.sourcemap_run.specs.Covered.{CanBeTold, LcovTellsApart}
 
 abbrev Lacks : ℕ → List ℕ → Type 0
 Lacks b bs = list_any (λ c. c == b) bs ≡ false
@@ -107,5 +107,5 @@ same_texts (o ∷ os) (u ∷ us) f g e =
     let rest = same_texts os us f.1 g.1 same.2 in
     ap (λ p. (p, o.1) ∷ os) same.0 ∙ ap (λ ls. (u.0, ls) ∷ os) same.1 ∙ ap (λ l. u ∷ l) rest
 
-pub reads_back : LcovReadsBack
-reads_back = same_texts
+pub tells_apart : LcovTellsApart
+tells_apart = same_texts

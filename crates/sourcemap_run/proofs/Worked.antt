@@ -5,6 +5,7 @@ use Rattle.std.specs.Borrow.{Bor}
 use Rattle.std.specs.Str.{chars}
 use lib.Utf8.{encode}
 use Rattle.std.proofs.Common.{inl, inr}
+use Rattle.std.specs.Str.Lossy.{utf8_valid_len, utf8_error_len}
 use Rattle.oxc_sourcemap_tokens.specs.declared.position.Position.{Position}
 use Rattle.oxc_sourcemap_parts.specs.Record.{Text, MapRecord}
 use Rattle.oxc_sourcemap_parts.specs.Views.{empty_record}
@@ -27,7 +28,7 @@ use Rattle.sourcemap_run.specs.Texts.{object_text, text_member, number_member}
 use Rattle.std.specs.Fmt.{digits}
 use Rattle.oxc_sourcemap_json.specs.JsonString.{json_string, escaped}
 use Rattle.sourcemap_run.specs.Bundled.{StandsAt, HasLineEnds, IsEnded}
-use Rattle.sourcemap_run.specs.RawLines.{spliced, HasByteForByte}
+use Rattle.sourcemap_run.specs.RawLines.{spliced, are_in_row, IsMasked}
 
 abbrev lent : Text → Bor Text
 lent text = record { ref_ptr = (0, 0); now = text }
@@ -194,8 +195,14 @@ splices-two_places = refl
 splices-nothing : spliced (codes "at b.js:1:2") 0 [] ≡ codes "at b.js:1:2"
 splices-nothing = refl
 
-has-NUL_for_no_text : HasByteForByte (97 ∷ 255 ∷ 98 ∷ []) (97 ∷ 0 ∷ 98 ∷ [])
-has-NUL_for_no_text = (inl refl, (inr refl, (inl refl, tt)))
+has-NUL_for_no_text : IsMasked (97 ∷ 255 ∷ 98 ∷ []) (97 ∷ 0 ∷ 98 ∷ [])
+unfolding utf8_valid_len
+unfolding utf8_error_len
+has-NUL_for_no_text =
+    IsMasked.cut (97 ∷ 255 ∷ 98 ∷ []) (97 ∷ []) (255 ∷ []) (98 ∷ []) (98 ∷ []) refl refl refl (IsMasked.whole (98 ∷ []) (98 ∷ [], (refl, refl)))
+
+are-not_in_a_row : are_in_row 9 0 (splice 4 6 [] ∷ splice 5 7 [] ∷ []) ≡ false
+are-not_in_a_row = refl
 
 -- ---- differences
 abbrev original : Option Text → OriginalPosition

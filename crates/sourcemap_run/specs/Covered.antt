@@ -44,9 +44,9 @@ CanBeTold original = (list_any (λ b. b == 10) original.0 ≡ false) × AllByRec
 abbrev pub lcov_texts : List (Text × List (ℕ × ℕ)) → Text
 lcov_texts originals = flat_map (λ original. lcov_text original.0 original.1) originals
 
--- The text for lcov reads back: two lists of originals that have one text are the same, each path, each line and each count.
-abbrev pub LcovReadsBack : Type 0
-LcovReadsBack =
+-- The text for lcov tells originals apart: two lists that have one text are the same, each path, each line and each count.
+abbrev pub LcovTellsApart : Type 0
+LcovTellsApart =
     (first second : List (Text × List (ℕ × ℕ))) → AllByRecursion CanBeTold first → AllByRecursion CanBeTold second
     → lcov_texts first ≡ lcov_texts second → first ≡ second
 

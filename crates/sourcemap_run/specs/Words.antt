@@ -27,7 +27,7 @@ pub use Rattle.oxc_sourcemap_text.specs.TextLines.{units_of, lines_of, line_at}
 pub use Rattle.sourcemap_run.specs.Bundled.{HasLineEnds, StandsAt, IsInSize, IsEnded, IsTooLarge}
 pub use Rattle.sourcemap_run.specs.Bundled.{IsNext, IsPushed}
 pub use Rattle.sourcemap_run.specs.Marks.{mark_of}
-pub use Rattle.sourcemap_run.specs.Page.{HasMark, IsFilled}
+pub use Rattle.sourcemap_run.specs.Page.{HasDataMark, IsFilled}
 pub use Rattle.sourcemap_run.specs.Differences.{is_same_text, is_same_original, is_same_answer}
 pub use Rattle.sourcemap_run.specs.Differences.{differ_at}
 pub use Rattle.oxc_sourcemap_map.specs.Reverse.{all_generated_for}
@@ -39,12 +39,12 @@ pub use Rattle.sourcemap_run.specs.Counts.{is_missed, missed_ranges, closed, ope
 pub use Rattle.sourcemap_run.specs.Totals.{with_count, with_counts, path_at, counts_of, total_at}
 pub use Rattle.sourcemap_run.specs.Totals.{TotalsAddUp}
 pub use Rattle.sourcemap_run.specs.Covered.{ran, range_text, missed_text, lcov_line, lcov_end}
-pub use Rattle.sourcemap_run.specs.Covered.{lcov_text, LcovReadsBack, missed_numbers}
+pub use Rattle.sourcemap_run.specs.Covered.{lcov_text, LcovTellsApart, missed_numbers}
 pub use Rattle.sourcemap_run.specs.Covered.{covered_members, covered_line}
 pub use Rattle.sourcemap_run.specs.Contexts.{is_line_end, line_char, line_text, blank_char}
 pub use Rattle.sourcemap_run.specs.Contexts.{before_column, aligned, numbered_line, mark_line}
 pub use Rattle.sourcemap_run.specs.Contexts.{below_number}
 pub use Rattle.sourcemap_run.specs.Contexts.{context_line, lines_around, context_text}
 pub use Rattle.sourcemap_run.specs.Contexts.{LinesAreCounted}
-pub use Rattle.sourcemap_run.specs.RawLines.{spliced, HasByteForByte}
+pub use Rattle.sourcemap_run.specs.RawLines.{spliced, are_in_row, IsMasked}
 pub use Rattle.sourcemap_texts.specs.Paths.{IsMoved, IsRebased, written}

@@ -4,7 +4,7 @@ ghost use Rattle.std.specs.Prelude.{◌+◌, ◌++◌};
 ghost use Rattle.std.specs.List.{filter, flat_map, join_by};
 ghost use Rattle.sourcemap_run.specs.Words.{OnlyMemory, OnlyAdds, Pushes, is_missed};
 ghost use Rattle.sourcemap_run.specs.Words.{ran, range_text, missed_text, lcov_line, lcov_end};
-ghost use Rattle.sourcemap_run.specs.Words.{lcov_text, LcovReadsBack, missed_numbers};
+ghost use Rattle.sourcemap_run.specs.Words.{lcov_text, LcovTellsApart, missed_numbers};
 ghost use Rattle.sourcemap_run.specs.Words.{covered_members, covered_line};
 
 use crate::counting::missed_ranges;
@@ -152,9 +152,9 @@ pub fn push_lcov(alloc: Global, path: &str, lines: &[(u32, u64)], out: &mut Stri
     push_lcov_end(alloc, lines, out)
 }
 
-/// The text for lcov reads back: no two lists of originals, whose paths have no line feed, have one text.
-pub fn lcov_reads_back()
-    ensures { LcovReadsBack }
+/// The text for lcov tells originals apart: no two lists of them, whose paths have no line feed, have one text.
+pub fn lcov_tells_apart()
+    ensures { LcovTellsApart }
 {}
 
 /// The lines that did not run.

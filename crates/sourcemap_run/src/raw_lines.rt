@@ -1,14 +1,14 @@
 //! Lines of bytes: as texts, and with other texts at some places.
-ghost use Rattle.std.specs.Prelude.{◌≡◌, ◌++◌, IfOk, OnOk, drop, string_bytes};
+ghost use Rattle.std.specs.Prelude.{◌≡◌, ◌++◌, IfOk, Ok, true, false, drop, length, string_bytes};
 ghost use Rattle.std.specs.Str.{IsUtf8};
-ghost use Rattle.sourcemap_run.specs.Words.{between, spliced, HasByteForByte};
+ghost use Rattle.sourcemap_run.specs.Words.{between, spliced, are_in_row, IsMasked};
 
 use oxc_sourcemap_tokens::Memory;
 use std::alloc::Global;
 
 /// A line as a text that has NUL for each byte that is no UTF-8.
 fn masked(alloc: Global, line: &[u8]) -> Memory<String>
-    ensures { IfOk result (λ text. HasByteForByte line.now (string_bytes text)) }
+    ensures { IfOk result (λ text. IsMasked line.now (string_bytes text)) }
 {
     let mut text = String::new(alloc);
     for chunk in line.utf8_chunks() {
@@ -20,7 +20,7 @@ fn masked(alloc: Global, line: &[u8]) -> Memory<String>
 
 /// A line as a text, whose bytes stand where those of the line do: NUL for each that is no UTF-8.
 pub fn text_of(alloc: Global, line: &[u8]) -> Memory<String>
-    ensures bytes { IfOk result (λ text. HasByteForByte line.now (string_bytes text)) }
+    ensures masked { IfOk result (λ text. IsMasked line.now (string_bytes text)) }
     ensures same { IfOk result (λ text. IsUtf8 line.now → string_bytes text ≡ line.now) }
 {
     match std::str::from_utf8(line) {
@@ -51,10 +51,31 @@ fn between(line: &[u8], start: usize, end: usize) -> &[u8]
     behind(line.get(..end).unwrap_or(line), start)
 }
 
-/// Appends a line, which need not be UTF-8: at each place its text, and all else as it is. The places are in a row from left to right.
-pub fn push_spliced(line: &[u8], splices: &[Splice<'_>], out: &mut Vec<u8>) -> Memory<()>
-    ensures { OnOk result (out.new.items ≡ out.old.items ++ spliced line.now 0 splices.now) }
+/// Whether places of a line with so many bytes are in a row from left to right, and in the line.
+fn are_in_row(len: usize, splices: &[Splice<'_>]) -> bool
+    ensures { result ≡ are_in_row len 0 splices.now }
 {
+    let mut from = 0usize;
+    for splice in splices {
+        if splice.start < from || splice.end < splice.start {
+            return false;
+        }
+        from = splice.end;
+    }
+    from <= len
+}
+
+/// Appends a line, which need not be UTF-8: at each place its text, and all else as it is. Appends nothing, and says so by false, exactly
+/// if a place begins before the end of the one ahead of it, or ends before it begins or past the line.
+pub fn push_spliced(line: &[u8], splices: &[Splice<'_>], out: &mut Vec<u8>) -> Memory<bool>
+    ensures spliced { result ≡ Ok true → out.new.items
+        ≡ out.old.items ++ spliced line.now 0 splices.now }
+    ensures in_row { IfOk result (λ done. done ≡ are_in_row (length line.now) 0 splices.now) }
+    ensures unchanged { result ≡ Ok false → out.new.items ≡ out.old.items }
+{
+    if !are_in_row(line.len(), splices) {
+        return Ok(false);
+    }
     let mut from = 0usize;
     for splice in splices {
         out.extend_from_slice(between(line, from, splice.start))?;
@@ -62,5 +83,5 @@ pub fn push_spliced(line: &[u8], splices: &[Splice<'_>], out: &mut Vec<u8>) -> M
         from = splice.end;
     }
     out.extend_from_slice(behind(line, from))?;
-    Ok(())
+    Ok(true)
 }

@@ -16,47 +16,6 @@ use Rattle.sourcemap_texts.specs.Paths.{begins_with_slash, is_absolute, begins_p
 use Rattle.sourcemap_texts.specs.Paths.{IsMoved, written}
 use Rattle.sourcemap_texts.proofs.Ways.{names_led}
 
--- ---- the first part of a path
-first : List Text → Text
-first [] = []
-first (part ∷ parts) = part
-
-first_onto : (x : ℕ) (parts : List Text) → first (onto_first x parts) ≡ x ∷ first parts
-unfolding first
-first_onto x [] = refl
-first_onto x (part ∷ parts) = refl
-
-first_still : (x : ℕ) (xs : Text) (b : Bool) → is_slash x ≡ b → is_colon x ≡ false → list_any is_colon (first (parts_of xs)) ≡ false
-    → list_any is_colon (first (parts_of (x ∷ xs))) ≡ false
-unfolding first
-first_still x xs true e other rest = ap (λ l. list_any is_colon (first l)) (slice_split-cons_yes is_slash x xs e)
-first_still x xs false e other rest =
-    ap (λ l. list_any is_colon (first l)) (slice_split-cons_no is_slash x xs e)
-    ∙ ap (list_any is_colon) (first_onto x (parts_of xs))
-    ∙ or_from (is_colon x) (list_any is_colon (first (parts_of xs))) other rest
-
-first_lacks : (bs : Text) → list_any is_colon bs ≡ false → list_any is_colon (first (parts_of bs)) ≡ false
-unfolding first
-first_lacks [] h = refl
-first_lacks (x ∷ xs) h =
-    let both = or_parts (is_colon x) (list_any is_colon xs) h in
-    first_still x xs (is_slash x) refl both.0 (first_lacks xs both.1)
-
-begins_onto : (x : ℕ) (parts : List Text) → begins_plainly (onto_first x parts) ≡ is_in_folder (x ∷ first parts)
-unfolding first
-begins_onto x [] = refl
-begins_onto x (part ∷ parts) = refl
-
-plain_path : (path : Text) → is_in_folder path ≡ true → begins_plainly (parts_of path) ≡ true
-plain_path [] h = absurd (true≢false (sym h))
-plain_path (b ∷ bs) h =
-    let two = or_parts (begins_with_slash (b ∷ bs)) (list_any is_colon (b ∷ bs)) (not-true (is_absolute (b ∷ bs)) h) in
-    let no_slash = or_parts (b == 47) (b == 92) two.0 in
-    let no_colon = or_parts (is_colon b) (list_any is_colon bs) two.1 in
-    ap begins_plainly (slice_split-cons_no is_slash b bs no_slash.0) ∙ begins_onto b (parts_of bs)
-    ∙ ap not (or_from (begins_with_slash (b ∷ bs)) (list_any is_colon (b ∷ first (parts_of bs))) two.0
-    (or_from (is_colon b) (list_any is_colon (first (parts_of bs))) no_colon.0 (first_lacks bs no_colon.1)))
-
 -- ---- places have names
 pub place_names : (current folder : Text) → list_all is_name (place_of current folder) ≡ true
 place_names current folder = names_led (led [] (outer_folder current folder)) folder (names_led [] (outer_folder current folder) refl)
@@ -71,14 +30,16 @@ module _ (current from to path : Text) where
     plain = λ h. absurd (true≢false (sym h ∙ e));
     absolute_stays = λ _. refl;
     stays = λ _. refl;
+    direct = λ h. absurd (true≢false (sym h ∙ e));
   }
 
   pub same_kept : place_of current to ≡ place_of current from → IsMoved current from to path path
   same_kept e = record {
     same_place = λ _. ap (λ place. led place path) e;
-    plain = plain_path path;
+    plain = λ inside. inside;
     absolute_stays = λ _. refl;
     stays = λ _. refl;
+    direct = λ _ differ. absurd (differ e);
   }
 
   pub moved : (text : Text) → is_in_folder path ≡ true → ¬ (place_of current to ≡ place_of current from)
@@ -88,6 +49,7 @@ module _ (current from to path : Text) where
     plain = λ _. leads.plain;
     absolute_stays = λ e. absurd (true≢false (sym inside ∙ e));
     stays = λ e. absurd (differ e);
+    direct = λ _ _. leads.direct;
   }
 
 -- one more source of a map, and its path

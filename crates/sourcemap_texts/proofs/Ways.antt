@@ -5,15 +5,19 @@ use Rattle.std.proofs.Common.{List, [], ◌∷◌, ◌++◌, length, take, drop,
 use Rattle.std.proofs.Common.{ap, ap₂, ◌∙◌}
 use Rattle.std.proofs.Common.{arith, append_assoc, append-nil, take_all, take-take, length-take-le}
 use Rattle.std.proofs.Common.{take-append-drop}
-use Rattle.std.proofs.Common.{true≢false, Bor}
-use Rattle.std.specs.List.{fold, list_any, list_all, onto_first, join_by, repeat, common_prefix_len}
+use Rattle.std.proofs.Common.{true≢false, Bor, Option, Some, slice_get}
+use Rattle.std.specs.List.{fold, flat_map, list_any, list_all, onto_first, join_by, repeat, common_prefix_len}
 use Rattle.std.specs.Str.{bytes_eq}
-use Rattle.std.proofs.lemmas.Bool.{not-true, or_parts, and_parts, and_from}
+use Rattle.std.proofs.lemmas.Bool.{not-true, or_parts, or_from, and_parts, and_from}
+use Rattle.std.proofs.lemmas.Option.{none-some}
+use Rattle.std.specs.Option.{unwrap_or}
 use Rattle.std.proofs.lemmas.List.Folds.{list_all-append, flat_map-map}
 use Rattle.std.proofs.lemmas.List.Splits.{slice_split-cons_yes, slice_split-cons_no}
 use Rattle.std.proofs.lemmas.Slice.Eq.{bytes_eq-Decides}
 use Rattle.sourcemap_texts.specs.Paths.{is_slash, parts_of, is_here, stepped, led, is_name}
-use Rattle.sourcemap_texts.specs.Paths.{begins_plainly}
+use Rattle.sourcemap_texts.specs.Paths.{begins_plainly, begins_with_slash, is_absolute, is_in_folder}
+use Rattle.oxc_sourcemap_parts.specs.Roots.{is_of_scheme, ends_scheme, has_scheme}
+use Rattle.std.specs.Char.{is_ascii_alphabetic}
 use Rattle.sourcemap_texts.specs.Paths.{front_of, climbing, LeadsTo}
 
 -- ---- parts of a path
@@ -148,27 +152,83 @@ led_climbing base parts up h =
     led_up base up _ ∙ led_front (up == 0 && not (begins_plainly parts)) (take (length base - up) base) (joined parts)
     ∙ led_joined (take (length base - up) base) parts h
 
-plain_joined : (parts : List (List ℕ)) → list_all is_name parts ≡ true → begins_plainly parts ≡ true → begins_plainly (parts_of (joined parts)) ≡ true
-plain_joined [] h e = e
-plain_joined (x ∷ xs) h e = ap begins_plainly (split_join x xs h) ∙ e
+-- ---- paths that begin with no scheme
+and_still : (t x y : Bool) → t && x ≡ false → (x ≡ false → y ≡ false) → t && y ≡ false
+and_still true x y h f = f h
+and_still false x y h f = refl
 
-plain_front : (b : Bool) (parts : List (List ℕ)) → begins_plainly parts ≡ b → list_all is_name parts ≡ true
-    → begins_plainly (parts_of (cond (not b) (codes "./") [] ++ joined parts)) ≡ true
-plain_front true parts e h = plain_joined parts h e
-plain_front false parts e h = ap begins_plainly (split_dot (joined parts))
+-- what a scheme does not end in does not end one with more behind it
+more_scheme : (cs rest : List ℕ) → ends_scheme cs ≡ false → ends_scheme rest ≡ false → ends_scheme (cs ++ rest) ≡ false
+more_scheme [] rest none after = after
+more_scheme (b ∷ bs) rest none after =
+    let two = or_parts (b == 58) (is_of_scheme b && ends_scheme bs) none in
+    or_from (b == 58) (is_of_scheme b && ends_scheme (bs ++ rest)) two.0
+    (and_still (is_of_scheme b) (ends_scheme bs) (ends_scheme (bs ++ rest)) two.1 (λ e. more_scheme bs rest e after))
 
-plain_climbing : (parts : List (List ℕ)) (up : ℕ) → list_all is_name parts ≡ true → begins_plainly (parts_of (climbing up parts)) ≡ true
-plain_climbing parts zero h = plain_front (begins_plainly parts) parts refl h
-plain_climbing parts (suc n) h = ap begins_plainly (split_up n (front_of (suc n) parts ++ joined parts))
+more_in_folder : (path rest : List ℕ) → is_in_folder path ≡ true → ends_scheme rest ≡ false → is_in_folder (path ++ rest) ≡ true
+more_in_folder [] rest h after = absurd (true≢false (sym h))
+more_in_folder (c ∷ cs) rest h after =
+    let two = or_parts (begins_with_slash (c ∷ cs)) (has_scheme (c ∷ cs)) (not-true (is_absolute (c ∷ cs)) h) in
+    ap not (or_from (begins_with_slash (c ∷ cs)) (has_scheme (c ∷ (cs ++ rest))) two.0
+    (and_still (is_ascii_alphabetic c) (ends_scheme cs) (ends_scheme (cs ++ rest)) two.1 (λ e. more_scheme cs rest e after)))
+
+no_scheme_behind : (parts : List (List ℕ)) → ends_scheme (flat_map (λ part. codes "/" ++ part) parts) ≡ false
+no_scheme_behind [] = refl
+no_scheme_behind (x ∷ xs) = refl
+
+plain_joined : (parts : List (List ℕ)) → begins_plainly parts ≡ true → is_in_folder (joined parts) ≡ true
+plain_joined [] e = absurd (true≢false (sym e))
+plain_joined (x ∷ xs) e = more_in_folder x (flat_map (λ part. codes "/" ++ part) xs) e (no_scheme_behind xs)
+
+plain_front : (b : Bool) (parts : List (List ℕ)) → begins_plainly parts ≡ b → is_in_folder (cond (not b) (codes "./") [] ++ joined parts) ≡ true
+plain_front true parts e = plain_joined parts e
+plain_front false parts e = refl
+
+plain_climbing : (parts : List (List ℕ)) (up : ℕ) → is_in_folder (climbing up parts) ≡ true
+plain_climbing parts zero = plain_front (begins_plainly parts) parts refl
+plain_climbing parts (suc n) = refl
+
+-- ---- no detour
+first_of_rest : (k : ℕ) (xs : List (List ℕ)) → slice_get (drop k xs) 0 ≡ slice_get xs k
+first_of_rest zero xs = refl
+first_of_rest (suc k) [] = refl
+first_of_rest (suc k) (x ∷ xs) = first_of_rest k xs
+
+-- what stands in two lists behind all that they have in common at their front is not the same
+pub none_shared : (xs ys : List (List ℕ)) (x : List ℕ) → slice_get xs (common_prefix_len bytes_eq xs ys) ≡ Some x
+    → slice_get ys (common_prefix_len bytes_eq xs ys) ≡ Some x → ⊥
+none_shared [] ys z e f = none-some z e
+none_shared (x ∷ xs) [] z e f = none-some z f
+none_shared (x ∷ xs) (y ∷ ys) z e f = by (bytes_eq x y) refl e f
+  where
+    next : (zs : List (List ℕ)) (w : List ℕ) (n : ℕ) → slice_get (w ∷ zs) (1 + n) ≡ slice_get zs n
+    next zs w n = ap (slice_get (w ∷ zs)) (omega arith)
+    by : (b : Bool) → bytes_eq x y ≡ b → slice_get (x ∷ xs) (cond b (1 + common_prefix_len bytes_eq xs ys) 0) ≡ Some z
+        → slice_get (y ∷ ys) (cond b (1 + common_prefix_len bytes_eq xs ys) 0) ≡ Some z → ⊥
+    by true s p q = none_shared xs ys z (sym (next xs x _) ∙ p) (sym (next ys y _) ∙ q)
+    by false s p q =
+        let same : x ≡ y = ap (λ (o : Option (List ℕ)). unwrap_or o []) (p ∙ sym q) in
+        true≢false (sym ((bytes_eq-Decides x y).1 same) ∙ s)
 
 -- a path that goes up from `base` to what it has in common with a place, and down from there
 pub leads : (base parts : List (List ℕ)) (common up : ℕ) → list_all is_name parts ≡ true → take common base ≡ take common parts
-    → take (length base - up) base ≡ take common base → LeadsTo base parts (climbing up (drop common parts))
-leads base parts common up h shared goes =
+    → (up < length base → length base - up ≡ common)
+    → take (length base - up) base ≡ take common base
+    → ((name : List ℕ) → up < length base → slice_get base common ≡ Some name → slice_get parts common ≡ Some name → ⊥)
+    → LeadsTo base parts (climbing up (drop common parts))
+leads base parts common up h shared back goes apart =
     let rest = names_drop common parts h in
     record {
       there = led_climbing base (drop common parts) up rest ∙ ap (λ l. l ++ drop common parts) (goes ∙ shared) ∙ take-append-drop common parts;
-      plain = plain_climbing (drop common parts) up rest;
+      direct = record {
+        up = up;
+        names = drop common parts;
+        is_path = refl;
+        are_names = rest;
+        apart = λ name less from into.
+        apart name less (ap (slice_get base) (sym (back less)) ∙ from) (sym (first_of_rest common parts) ∙ into);
+      };
+      plain = plain_climbing (drop common parts) up;
     }
 
 -- ---- what two places have in common
@@ -193,12 +253,19 @@ goes_back : (n s a u : ℕ) → s ≤ n → n ≤ 18446744073709551615 → (0 < 
 goes_back n s zero u l m z e = omega arith
 goes_back n s (suc a) u l m z e = let none : s ≡ 0 = z (omega arith) in omega arith
 
+not_above : (n s a u : ℕ) → n ≤ 18446744073709551615 → (0 < a → s ≡ 0) → u ≡ min ((n - s) + a) 18446744073709551615 → u < n → 0 < a → ⊥
+not_above n s a u m z e less above = let none : s ≡ 0 = z above in omega (arith, none, e, less, above, m)
+
 -- the path of a place that is above the root, or has some parts in common with `base`
 pub leads_from : (base parts : List (List ℕ)) (shared above up : ℕ) → list_all is_name parts ≡ true → shared ≤ length base
     → take shared base ≡ take shared parts → (0 < above → shared ≡ 0) → length base ≤ 18446744073709551615
-    → up ≡ min ((length base - shared) + above) 18446744073709551615 → LeadsTo base parts (climbing up (drop shared parts))
-leads_from base parts shared above up h inside same none fits goes =
-    leads base parts shared up h same (ap (λ n. take n base) (goes_back (length base) shared above up inside fits none goes))
+    → up ≡ min ((length base - shared) + above) 18446744073709551615
+    → ((name : List ℕ) → slice_get base shared ≡ Some name → slice_get parts shared ≡ Some name → 0 < above)
+    → LeadsTo base parts (climbing up (drop shared parts))
+leads_from base parts shared above up h inside same none fits goes apart =
+    let back = goes_back (length base) shared above up inside fits none goes in
+    leads base parts shared up h same (λ _. back) (ap (λ n. take n base) back)
+    (λ name less from into. not_above (length base) shared above up fits none goes less (apart name from into))
 
 pub two_parts : (new mid x y z : List ℕ) → mid ≡ x ++ y → new ≡ mid ++ z → new ≡ x ++ (y ++ z)
 two_parts new mid x y z e f = f ∙ ap (λ t. t ++ z) e ∙ append_assoc x y z

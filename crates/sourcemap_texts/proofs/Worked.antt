@@ -1,6 +1,8 @@
 -- Worked examples, computed by the definitions themselves.
 use Rattle.std.specs.Prelude.{◌≡◌, refl, ℕ, true, false, List, [], ◌∷◌, codes, Some, None, length}
-use Rattle.std.proofs.Common.{lit<, true≢false, ap, arith}
+use Rattle.std.proofs.Common.{lit<, true≢false, ap, sym, ◌∙◌, arith, Bool, Option}
+use Rattle.std.specs.Option.{unwrap_or}
+use Rattle.std.specs.Str.{bytes_eq}
 use Rattle.oxc_sourcemap_tokens.specs.declared.position.Position.{Position}
 use Rattle.std.specs.Borrow.{Bor}
 use Rattle.oxc_sourcemap_parts.specs.Record.{Text}
@@ -83,8 +85,17 @@ is_from-the_root = refl
 is_in-no_folder : is_in_folder (codes "webpack:///a.ts") ≡ false
 is_in-no_folder = refl
 
+is_in-a_folder_with_a_colon : is_in_folder (codes "src/a:b.ts") ≡ true
+is_in-a_folder_with_a_colon = refl
+
+is_in-no_folder_of_a_drive : is_in_folder (codes "C:/a.ts") ≡ false
+is_in-no_folder_of_a_drive = refl
+
 begins-as_a_scheme : begins_plainly (codes "a:b" ∷ codes "c.ts" ∷ []) ≡ false
 begins-as_a_scheme = refl
+
+abbrev is_out : Option Text → Bool
+is_out name = bytes_eq (unwrap_or name []) (codes "out")
 
 moves-to_a_deeper_folder : IsMoved (codes "/p") (codes "dist/") (codes "out/js/") (codes "../src/a.ts") (codes "../../src/a.ts")
 moves-to_a_deeper_folder = record {
@@ -92,4 +103,11 @@ moves-to_a_deeper_folder = record {
   plain = λ _. refl;
   absolute_stays = λ e. absurd (true≢false e);
   stays = λ e. absurd (omega (arith, ap length e));
+  direct = λ _ _. record {
+    up = 2;
+    names = codes "src" ∷ codes "a.ts" ∷ [];
+    is_path = refl;
+    are_names = refl;
+    apart = λ name less from into. true≢false (ap is_out (from ∙ sym into));
+  };
 }

@@ -1,14 +1,13 @@
 -- Paths of sources, and what they name. A place in the tree of folders is given by its parts from the root on.
-use Rattle.std.specs.Prelude.{◌≡◌, ◌-◌, ℕ, Bool, not, true, false, ◌&&◌, ◌||◌, ◌==◌, List, [], ◌∷◌}
-use Rattle.std.specs.Prelude.{◌++◌}
+use Rattle.std.specs.Prelude.{◌≡◌, ◌≢◌, ◌<◌, ◌-◌, ℕ, Bool, not, true, false, ◌&&◌, ◌||◌, ◌==◌, List}
+use Rattle.std.specs.Prelude.{[], ◌∷◌, ◌++◌, Some, slice_get}
 use Rattle.std.specs.Prelude.{codes, take, length, map, slice_index, if◌then◌else◌, String}
 use Rattle.std.specs.Prelude.{string_bytes}
-use Rattle.std.specs.List.{fold, list_any, slice_split, join_by, repeat, AllZip}
+use Rattle.std.specs.List.{fold, list_any, list_all, slice_split, join_by, repeat, AllZip}
 use Rattle.std.specs.Str.{bytes_eq}
 use Rattle.std.specs.declared.alloc.Global.{Global}
 use Rattle.oxc_sourcemap_parts.specs.Record.{Text, MapRecord}
-use Rattle.oxc_sourcemap_parts.specs.Roots.{rooted}
-use Rattle.sourcemap_texts.specs.Positions.{is_colon}
+use Rattle.oxc_sourcemap_parts.specs.Roots.{rooted, has_scheme}
 
 abbrev pub is_slash : ℕ → Bool
 is_slash byte = byte == 47
@@ -47,9 +46,13 @@ named current folder path = led (place_of current folder) path
 abbrev pub begins_with_slash : Text → Bool
 begins_with_slash path = slice_index path 0 == 47 || slice_index path 0 == 92
 
--- a path stands by itself: it is from the root or from a drive, or a URL
+-- a path stands by itself: it is from the root, or begins with a scheme, as a URL does, or with a drive
 abbrev pub is_absolute : Text → Bool
-is_absolute path = begins_with_slash path || list_any is_colon path
+is_absolute path = begins_with_slash path || has_scheme path
+
+-- a path begins with a scheme of two bytes or more
+abbrev pub is_url : Text → Bool
+is_url path = has_scheme path && not (slice_index path 1 == 58)
 
 -- a path names something by the folder that it is in
 abbrev pub is_in_folder : Text → Bool
@@ -59,26 +62,6 @@ is_in_folder path = not (bytes_eq path [] || is_absolute path)
 abbrev pub begins_plainly : List Text → Bool
 begins_plainly [] = false
 begins_plainly (part ∷ parts) = is_in_folder part
-
--- A path of the folder `from` that became one of the folder `to`. If the path named something by its folder, the new one names it in
--- the folder `to`, and is no URL and from no root or drive. Else it stays, and so does every path where both folders are one.
-pub record IsMoved (current from to path moved : Text) : Type 0 where
-  pub same_place : is_in_folder path ≡ true → named current to moved ≡ named current from path
-  pub plain : is_in_folder path ≡ true → begins_plainly (parts_of moved) ≡ true
-  pub absolute_stays : is_in_folder path ≡ false → moved ≡ path
-  pub stays : place_of current to ≡ place_of current from → moved ≡ path
-
--- A map of the folder `from` that became one of the folder `to`: its source root is put before its sources, these are led there, and all
--- else is as it was.
-pub record IsRebased (current from to : Text) (old new : MapRecord) : Type 0 where
-  pub paths : List Text
-  pub moved : AllZip (IsMoved current from to) (rooted old).sources paths
-  pub whole : new ≡ record (rooted old) { sources = paths }
-
--- ---- words of functions that are not public
--- the bytes of texts
-abbrev pub written : List (String Global) → List Text
-written texts = map string_bytes texts
 
 -- a part of a place: one that leads from a folder into it, without a slash
 abbrev pub is_name : Text → Bool
@@ -92,7 +75,38 @@ front_of up parts = if up == 0 && not (begins_plainly parts) then codes "./" els
 abbrev pub climbing : ℕ → List Text → Text
 climbing up parts = repeat up (codes "../") ++ (front_of up parts ++ join_by (λ part. part) (codes "/") parts)
 
--- A path leads from the place `base` to another one, and is neither from the root or from a drive, nor a URL.
+-- A path goes up so many folders, and then down by names; below the root not into a folder that it just left.
+pub record IsDirect (base : List Text) (path : Text) : Type 0 where
+  pub up : ℕ
+  pub names : List Text
+  pub is_path : path ≡ climbing up names
+  pub are_names : list_all is_name names ≡ true
+  pub apart : (name : Text) → up < length base → slice_get base (length base - up) ≡ Some name → slice_get names 0 ≢ Some name
+
+-- A path of the folder `from` that became one of the folder `to`. If the path named something by its folder, the new one names it in
+-- the folder `to`, without a detour, and is no URL and from no root or drive. Else it stays, and so does every path where both folders
+-- are one.
+pub record IsMoved (current from to path moved : Text) : Type 0 where
+  pub same_place : is_in_folder path ≡ true → named current to moved ≡ named current from path
+  pub plain : is_in_folder path ≡ true → is_in_folder moved ≡ true
+  pub absolute_stays : is_in_folder path ≡ false → moved ≡ path
+  pub stays : place_of current to ≡ place_of current from → moved ≡ path
+  pub direct : is_in_folder path ≡ true → ¬ (place_of current to ≡ place_of current from) → IsDirect (place_of current to) moved
+
+-- A map of the folder `from` that became one of the folder `to`: its source root is put before its sources, these are led there, and all
+-- else is as it was.
+pub record IsRebased (current from to : Text) (old new : MapRecord) : Type 0 where
+  pub paths : List Text
+  pub moved : AllZip (IsMoved current from to) (rooted old).sources paths
+  pub whole : new ≡ record (rooted old) { sources = paths }
+
+-- ---- words of functions that are not public
+-- the bytes of texts
+abbrev pub written : List (String Global) → List Text
+written texts = map string_bytes texts
+
+-- A path leads from the place `base` to another one without a detour, and is neither from the root or from a drive, nor a URL.
 pub record LeadsTo (base place : List Text) (path : Text) : Type 0 where
   pub there : led base path ≡ place
-  pub plain : begins_plainly (parts_of path) ≡ true
+  pub direct : IsDirect base path
+  pub plain : is_in_folder path ≡ true

@@ -5,8 +5,8 @@ pub use Rattle.sourcemap_texts.specs.Texts.{is_hidden, unicode_escape, visible_c
 pub use Rattle.sourcemap_texts.specs.Texts.{visible_string, is_plain, shown}
 pub use Rattle.sourcemap_texts.specs.Positions.{IsNumber, IsPosition, IsSourcePosition, is_colon}
 pub use Rattle.sourcemap_texts.specs.Paths.{parts_of, stepped, led, outer_folder, place_of, named}
-pub use Rattle.sourcemap_texts.specs.Paths.{begins_with_slash, is_absolute, is_in_folder, IsMoved}
-pub use Rattle.sourcemap_texts.specs.Paths.{IsRebased}
+pub use Rattle.sourcemap_texts.specs.Paths.{begins_with_slash, is_absolute, is_url, is_in_folder}
+pub use Rattle.sourcemap_texts.specs.Paths.{IsMoved, IsRebased, IsDirect}
 pub use Rattle.sourcemap_texts.specs.Paths.{is_name, begins_plainly, front_of, climbing, LeadsTo}
 pub use Rattle.sourcemap_texts.specs.Paths.{written}
 pub use Rattle.sourcemap_texts.specs.Matching.{below_length, IsLongest, ends_in_folder, has_slash}

@@ -1,13 +1,14 @@
 //! Paths of sources, led from one folder to another.
-ghost use Rattle.std.specs.Prelude.{◌≡◌, ◌<◌, ◌≤◌, true, IfOk, OnOk, length, take};
-ghost use Rattle.std.specs.Prelude.{string_bytes};
-ghost use Rattle.std.specs.List.{common_prefix_len, list_all, list_any};
+ghost use Rattle.std.specs.Prelude.{◌≡◌, ◌<◌, ◌≤◌, ℕ, List, Some, true, IfOk, OnOk};
+ghost use Rattle.std.specs.Prelude.{length, take, slice_get, string_bytes};
+ghost use Rattle.std.specs.List.{common_prefix_len, list_all};
 ghost use Rattle.std.specs.Str.{bytes_eq};
 ghost use Rattle.sourcemap_texts.specs.Words.{lent_items, parts_of, stepped, led, outer_folder};
 ghost use Rattle.sourcemap_texts.specs.Words.{place_of, begins_with_slash, is_absolute};
-ghost use Rattle.sourcemap_texts.specs.Words.{is_in_folder, is_colon, is_name, begins_plainly};
+ghost use Rattle.sourcemap_texts.specs.Words.{is_url, is_in_folder, is_name, begins_plainly};
 ghost use Rattle.sourcemap_texts.specs.Words.{front_of, climbing, LeadsTo, IsMoved};
 
+use oxc_sourcemap_parts::has_scheme;
 use oxc_sourcemap_tokens::Memory;
 use std::alloc::Global;
 
@@ -18,18 +19,18 @@ fn begins_with_slash(path: &str) -> bool
     matches!(path.as_bytes().first(), Some(b'/' | b'\\'))
 }
 
-/// Whether a path has a colon.
-fn has_colon(path: &str) -> bool
-    ensures { result ≡ list_any is_colon path.now }
-{
-    path.as_bytes().iter().any(|byte| *byte == b':')
-}
-
 /// Whether a path stands by itself: from the root, from a drive, or a URL.
 pub fn is_absolute(path: &str) -> bool
     ensures { result ≡ is_absolute path.now }
 {
-    begins_with_slash(path) || has_colon(path)
+    begins_with_slash(path) || has_scheme(path.as_bytes())
+}
+
+/// Whether a path begins as a URL does, with a scheme of two characters or more and a colon. One letter is a drive of Windows.
+pub fn is_url(path: &str) -> bool
+    ensures { result ≡ is_url path.now }
+{
+    has_scheme(path.as_bytes()) && !matches!(path.as_bytes().get(1), Some(b':'))
 }
 
 /// Whether a path names something by the folder that it is in.
@@ -159,6 +160,8 @@ fn shared_count(base: &[&str], place: &Place<'_>) -> usize
     ensures same { take result (lent_items base.now)
         ≡ take result (lent_items place.now.parts.items) }
     ensures above { 0 < place.now.above → result ≡ 0 }
+    ensures apart { (name : List ℕ) → slice_get (lent_items base.now) result ≡ Some name
+        → slice_get (lent_items place.now.parts.items) result ≡ Some name → 0 < place.now.above }
 {
     if place.above > 0 {
         return 0;

@@ -197,7 +197,10 @@ fn push_bytes(
             })?;
         }
     }
-    Ok(push_spliced(line, splices.as_slice(), out)?)
+    if !push_spliced(line, splices.as_slice(), out)? {
+        out.extend_from_slice(line)?;
+    }
+    Ok(())
 }
 
 /// Appends a line, led back, without a line feed.

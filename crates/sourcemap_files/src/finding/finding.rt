@@ -2,7 +2,7 @@
 use crate::finding::matching::{Below, CodePath, Files, Found as Match, InputPrefix, named_prefix};
 use crate::input::{is_file, read_text, shown_name, warn};
 use crate::paths::{
-    file_name, folder_of, has_scheme, is_folder, is_inside, join_path, parts_of, path_of,
+    file_name, folder_of, is_folder, is_inside, join_path, parts_of, path_of,
     path_of_url,
 };
 use oxc_sourcemap_found::{FoundParts, fault_reason, found_fault_at, read_found_parts};
@@ -10,7 +10,7 @@ use oxc_sourcemap_json::json_fault_at;
 use oxc_sourcemap_map::SourceMap;
 use oxc_sourcemap_text::{Language, decode_data_url, source_mapping_url};
 use oxc_sourcemap_tokens::{Error, FaultPlace};
-use sourcemap_texts::Prefix;
+use sourcemap_texts::{Prefix, is_url};
 use sourcemap_words::{Outcome, failure_of};
 use std::alloc::{AllocError, Global};
 
@@ -89,7 +89,7 @@ fn path_in_root(
 
 /// Whether a URL is that of a host, and of no file.
 fn is_remote(url: &str) -> bool {
-    has_scheme(url) && !url.starts_with("file:")
+    is_url(url) && !url.starts_with("file:")
 }
 
 /// The file that a URL of a code names: from the folder of the code, or from the root of a host; None if there is none.

@@ -1,8 +1,8 @@
 //! Which file of a folder the path of a code means, as an engine names it: a rule over paths and over which files there are. What is read
 //! of the disk is behind `Files`.
-use crate::paths::{has_scheme, path_of_url};
+use crate::paths::path_of_url;
 use percent_encoding::percent_decode_str;
-use sourcemap_texts::{Candidate, Choice, Prefix, choose, longest_prefix};
+use sourcemap_texts::{Candidate, Choice, Prefix, choose, is_url, longest_prefix};
 use std::alloc::{AllocError, Global};
 use std::collections::HashMap;
 
@@ -126,7 +126,7 @@ impl CodePath {
             return Ok(None);
         };
         let name = name.as_str();
-        if !has_scheme(name) || !name.contains("://") {
+        if !is_url(name) || !name.contains("://") {
             return Ok(Some(CodePath::of_path(alloc, name)?));
         }
         if !name.starts_with("file:") {

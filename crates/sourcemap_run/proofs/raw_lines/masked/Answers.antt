@@ -15,5 +15,5 @@ loop-chunk-preserved c =
     let text = string_bytes c.loop-chunk.text in
     one_more_chunk c.args.line.now text (utf8_chunks_rest c.loop-chunk.chunk-iterator) (utf8_chunk_valid c.in-Some.chunk) (utf8_chunk_invalid c.in-Some.chunk)
     (utf8_chunks_rest c.next.new.self) (string_bytes c.push_str.new.self) c.as_str.result.now (string_bytes c.push_str-in-loop-chunk.new.self) c.loop-chunk.invariant
-    c.in-Some.ensures.steps.0 (c.in_ok-push_str.ensures.bytes ∙ ap (λ v. text ++ v) c.valid.ensures)
+    c.in-Some.ensures.steps.0 c.in-Some.ensures.steps.3.0 c.in-Some.ensures.steps.3.1 (c.in_ok-push_str.ensures.bytes ∙ ap (λ v. text ++ v) c.valid.ensures)
     (c.as_str.ensures.value ∙ c.in_ok-repeat.ensures.bytes ∙ ap (λ l. repeat (length l) (0 ∷ [])) c.invalid.ensures) c.in_ok-push_str-2.ensures.bytes

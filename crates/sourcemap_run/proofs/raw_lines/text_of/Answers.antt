@@ -1,10 +1,9 @@
 use Rattle.std.proofs.Common.{sym, subst, ◌∙◌}
 use Rattle.std.proofs.lemmas.Result.{IfOk-weaker}
-use Rattle.sourcemap_run.specs.RawLines.{HasByteForByte}
-use Rattle.sourcemap_run.proofs.Masks.{own_bytes}
+use Rattle.sourcemap_run.specs.RawLines.{IsMasked}
 use Rattle.sourcemap_run.proofs.raw_lines.text_of.Goals as goal
 
-pub returns-in-Ok-clause-bytes : goal.returns-in-Ok-clause-bytes
-returns-in-Ok-clause-bytes c =
+pub returns-in-Ok-clause-masked : goal.returns-in-Ok-clause-masked
+returns-in-Ok-clause-masked c =
     let line = c.args.line.now in
-    IfOk-weaker c.from_str.result _ _ (λ text is. subst (HasByteForByte line) (sym (is ∙ c.in-Ok.ensures.cases.0)) (own_bytes line)) c.from_str.ensures.ok
+    IfOk-weaker c.from_str.result _ _ (λ text is. subst (IsMasked line) (sym (is ∙ c.in-Ok.ensures.cases.0)) (IsMasked.whole line c.in-Ok.ensures.cases.1)) c.from_str.ensures.ok

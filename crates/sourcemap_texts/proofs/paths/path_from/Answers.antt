@@ -18,5 +18,6 @@ returns c =
     (λ path text names.
     subst (LeadsTo (lent_items base) (lent_items parts)) (sym (text ∙ ap (climbing c.saturating_add-up.result) rest))
     (leads_from (lent_items base) (lent_items parts) shared c.args.place.now.above c.saturating_add-up.result names (omega (arith, long, c.shared_count-shared.ensures.within.0))
-    c.shared_count-shared.ensures.same c.shared_count-shared.ensures.above (omega (arith, long)) (rw long c.saturating_add-up.ensures)))
+    c.shared_count-shared.ensures.same c.shared_count-shared.ensures.above (omega (arith, long)) (rw long c.saturating_add-up.ensures)
+    c.shared_count-shared.ensures.apart))
     c.climbing_path.ensures

@@ -1,6 +1,7 @@
 //! How long a map may be that is written.
 use crate::asked::Asked;
-use oxc_sourcemap_map::SourceMap;
+use oxc_sourcemap_json::encode_parts_to_string_within;
+use oxc_sourcemap_parts::SourceMapParts;
 use oxc_sourcemap_tokens::Error;
 use sourcemap_words::{Failure, Outcome, failure_of};
 use std::alloc::Global;
@@ -48,9 +49,14 @@ fn too_long(alloc: Global, path: &str, limit: u64) -> Failure {
 }
 
 /// The text of a map that is written to a file, with a line feed. Fails if it would be above the limit.
-pub fn limited_json(alloc: Global, path: &str, map: &SourceMap<'_>, limit: u64) -> Outcome<String> {
+pub fn limited_json(
+    alloc: Global,
+    path: &str,
+    map: &SourceMapParts<'_>,
+    limit: u64,
+) -> Outcome<String> {
     let room = limit.saturating_sub(1) as usize;
-    let mut text = match map.to_json_string_within(alloc, room) {
+    let mut text = match encode_parts_to_string_within(alloc, map, room) {
         Ok(text) => text,
         Err(Error::TooLarge) => return Err(too_long(alloc, path, limit)),
         Err(error) => return Err(Failure::from(error)),

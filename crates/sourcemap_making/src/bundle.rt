@@ -2,7 +2,7 @@
 use crate::codes::{hashbang_of, run_together, without_map_comments};
 use crate::own::{mapped_to_itself, stop, with_stop};
 use crate::rebasing::{rebase, relative_to};
-use oxc_sourcemap_map::SourceMap;
+use oxc_sourcemap_map::{SourceMap, parts_of};
 use oxc_sourcemap_parts::SourceMapParts;
 use oxc_sourcemap_text::Language;
 use percent_encoding::{AsciiSet, CONTROLS, utf8_percent_encode};
@@ -54,7 +54,7 @@ fn read_code_and_map(asked: &Asked<'_, '_>, file: &str, folder: &str) -> Outcome
     let code = without_map_comments(alloc, text.as_str(), language_of(file))?;
     match map_of_code(asked.rt, file, text.as_str(), asked.places())? {
         Lookup::Map(found) => {
-            let mut map = read_map(asked.rt, &found)?;
+            let mut map = SourceMap::from_parts(read_map(asked.rt, &found)?);
             rebase(asked.rt, &mut map, found.folder.as_str(), folder)?;
             Ok(Part {
                 code,
@@ -211,7 +211,7 @@ fn write(asked: &Asked<'_, '_>, output: String, bundle: Bundle, limit: u64) -> O
     let mut map = SourceMap::from_parts(parts);
     map.set_file(alloc, file_name(output.as_str()))?;
     let path = output_map(alloc, output.as_str())?;
-    let text = limited_json(alloc, path.as_str(), &map, limit)?;
+    let text = limited_json(alloc, path.as_str(), parts_of(&map), limit)?;
     let files = [
         (path.as_str(), text.as_str()),
         (output.as_str(), code.as_str()),

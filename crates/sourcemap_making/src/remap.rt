@@ -1,10 +1,10 @@
 //! `remap`: a map led through the maps of its sources.
 use crate::rebasing::rebase;
-use oxc_sourcemap_map::SourceMap;
+use oxc_sourcemap_map::{SourceMap, parts_of};
 use sourcemap_files::{
-    Asked, Lookup, MapText, Status, folder_of, is_file, is_inside, limit_of,
-    limited_json, map_of_code, map_of_file, plain_path, print, read_map, read_text, real_name,
-    usage, warn, write_text,
+    Asked, Lookup, MapText, Status, folder_of, is_file, is_inside, limit_of, limited_json,
+    map_of_code, map_of_file, plain_path, print, read_map, read_text, real_name, usage, warn,
+    write_text,
 };
 use sourcemap_run::{push_number_member, push_object, push_text_member};
 use sourcemap_texts::is_url;
@@ -143,7 +143,7 @@ fn follow_sources(
     count: &mut u64,
 ) -> Outcome<SourceMap<'static>> {
     let alloc = asked.alloc();
-    let mut map = read_map(asked.rt, text)?;
+    let mut map = SourceMap::from_parts(read_map(asked.rt, text)?);
     map.apply_source_root(alloc)?;
     let inputs = inputs_of(asked, &map, text.folder.as_str(), way, depth, count)?;
     if inputs.is_empty() {
@@ -166,7 +166,7 @@ fn given_inputs(asked: &Asked<'_, '_>, folder: &str) -> Outcome<Vec<(String, Sou
             ));
         };
         let text = map_of_file(asked.rt, file, asked.places())?;
-        let mut map = read_map(asked.rt, &text)?;
+        let mut map = SourceMap::from_parts(read_map(asked.rt, &text)?);
         rebase(asked.rt, &mut map, text.folder.as_str(), folder)?;
         inputs.push((String::from_str(alloc, path)?, map))?;
     }
@@ -232,7 +232,7 @@ fn write(asked: &Asked<'_, '_>, map: &SourceMap<'_>, inputs: u64, limit: u64) ->
     let alloc = asked.alloc();
     let output = asked.word("output");
     let output = if output.is_empty() { "-" } else { output };
-    let text = limited_json(alloc, shown_output(output), map, limit)?;
+    let text = limited_json(alloc, shown_output(output), parts_of(map), limit)?;
     write_text(asked.rt, output, text.as_str())?;
     if asked.has("json") {
         print(asked.rt, summary(alloc, asked, map, inputs)?.as_str())?;
@@ -246,7 +246,7 @@ fn led_by_given(
     text: &MapText,
     count: &mut u64,
 ) -> Outcome<SourceMap<'static>> {
-    let mut map = read_map(asked.rt, text)?;
+    let mut map = SourceMap::from_parts(read_map(asked.rt, text)?);
     map.apply_source_root(asked.alloc())?;
     let given = given_inputs(asked, text.folder.as_str())?;
     warn_unused(asked, &map, given.as_slice());

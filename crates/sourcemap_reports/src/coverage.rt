@@ -177,7 +177,7 @@ impl Coverage {
         code: &str,
         text: &MapText,
     ) -> Outcome<()> {
-        let mut map = read_map(asked.rt, text)?;
+        let mut map = SourceMap::from_parts(read_map(asked.rt, text)?);
         map.apply_source_root(self.alloc)?;
         let runs = runs_of(self.alloc, script)?;
         let lines = lines_of(self.alloc, code, &map, runs.as_slice())?;

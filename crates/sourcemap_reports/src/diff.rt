@@ -29,7 +29,7 @@ fn places_of(alloc: Global, a: &Tracer, b: &Tracer) -> Result<Vec<(u32, u32)>, A
 /// A map of an argument, with its source root applied.
 fn tracer_of(asked: &Asked<'_, '_>, name: &str) -> Outcome<Tracer> {
     let map = rooted_map(asked.rt, asked.word(name), asked.places())?;
-    Ok(Tracer::new(asked.alloc(), map)?)
+    Ok(Tracer::new(asked.alloc(), SourceMap::from_parts(map))?)
 }
 
 /// The line that is printed of a first difference.

@@ -197,6 +197,7 @@ splices-nothing = refl
 
 has-NUL_for_no_text : IsMasked (97 ∷ 255 ∷ 98 ∷ []) (97 ∷ 0 ∷ 98 ∷ [])
 unfolding utf8_valid_len
+
 unfolding utf8_error_len
 has-NUL_for_no_text =
     IsMasked.cut (97 ∷ 255 ∷ 98 ∷ []) (97 ∷ []) (255 ∷ []) (98 ∷ []) (98 ∷ []) refl refl refl (IsMasked.whole (98 ∷ []) (98 ∷ [], (refl, refl)))

@@ -203,6 +203,7 @@ none_shared (x ∷ xs) (y ∷ ys) z e f = by (bytes_eq x y) refl e f
   where
     next : (zs : List (List ℕ)) (w : List ℕ) (n : ℕ) → slice_get (w ∷ zs) (1 + n) ≡ slice_get zs n
     next zs w n = ap (slice_get (w ∷ zs)) (omega arith)
+
     by : (b : Bool) → bytes_eq x y ≡ b → slice_get (x ∷ xs) (cond b (1 + common_prefix_len bytes_eq xs ys) 0) ≡ Some z
         → slice_get (y ∷ ys) (cond b (1 + common_prefix_len bytes_eq xs ys) 0) ≡ Some z → ⊥
     by true s p q = none_shared xs ys z (sym (next xs x _) ∙ p) (sym (next ys y _) ∙ q)
@@ -226,7 +227,7 @@ leads base parts common up h shared back goes apart =
         is_path = refl;
         are_names = rest;
         apart = λ name less from into.
-        apart name less (ap (slice_get base) (sym (back less)) ∙ from) (sym (first_of_rest common parts) ∙ into);
+            apart name less (ap (slice_get base) (sym (back less)) ∙ from) (sym (first_of_rest common parts) ∙ into);
       };
       plain = plain_climbing (drop common parts) up;
     }

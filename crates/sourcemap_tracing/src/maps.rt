@@ -1,4 +1,5 @@
 //! The maps of the files that frames name, and what they say of the places of frames.
+use oxc_sourcemap_map::SourceMap;
 use oxc_sourcemap_tokens::Position;
 use sourcemap_files::{
     Asked, CodeFile, InputPrefix, Lookup, Places, Sought, find_code, is_file, is_in_root,
@@ -287,7 +288,7 @@ impl Maps {
             Lookup::None(why) => return Ok(Known::None(Stay { reason, why })),
         };
         let mut map = match read_map(asked.rt, &text) {
-            Ok(map) => map,
+            Ok(parts) => SourceMap::from_parts(parts),
             Err(Failure::Told(why)) => return Ok(Known::None(Stay { reason, why })),
             Err(failure) => return Err(failure),
         };

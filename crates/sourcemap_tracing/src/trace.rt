@@ -222,7 +222,8 @@ pub fn run(asked: &Asked<'_, '_>) -> Outcome<Status> {
             "standard input is the map: give positions as arguments, or name the map, and standard input has them",
         ));
     }
-    let map = rooted_map(asked.rt, asked.word("MAP"), asked.places())?;
+    let parts = rooted_map(asked.rt, asked.word("MAP"), asked.places())?;
+    let map = SourceMap::from_parts(parts);
     if is_forward {
         forward(asked, map, style)
     } else {

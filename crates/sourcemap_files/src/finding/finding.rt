@@ -2,12 +2,11 @@
 use crate::finding::matching::{Below, CodePath, Files, Found as Match, InputPrefix, named_prefix};
 use crate::input::{is_file, read_text, shown_name, warn};
 use crate::paths::{
-    file_name, folder_of, is_folder, is_inside, join_path, parts_of, path_of,
-    path_of_url,
+    file_name, folder_of, is_folder, is_inside, join_path, parts_of, path_of, path_of_url,
 };
 use oxc_sourcemap_found::{FoundParts, fault_reason, found_fault_at, read_found_parts};
 use oxc_sourcemap_json::json_fault_at;
-use oxc_sourcemap_map::SourceMap;
+use oxc_sourcemap_parts::{SourceMapParts, apply_root};
 use oxc_sourcemap_text::{Language, decode_data_url, source_mapping_url};
 use oxc_sourcemap_tokens::{Error, FaultPlace};
 use sourcemap_texts::{Prefix, is_url};
@@ -468,7 +467,7 @@ pub fn found_error_text(alloc: Global, text: &str, error: Error) -> Result<Strin
 }
 
 /// Reads a map as it is found. What is mended is told as a warning.
-pub fn read_map(rt: &HostRuntime, map: &MapText) -> Outcome<SourceMap<'static>> {
+pub fn read_map(rt: &HostRuntime, map: &MapText) -> Outcome<SourceMapParts<'static>> {
     let alloc = rt.alloc();
     match read_found_parts(alloc, map.text.as_str()) {
         Ok(FoundParts { parts, mends }) => {
@@ -476,7 +475,7 @@ pub fn read_map(rt: &HostRuntime, map: &MapText) -> Outcome<SourceMap<'static>> 
                 let text = format!(in alloc; "mended: {mend}")?;
                 warn(rt, map.name.as_str(), text.as_str());
             }
-            Ok(SourceMap::from_parts(parts))
+            Ok(parts)
         }
         Err(error) => {
             let text = found_error_text(alloc, map.text.as_str(), error)?;
@@ -486,9 +485,13 @@ pub fn read_map(rt: &HostRuntime, map: &MapText) -> Outcome<SourceMap<'static>> 
 }
 
 /// The map of a file, given as a map or as a code, with its source root applied.
-pub fn rooted_map(rt: &HostRuntime, path: &str, places: Places<'_>) -> Outcome<SourceMap<'static>> {
+pub fn rooted_map(
+    rt: &HostRuntime,
+    path: &str,
+    places: Places<'_>,
+) -> Outcome<SourceMapParts<'static>> {
     let text = map_of_file(rt, path, places)?;
     let mut map = read_map(rt, &text)?;
-    map.apply_source_root(rt.alloc())?;
+    apply_root(rt.alloc(), &mut map)?;
     Ok(map)
 }

@@ -10,6 +10,7 @@ pub mod FirstTexts
 pub mod LineCounts
 pub mod Sums
 pub mod Lcov
+pub mod CoveredApart
 pub mod Around
 pub mod CountedLines
 pub mod MissedRanges

@@ -23,7 +23,7 @@ use Rattle.sourcemap_run.specs.Contexts.{context_text, before_column, mark_line}
 use Rattle.sourcemap_run.specs.Totals.{with_counts, counts_of}
 use Rattle.sourcemap_run.specs.Covered.{ran, missed_text, lcov_text, missed_numbers}
 use Rattle.sourcemap_run.specs.Covered.{covered_members}
-use Rattle.sourcemap_run.specs.Covered.{covered_line}
+use Rattle.sourcemap_run.specs.Covered.{covered_line, told}
 use Rattle.sourcemap_run.specs.Texts.{object_text, text_member, number_member}
 use Rattle.std.specs.Fmt.{digits}
 use Rattle.oxc_sourcemap_json.specs.JsonString.{json_string, escaped}
@@ -113,6 +113,9 @@ tells-missed_numbers = refl
 tells-an_object : covered_line (codes "a.ts") five_lines ≡ codes "{\"source\":\"a.ts\",\"ran\":1,\"missed\":4,\"lines\":[3,7,8,9]}\n"
 unfolding digits covered_members object_text text_member number_member json_string escaped chars encode
 tells-an_object = refl
+
+tells-of_an_original : told (codes "a.ts", five_lines) ≡ (codes "a.ts", 1, 4, 2 ∷ 6 ∷ 7 ∷ 8 ∷ [])
+tells-of_an_original = refl
 
 -- ---- lines around a position
 -- three lines: their ends are a carriage return, and a carriage return with a line feed

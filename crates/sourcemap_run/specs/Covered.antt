@@ -1,6 +1,6 @@
 -- What `coverage` prints of the lines of an original: lines with code, by their numbers from 0, with how often they ran.
 use Rattle.std.specs.Prelude.{◌≡◌, ℕ, ◌+◌, ◌-◌, ◌<◌, ◌^◌, false, List, ◌++◌}
-use Rattle.std.specs.Prelude.{codes}
+use Rattle.std.specs.Prelude.{codes, map, IsUtf8}
 use Rattle.std.specs.Prelude.{decimal, length, count_by, nat_lt, ◌==◌, if◌then◌else◌}
 use Rattle.std.specs.List.{flat_map, filter, join_by, list_any}
 use Rattle.std.specs.List.{AllByRecursion}
@@ -63,3 +63,23 @@ covered_members path lines =
 -- the line of an original, a JSON object
 abbrev pub covered_line : Text → List (ℕ × ℕ) → Text
 covered_line path lines = object_text (covered_members path lines) ++ codes "\n"
+
+-- what `--json` prints of originals
+abbrev pub covered_lines : List (Text × List (ℕ × ℕ)) → Text
+covered_lines originals = flat_map (λ original. covered_line original.0 original.1) originals
+
+-- the path of an original is UTF-8, and its numbers fit 64 bits
+abbrev pub FitsCovered : Text × List (ℕ × ℕ) → Type 0
+FitsCovered original =
+    IsUtf8 original.0 × (length original.1 < 2 ^ 64) × AllByRecursion (λ line. line.0 + 1 < 2 ^ 64) original.1
+
+-- what is told of an original: its path, how many lines ran and how many did not, and the numbers of those, from 0
+abbrev pub told : Text × List (ℕ × ℕ) → Text × ℕ × ℕ × List ℕ
+told original =
+    (original.0, ran original.1, length original.1 - ran original.1, map (λ line. line.0) (filter is_missed original.1))
+
+-- The text of `--json` tells originals apart: of two lists of originals that have one text the same is told, of each in turn.
+abbrev pub CoveredTellsApart : Type 0
+CoveredTellsApart =
+    (first second : List (Text × List (ℕ × ℕ))) → AllByRecursion FitsCovered first → AllByRecursion FitsCovered second
+    → covered_lines first ≡ covered_lines second → map told first ≡ map told second

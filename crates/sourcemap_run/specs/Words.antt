@@ -40,7 +40,7 @@ pub use Rattle.sourcemap_run.specs.Totals.{with_count, with_counts, path_at, cou
 pub use Rattle.sourcemap_run.specs.Totals.{TotalsAddUp}
 pub use Rattle.sourcemap_run.specs.Covered.{ran, range_text, missed_text, lcov_line, lcov_end}
 pub use Rattle.sourcemap_run.specs.Covered.{lcov_text, LcovTellsApart, missed_numbers}
-pub use Rattle.sourcemap_run.specs.Covered.{covered_members, covered_line}
+pub use Rattle.sourcemap_run.specs.Covered.{covered_members, covered_line, CoveredTellsApart}
 pub use Rattle.sourcemap_run.specs.Contexts.{is_line_end, line_char, line_text, blank_char}
 pub use Rattle.sourcemap_run.specs.Contexts.{before_column, aligned, numbered_line, mark_line}
 pub use Rattle.sourcemap_run.specs.Contexts.{below_number}

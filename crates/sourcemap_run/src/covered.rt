@@ -5,7 +5,7 @@ ghost use Rattle.std.specs.List.{filter, flat_map, join_by};
 ghost use Rattle.sourcemap_run.specs.Words.{OnlyMemory, OnlyAdds, Pushes, is_missed};
 ghost use Rattle.sourcemap_run.specs.Words.{ran, range_text, missed_text, lcov_line, lcov_end};
 ghost use Rattle.sourcemap_run.specs.Words.{lcov_text, LcovTellsApart, missed_numbers};
-ghost use Rattle.sourcemap_run.specs.Words.{covered_members, covered_line};
+ghost use Rattle.sourcemap_run.specs.Words.{covered_members, covered_line, CoveredTellsApart};
 
 use crate::counting::missed_ranges;
 use crate::texts::{from_base, push_number, push_number_member, push_object, push_text_member};
@@ -256,3 +256,9 @@ pub fn push_covered(alloc: Global, path: &str, lines: &[(u32, u64)], out: &mut S
     out.push('\n')?;
     Ok(())
 }
+
+/// The text of `--json` tells originals apart: two lists of originals that have one text have the same paths, the same numbers of lines that
+/// ran and that did not, and the same missed lines, in order. A path may have any character. How often a line ran is not told.
+pub fn covered_tells_apart()
+    ensures { CoveredTellsApart }
+{}

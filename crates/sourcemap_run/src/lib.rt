@@ -21,7 +21,8 @@ pub use bundling::{Bundle, line_ends, with_line_end};
 pub use contexts::{Content, lines_are_counted};
 pub use counting::{Block, LineCounts, Mark, count_lines, missed_ranges, push_marks};
 pub use covered::{
-    counted_lines, lcov_tells_apart, percent, push_covered, push_lcov, push_missed, ran,
+    counted_lines, covered_tells_apart, lcov_tells_apart, percent, push_covered, push_lcov,
+    push_missed, ran,
 };
 pub use differing::count_differences;
 pub use frames::{Cut, Frame, Paint, Target, answer_to, frame_position, push_frame, push_line};

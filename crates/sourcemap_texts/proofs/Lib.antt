@@ -5,4 +5,5 @@ pub mod LastCuts
 pub mod LentTexts
 pub mod Ways
 pub mod Moves
+pub mod ToldApart
 mod Worked

@@ -194,22 +194,26 @@ first_of_rest zero xs = refl
 first_of_rest (suc k) [] = refl
 first_of_rest (suc k) (x ∷ xs) = first_of_rest k xs
 
--- what stands in two lists behind all that they have in common at their front is not the same
-pub none_shared : (xs ys : List (List ℕ)) (x : List ℕ) → slice_get xs (common_prefix_len bytes_eq xs ys) ≡ Some x
-    → slice_get ys (common_prefix_len bytes_eq xs ys) ≡ Some x → ⊥
-none_shared [] ys z e f = none-some z e
-none_shared (x ∷ xs) [] z e f = none-some z f
-none_shared (x ∷ xs) (y ∷ ys) z e f = by (bytes_eq x y) refl e f
-  where
-    next : (zs : List (List ℕ)) (w : List ℕ) (n : ℕ) → slice_get (w ∷ zs) (1 + n) ≡ slice_get zs n
-    next zs w n = ap (slice_get (w ∷ zs)) (omega arith)
+next_in : (x : List ℕ) (xs : List (List ℕ)) (n : ℕ) → slice_get (x ∷ xs) (1 + n) ≡ slice_get xs n
+next_in x xs n =
+    let next : 1 + n ≡ suc n = omega arith in
+    ap (slice_get (x ∷ xs)) next
 
-    by : (b : Bool) → bytes_eq x y ≡ b → slice_get (x ∷ xs) (cond b (1 + common_prefix_len bytes_eq xs ys) 0) ≡ Some z
-        → slice_get (y ∷ ys) (cond b (1 + common_prefix_len bytes_eq xs ys) 0) ≡ Some z → ⊥
-    by true s p q = none_shared xs ys z (sym (next xs x _) ∙ p) (sym (next ys y _) ∙ q)
-    by false s p q =
-        let same : x ≡ y = ap (λ (o : Option (List ℕ)). unwrap_or o []) (p ∙ sym q) in
-        true≢false (sym ((bytes_eq-Decides x y).1 same) ∙ s)
+shared_by : (b : Bool) (x y : List ℕ) (xs ys : List (List ℕ)) (n : ℕ) (z : List ℕ) → bytes_eq x y ≡ b
+    → (slice_get xs n ≡ Some z → slice_get ys n ≡ Some z → ⊥) → slice_get (x ∷ xs) (cond b (1 + n) 0) ≡ Some z
+    → slice_get (y ∷ ys) (cond b (1 + n) 0) ≡ Some z → ⊥
+shared_by true x y xs ys n z s later p q = later (sym (next_in x xs n) ∙ p) (sym (next_in y ys n) ∙ q)
+shared_by false x y xs ys n z s later p q =
+    let same : x ≡ y = ap (λ (o : Option (List ℕ)). unwrap_or o []) (p ∙ sym q) in
+    true≢false (sym ((bytes_eq-Decides x y).1 same) ∙ s)
+
+-- what stands in two lists behind all that they have in common at their front is not the same
+pub none_shared : (xs ys : List (List ℕ)) (z : List ℕ) → slice_get xs (common_prefix_len bytes_eq xs ys) ≡ Some z
+    → slice_get ys (common_prefix_len bytes_eq xs ys) ≡ Some z → ⊥
+none_shared [] ys z p q = none-some z p
+none_shared (x ∷ xs) [] z p q = none-some z q
+none_shared (x ∷ xs) (y ∷ ys) z p q =
+    shared_by (bytes_eq x y) x y xs ys (common_prefix_len bytes_eq xs ys) z refl (λ e f. none_shared xs ys z e f) p q
 
 -- a path that goes up from `base` to what it has in common with a place, and down from there
 pub leads : (base parts : List (List ℕ)) (common up : ℕ) → list_all is_name parts ≡ true → take common base ≡ take common parts

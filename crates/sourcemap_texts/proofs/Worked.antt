@@ -1,10 +1,13 @@
 -- Worked examples, computed by the definitions themselves.
-use Rattle.std.specs.Prelude.{◌≡◌, refl, ℕ, true, false, List, [], ◌∷◌, codes, Some, None, length}
+use Rattle.std.specs.Prelude.{◌≡◌, refl, ℕ, true, false, List, [], ◌∷◌, ◌++◌, codes, Some, None}
+use Rattle.std.specs.Prelude.{length}
 use Rattle.std.proofs.Common.{lit<, true≢false, ap, sym, ◌∙◌, arith, Bool, Option}
 use Rattle.std.specs.Option.{unwrap_or}
 use Rattle.std.specs.Str.{bytes_eq}
 use Rattle.oxc_sourcemap_tokens.specs.declared.position.Position.{Position}
 use Rattle.std.specs.Borrow.{Bor}
+use Rattle.std.specs.Str.{chars}
+use lib.Utf8.{encode}
 use Rattle.oxc_sourcemap_parts.specs.Record.{Text}
 use Rattle.sourcemap_texts.specs.declared.matching.Candidate.{Candidate}
 use Rattle.sourcemap_texts.specs.declared.matching.Choice.TheVariants.{Determined, MaybeFirst}
@@ -12,12 +15,20 @@ use Rattle.sourcemap_texts.specs.declared.matching.Choice.TheVariants.{Nothing}
 use Rattle.sourcemap_texts.specs.Matching.{below_length, ends_in_folder, tells_apart, chosen}
 use Rattle.sourcemap_texts.specs.Paths.{place_of, named, is_in_folder, begins_plainly, IsMoved}
 use Rattle.sourcemap_texts.specs.Positions.{IsSourcePosition}
+use Rattle.sourcemap_texts.specs.Texts.{visible_string}
+use Rattle.oxc_sourcemap_json.specs.JsonString.{json_string, escaped}
 
 abbrev at : ℕ → ℕ → Position
 at line column = record { line = line; column = column }
 
 abbrev lent : Text → Bor Text
 lent text = record { ref_ptr = (0, 0); now = text }
+
+-- ---- texts in quotes
+-- `a`, a quote, a backslash, a line feed, U+0001, DEL and `é`
+tells-in_quotes : visible_string (97 ∷ 34 ∷ 92 ∷ 10 ∷ 1 ∷ 127 ∷ 195 ∷ 169 ∷ []) ≡ codes "\"a\\\"\\\\\\n\\u0001\\u007f" ++ 195 ∷ 169 ∷ codes "\""
+unfolding json_string escaped chars encode
+tells-in_quotes = refl
 
 -- ---- which code a path names
 is_below-its_prefix : below_length (codes "C:/proj/dist/a.js") (codes "C:/proj/") ≡ 8

@@ -1,6 +1,6 @@
 -- How texts are shown.
-use Rattle.std.specs.Prelude.{ℕ, ◌/◌, ◌%◌, List, ◌++◌, ◌∷◌, [], codes, Bool, not, ◌&&◌, ◌||◌, ◌==◌}
-use Rattle.std.specs.Prelude.{nat_le, if◌then◌else◌, chars, encode_utf8}
+use Rattle.std.specs.Prelude.{◌≡◌, ℕ, ◌/◌, ◌%◌, List, ◌++◌, ◌∷◌, [], codes, Bool, not, ◌&&◌, ◌||◌}
+use Rattle.std.specs.Prelude.{◌==◌, nat_le, if◌then◌else◌, chars, encode_utf8, IsUtf8}
 use Rattle.std.specs.Char.{digit_char}
 use Rattle.std.specs.List.{list_all, flat_map}
 use Rattle.oxc_sourcemap_parts.specs.Record.{Text}
@@ -31,6 +31,11 @@ visible text = flat_map visible_char (chars text)
 -- a text as a JSON string in which hidden characters are escaped, also those that JSON allows
 abbrev pub visible_string : Text → Text
 visible_string text = visible (json_string text)
+
+-- Strings are told apart: equal texts that begin with the strings of two texts begin with the string of one text, and go on alike.
+abbrev pub VisibleStringsToldApart : Type 0
+VisibleStringsToldApart =
+    (p q r s : Text) → IsUtf8 p → IsUtf8 q → visible_string p ++ r ≡ visible_string q ++ s → (p ≡ q) × (r ≡ s)
 
 -- Whether a character of a path or a name may be printed as it is: it is not hidden, and no quote.
 abbrev pub is_plain : ℕ → Bool

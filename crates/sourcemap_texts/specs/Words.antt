@@ -3,6 +3,7 @@ pub use Rattle.oxc_sourcemap_tokens.specs.Results.{OnlyMemory, Pushes, lent_item
 pub use Rattle.oxc_sourcemap_json.specs.Words.{OnlyAdds}
 pub use Rattle.sourcemap_texts.specs.Texts.{is_hidden, unicode_escape, visible_char, visible}
 pub use Rattle.sourcemap_texts.specs.Texts.{visible_string, is_plain, shown}
+pub use Rattle.sourcemap_texts.specs.Texts.{VisibleStringsToldApart}
 pub use Rattle.sourcemap_texts.specs.Positions.{IsNumber, IsPosition, IsSourcePosition, is_colon}
 pub use Rattle.sourcemap_texts.specs.Paths.{parts_of, stepped, led, outer_folder, place_of, named}
 pub use Rattle.sourcemap_texts.specs.Paths.{begins_with_slash, is_absolute, is_url, is_in_folder}

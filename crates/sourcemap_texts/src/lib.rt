@@ -9,4 +9,7 @@ mod texts;
 pub use matching::{Candidate, Choice, Prefix, choose, longest_prefix};
 pub use paths::{is_absolute, is_url, relative_path};
 pub use positions::{position_of, source_position_of};
-pub use texts::{is_hidden, push_shown, push_visible, push_visible_char, push_visible_string};
+pub use texts::{
+    is_hidden, push_shown, push_visible, push_visible_char, push_visible_string,
+    visible_strings_told_apart,
+};

@@ -5,6 +5,7 @@ ghost use Rattle.std.specs.List.{list_all};
 ghost use Rattle.sourcemap_texts.specs.Words.{OnlyMemory, OnlyAdds, Pushes, is_hidden, shown};
 ghost use Rattle.sourcemap_texts.specs.Words.{unicode_escape, visible_char, visible};
 ghost use Rattle.sourcemap_texts.specs.Words.{visible_string, is_plain};
+ghost use Rattle.sourcemap_texts.specs.Words.{VisibleStringsToldApart};
 
 use oxc_sourcemap_json::push_json_string;
 use oxc_sourcemap_tokens::Result;
@@ -76,6 +77,12 @@ pub fn push_visible_string(text: &str, out: &mut String) -> Result<()>
     push_json_string(text, &mut string)?;
     push_visible(string.as_str(), out)
 }
+
+/// Strings are told apart: equal texts that begin with the strings of two texts, as `push_visible_string` writes them, begin with the
+/// string of one text, and go on alike. So a string tells its text and where it ends, whatever is written behind it.
+pub fn visible_strings_told_apart()
+    ensures { VisibleStringsToldApart }
+{}
 
 /// Whether a path or a name may be printed as it is: no character is hidden or a quote.
 fn is_plain(text: &str) -> bool

@@ -1,18 +1,15 @@
 -- Paths that are led from one folder to another.
-use Rattle.std.proofs.Common.{◌≡◌, ℕ, Bool, true, false, not, ◌==◌, List, [], ◌∷◌, ◌++◌, refl, sym}
+use Rattle.std.proofs.Common.{◌≡◌, true, false, List, [], ◌∷◌, ◌++◌, refl, sym}
 use Rattle.std.proofs.Common.{ap, ◌∙◌, true≢false}
 use Rattle.std.proofs.Common.{Bor, String, string_bytes, Global}
-use Rattle.std.specs.List.{list_any, list_all, onto_first, AllZip}
+use Rattle.std.specs.List.{list_all, AllZip}
 use Rattle.std.proofs.lemmas.List.{map-append}
 use Rattle.std.proofs.lemmas.List.Elements.{AllZip-push}
 use Rattle.oxc_sourcemap_tokens.specs.Results.{lent_items}
-use Rattle.std.proofs.lemmas.Bool.{not-true, or_parts, or_from}
-use Rattle.std.proofs.lemmas.List.Splits.{slice_split-cons_yes, slice_split-cons_no}
 use Rattle.oxc_sourcemap_parts.specs.Record.{Text}
-use Rattle.sourcemap_texts.specs.Positions.{is_colon}
-use Rattle.sourcemap_texts.specs.Paths.{is_slash, parts_of, led, outer_folder, place_of, named}
+use Rattle.sourcemap_texts.specs.Paths.{led, outer_folder, place_of, named}
 use Rattle.sourcemap_texts.specs.Paths.{is_in_folder, is_name}
-use Rattle.sourcemap_texts.specs.Paths.{begins_with_slash, is_absolute, begins_plainly, LeadsTo}
+use Rattle.sourcemap_texts.specs.Paths.{LeadsTo}
 use Rattle.sourcemap_texts.specs.Paths.{IsMoved, written}
 use Rattle.sourcemap_texts.proofs.Ways.{names_led}
 

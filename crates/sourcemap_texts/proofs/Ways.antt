@@ -18,7 +18,7 @@ use Rattle.sourcemap_texts.specs.Paths.{is_slash, parts_of, is_here, stepped, le
 use Rattle.sourcemap_texts.specs.Paths.{begins_plainly, begins_with_slash, is_absolute, is_in_folder}
 use Rattle.oxc_sourcemap_parts.specs.Roots.{is_of_scheme, ends_scheme, has_scheme}
 use Rattle.std.specs.Char.{is_ascii_alphabetic}
-use Rattle.sourcemap_texts.specs.Paths.{front_of, climbing, LeadsTo}
+use Rattle.sourcemap_texts.specs.Paths.{climbing, LeadsTo}
 
 -- ---- parts of a path
 pub split_none : (xs : List ℕ) → list_any is_slash xs ≡ false → parts_of xs ≡ xs ∷ []

@@ -1,7 +1,7 @@
 use Rattle.std.proofs.Common.{◌≡◌, ◌++◌, ◌∷◌, [], ◌∙◌, ap, rules, string_bytes, length}
 use Rattle.std.specs.List.{repeat}
 use Rattle.std.specs.Str.Chunks.{utf8_chunks_rest, utf8_chunk_valid, utf8_chunk_invalid}
-use Rattle.sourcemap_run.proofs.Masks.{at_first, one_more_chunk}
+use Rattle.sourcemap_run.proofs.Masks.{at_first, one_more_chunk, at_last}
 use Rattle.sourcemap_run.proofs.raw_lines.masked.Goals as goal
 
 pub loop-chunk-init : goal.loop-chunk-init
@@ -17,3 +17,6 @@ loop-chunk-preserved c =
     (utf8_chunks_rest c.next.new.self) (string_bytes c.push_str.new.self) c.as_str.result.now (string_bytes c.push_str-in-loop-chunk.new.self) c.loop-chunk.invariant
     c.in-Some.ensures.steps.0 c.in-Some.ensures.steps.3.0 c.in-Some.ensures.steps.3.1 (c.in_ok-push_str.ensures.bytes ∙ ap (λ v. text ++ v) c.valid.ensures)
     (c.as_str.ensures.value ∙ c.in_ok-repeat.ensures.bytes ∙ ap (λ l. repeat (length l) (0 ∷ [])) c.invalid.ensures) c.in_ok-push_str-2.ensures.bytes
+
+pub returns : goal.returns
+returns c = at_last c.args.line.now (string_bytes c.loop-chunk.text) (utf8_chunks_rest c.loop-chunk.chunk-iterator) c.loop-chunk.invariant c.in-None.ensures.steps.0

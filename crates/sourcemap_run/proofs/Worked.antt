@@ -2,9 +2,9 @@
 use Rattle.std.specs.Prelude.{◌≡◌, refl, ℕ, true, false, List, [], ◌∷◌, codes, Option}
 use Rattle.std.specs.Prelude.{Some, None}
 use Rattle.std.specs.Borrow.{Bor}
-use Rattle.std.specs.Str.{chars}
+use Rattle.std.specs.Str.{chars, is_utf8}
 use lib.Utf8.{encode}
-use Rattle.std.proofs.Common.{inl, inr}
+use Rattle.std.proofs.Common.{inl}
 use Rattle.std.specs.Str.Lossy.{utf8_valid_len, utf8_error_len}
 use Rattle.oxc_sourcemap_tokens.specs.declared.position.Position.{Position}
 use Rattle.oxc_sourcemap_parts.specs.Record.{Text, MapRecord}
@@ -199,9 +199,7 @@ splices-nothing : spliced (codes "at b.js:1:2") 0 [] ≡ codes "at b.js:1:2"
 splices-nothing = refl
 
 has-NUL_for_no_text : IsMasked (97 ∷ 255 ∷ 98 ∷ []) (97 ∷ 0 ∷ 98 ∷ [])
-unfolding utf8_valid_len
-
-unfolding utf8_error_len
+unfolding utf8_valid_len utf8_error_len encode is_utf8 chars
 has-NUL_for_no_text =
     IsMasked.cut (97 ∷ 255 ∷ 98 ∷ []) (97 ∷ []) (255 ∷ []) (98 ∷ []) (98 ∷ []) refl refl refl (IsMasked.whole (98 ∷ []) (98 ∷ [], (refl, refl)))
 

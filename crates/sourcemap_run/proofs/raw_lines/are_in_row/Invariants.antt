@@ -1,4 +1,4 @@
-use Rattle.std.proofs.Common.{◌≡◌, drop, length}
+use Rattle.std.proofs.Common.{◌≡◌, drop}
 use Rattle.sourcemap_run.specs.RawLines.{are_in_row}
 use Rattle.sourcemap_run.proofs.raw_lines.are_in_row.Given as goal
 

@@ -74,21 +74,21 @@ one_more_mark paths marks i text old new lt is so_far raises path line =
 
 -- ---- the order of lines
 abbrev pub Key : Type 0
-Key = Bor Text × ℕ
+Key = ℕ × Bor Text
 
 abbrev pub Counts : Type 0
 Counts = BTreeMap Key ℕ
 
--- by path, then by number
+-- by number, then by path
 abbrev pub line_cmp : Key → Key → Ordering
-line_cmp a b = ordering_then (slice_cmp nat_cmp a.0.now b.0.now) (nat_cmp a.1 b.1)
+line_cmp a b = ordering_then (nat_cmp a.0 b.0) (slice_cmp nat_cmp a.1.now b.1.now)
 
 -- a line as a key
 abbrev key : Text → ℕ → Key
-key path line = (record { ref_ptr = (0, 0); now = path }, line)
+key path line = (line, record { ref_ptr = (0, 0); now = path })
 
 line_cmp_total : IsTotalOrder line_cmp
-line_cmp_total = then_total (on_total (λ (k : Key). k.0.now) nat_list_cmp_total) (on_total (λ (k : Key). k.1) nat_cmp_total)
+line_cmp_total = then_total (on_total (λ (k : Key). k.0) nat_cmp_total) (on_total (λ (k : Key). k.1.now) nat_list_cmp_total)
 
 -- what the tests of the order say
 number_by : (b t : Bool) (x y : ℕ) → nat_lt x y ≡ b → (x == y) ≡ t → is_eq (cond b Less (cond t Equal Greater)) ≡ t
@@ -100,10 +100,16 @@ number_by false false x y p e = refl
 pub same_number : (x y : ℕ) → is_eq (nat_cmp x y) ≡ (x == y)
 same_number x y = number_by _ _ x y refl refl
 
-same_line : (path other : Text) (line n : ℕ) → is_eq (ordering_then (slice_cmp nat_cmp path other) (nat_cmp line n)) ≡ bytes_eq path other && line == n
+same_line : (path other : Text) (line n : ℕ) → is_eq (ordering_then (nat_cmp line n) (slice_cmp nat_cmp path other)) ≡ bytes_eq path other && line == n
 same_line path other line n =
-    sym (tied_then (slice_cmp nat_cmp path other) (nat_cmp line n)) ∙ ap (λ t. t && is_eq (nat_cmp line n)) (is_eq-slice_cmp path other)
-    ∙ ap (λ t. bytes_eq path other && t) (same_number line n)
+    sym (tied_then (nat_cmp line n) (slice_cmp nat_cmp path other)) ∙ ap (λ t. t && is_eq (slice_cmp nat_cmp path other)) (same_number line n)
+    ∙ ap (λ t. line == n && t) (is_eq-slice_cmp path other) ∙ turned (line == n) (bytes_eq path other)
+  where
+    turned : (s t : Bool) → s && t ≡ t && s
+    turned true true = refl
+    turned true false = refl
+    turned false true = refl
+    turned false false = refl
 
 -- ---- a count that is raised
 own_by : (old : Counts) (path other : Text) (line n count : ℕ) (b t : Bool) → bytes_eq path other ≡ b → (line == n) ≡ t
@@ -115,12 +121,12 @@ own_by old path other line n count true true e f =
 own_by old path other line n count true false e f = refl
 own_by old path other line n count false t e f = refl
 
-pub raised_line : (old new : Counts) (path : Bor Text) (line count most : ℕ) → most ≡ raised (get line_cmp old (path, line)) count
-    → ((k : Key) → get line_cmp new k ≡ cond (is_at (line_cmp (path, line)) k) (Some most) (get line_cmp old k))
+pub raised_line : (old new : Counts) (path : Bor Text) (line count : ℕ) → Some count ≡ Some (raised (get line_cmp old (line, path)) count)
+    → ((k : Key) → get line_cmp new k ≡ cond (is_at (line_cmp (line, path)) k) (Some count) (get line_cmp old k))
     → (other : Text) (n : ℕ) → count_at new other n ≡ cond (bytes_eq path.now other && line == n) (Some (raised (count_at old other n) count)) (count_at old other n)
-raised_line old new path line count most is puts other n =
-    puts (key other n) ∙ ap (λ t. cond t (Some most) (count_at old other n)) (same_line path.now other line n)
-    ∙ ap (λ m. cond (bytes_eq path.now other && line == n) (Some m) (count_at old other n)) is
+raised_line old new path line count is puts other n =
+    puts (key other n) ∙ ap (λ t. cond t (Some count) (count_at old other n)) (same_line path.now other line n)
+    ∙ ap (λ m. cond (bytes_eq path.now other && line == n) m (count_at old other n)) is
     ∙ own_by old path.now other line n count _ _ refl refl
 
 -- ---- counts in order: of a line there is one at most
@@ -150,7 +156,7 @@ module _ {K X : Type 0} (eq : K → K → Bool) (test : K → Bool) (same : (k q
 
 -- a key is this line
 abbrev pub is_line : Text → ℕ → Key → Bool
-is_line path line k = is_eq (ordering_then (slice_cmp nat_cmp path k.0.now) (nat_cmp line k.1))
+is_line path line k = is_eq (ordering_then (nat_cmp line k.0) (slice_cmp nat_cmp path k.1.now))
 
 -- the counts of a line, of those in a list
 abbrev pub counts_of : Text → ℕ → List (Key × ℕ) → List ℕ
@@ -163,7 +169,7 @@ counts_of-ordered counts ordered path line =
     (IsDistinct-from_sorted line_cmp (keys_of counts.entries) ordered)
 
 -- the test that a total is added by
-pub is_line-tests : (k : Key) (path : Text) (line : ℕ) → (bytes_eq k.0.now path && k.1 == line) ≡ is_line path line k
+pub is_line-tests : (k : Key) (path : Text) (line : ℕ) → (bytes_eq k.1.now path && k.0 == line) ≡ is_line path line k
 is_line-tests k path line =
     let laws : IsEquivalence (eq_by_cmp line_cmp) = eq_by_cmp_equiv line_cmp_total in
-    sym (same_line k.0.now path k.1 line) ∙ laws.symm k (key path line)
+    sym (same_line k.1.now path k.0 line) ∙ laws.symm k (key path line)

@@ -47,7 +47,7 @@ step_by path line total entry rest false e = rw e refl
 
 -- the next count is added, and those of the rest are left
 pub one_more_count : (path : Text) (line : ℕ) (old new all : Option ℕ) (entry : Key × ℕ) (left rest : List (Key × ℕ))
-    → left ≡ entry ∷ rest → new ≡ cond (bytes_eq entry.0.0.now path && entry.0.1 == line) (Some (with_count old entry.1)) old
+    → left ≡ entry ∷ rest → new ≡ cond (bytes_eq entry.0.1.now path && entry.0.0 == line) (Some (with_count old entry.1)) old
     → with_counts old (counts_of path line left) ≡ all → with_counts new (counts_of path line rest) ≡ all
 one_more_count path line old new all entry left rest e f so_far =
     ap (λ t. with_counts t (counts_of path line rest)) (f ∙ ap (λ t. cond t (Some (with_count old entry.1)) old) (is_line-tests entry.0 path line))

@@ -34,9 +34,9 @@ is_mark_of paths path line m = bytes_eq (path_at paths m.source_id) path && m.li
 abbrev pub original_count : List Text → List Mark → Text → ℕ → Option ℕ
 original_count paths marks path line = greatest (map (λ m. m.count) (filter (is_mark_of paths path line) marks))
 
--- the count of a line of the original with this path, of counts by path and number
-abbrev pub count_at : BTreeMap (Bor Text × ℕ) ℕ → Text → ℕ → Option ℕ
-count_at counts path line = get_by (λ k. ordering_then (slice_cmp nat_cmp path k.0.now) (nat_cmp line k.1)) counts
+-- the count of a line of the original with this path, of counts by number and path
+abbrev pub count_at : BTreeMap (ℕ × Bor Text) ℕ → Text → ℕ → Option ℕ
+count_at counts path line = get_by (λ k. ordering_then (nat_cmp line k.0) (slice_cmp nat_cmp path k.1.now)) counts
 
 -- a line that did not run
 abbrev pub is_missed : ℕ × ℕ → Bool

@@ -71,8 +71,8 @@ pub fn push_marks(map: &SourceMap<'_>, block: Block, marks: &mut Vec<Mark>) -> M
     Ok(())
 }
 
-/// How often lines of originals ran in a script, by path and number.
-pub type LineCounts<'p> = BTreeMap<(&'p str, u32), u64>;
+/// How often lines of originals ran in a script, by number and path: fewer paths are compared than by path and number.
+pub type LineCounts<'p> = BTreeMap<(u32, &'p str), u64>;
 
 /// The path of a source, of these paths of all sources; empty for a source that is not there.
 fn path_at(paths: &[String], id: u32) -> &str
@@ -84,13 +84,13 @@ fn path_at(paths: &[String], id: u32) -> &str
     }
 }
 
-/// The greater of a count that may be there and another one.
-fn greater(most: Option<u64>, count: u64) -> u64
-    ensures { result ≡ raised most count }
+/// Whether a count that may be there need not be raised to this one.
+fn reaches(most: Option<u64>, count: u64) -> bool
+    ensures { (if result then most else Some count) ≡ Some (raised most count) }
 {
     match most {
-        Some(most) if most > count => most,
-        _ => count,
+        Some(most) => most >= count,
+        None => false,
     }
 }
 
@@ -100,9 +100,11 @@ fn raise<'p>(counts: &mut LineCounts<'p>, path: &'p str, line: u32, count: u64) 
         ≡ (if bytes_eq path.now p && line == n
         then Some (raised (count_at counts.old p n) count) else count_at counts.old p n)) }
 {
-    let key = (path, line);
-    let most = greater(counts.get(&key).copied(), count);
-    counts.insert(key, most)?;
+    let key = (line, path);
+    if reaches(counts.get(&key).copied(), count) {
+        return Ok(());
+    }
+    counts.insert(key, count)?;
     Ok(())
 }
 

@@ -55,7 +55,7 @@ fn add_counts(alloc: Global, totals: &mut Totals, counts: &LineCounts<'_>) -> Me
     ensures lined { OnOk result (HaveLines totals.old → HaveLines totals.new) }
 {
     for (line, count) in counts {
-        add_count(alloc, totals, line.0, line.1, *count)?;
+        add_count(alloc, totals, line.1, line.0, *count)?;
     }
     Ok(())
 }

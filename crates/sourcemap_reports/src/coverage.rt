@@ -9,8 +9,8 @@ use sourcemap_files::{
     shown_name, tell, warn,
 };
 use sourcemap_run::{
-    Block, LineCounts, Mark, Totals, add_counts, count_lines, counted_lines, percent, push_covered,
-    push_lcov, push_marks, push_missed, ran,
+    Block, Mark, Totals, add_marks, counted_lines, percent, push_covered, push_lcov, push_marks,
+    push_missed, ran,
 };
 use sourcemap_texts::{is_hidden, push_shown};
 use sourcemap_words::{Outcome, Report, Run, Script, failure_of, runs_of};
@@ -92,8 +92,13 @@ fn marks_of(
     Ok(marks)
 }
 
-/// How often lines ran, by source id and number: as often as the code of theirs that ran most often.
-fn lines_of(alloc: Global, code: &str, map: &SourceMap<'_>, runs: &[Run]) -> Outcome<LineCounts> {
+/// What the pieces of a script that have code say of lines.
+fn code_marks_of(
+    alloc: Global,
+    code: &str,
+    map: &SourceMap<'_>,
+    runs: &[Run],
+) -> Outcome<Vec<Mark>> {
     let positions = TextPositions::new(alloc, code)?;
     let units = utf16_units(alloc, code)?;
     let code = Code {
@@ -102,7 +107,7 @@ fn lines_of(alloc: Global, code: &str, map: &SourceMap<'_>, runs: &[Run]) -> Out
     };
     let mut marks = marks_of(alloc, map, &positions, runs)?;
     marks.retain(|mark| has_code(&code, mark));
-    Ok(count_lines(alloc, marks.as_slice())?)
+    Ok(marks)
 }
 
 /// The path of a source of a map in a folder, `..` taken together with the parts before it: from the current folder if it is in that,
@@ -154,12 +159,12 @@ impl Coverage {
     }
 
     /// Adds the lines of a script to those of its sources.
-    fn add(&mut self, map: &SourceMap<'_>, folder: &str, lines: &LineCounts) -> Outcome<()> {
+    fn add(&mut self, map: &SourceMap<'_>, folder: &str, marks: &[Mark]) -> Outcome<()> {
         let mut paths = Vec::new(self.alloc);
         for source in map.get_sources() {
             paths.push(path_from_here(self.alloc, self.folder.as_str(), folder, source)?)?;
         }
-        Ok(add_counts(self.alloc, &mut self.sources, paths.as_slice(), lines)?)
+        Ok(add_marks(self.alloc, &mut self.sources, paths.as_slice(), marks)?)
     }
 
     fn leave_out(&mut self, code: &str, why: String) -> Outcome<()> {
@@ -180,8 +185,8 @@ impl Coverage {
         let mut map = SourceMap::from_parts(read_map(asked.rt, text)?);
         map.apply_source_root(self.alloc)?;
         let runs = runs_of(self.alloc, script)?;
-        let lines = lines_of(self.alloc, code, &map, runs.as_slice())?;
-        self.add(&map, text.folder.as_str(), &lines)
+        let marks = code_marks_of(self.alloc, code, &map, runs.as_slice())?;
+        self.add(&map, text.folder.as_str(), marks.as_slice())
     }
 
     /// The code of a script, if it is there.

@@ -1,6 +1,6 @@
 -- Worked examples of what the program prints, computed by the definitions themselves.
 use Rattle.std.specs.Prelude.{◌≡◌, refl, ℕ, true, false, List, [], ◌∷◌, codes, Option}
-use Rattle.std.specs.Prelude.{Some, None}
+use Rattle.std.specs.Prelude.{Some, None, option_to_list}
 use Rattle.std.specs.Borrow.{Bor}
 use Rattle.std.specs.Str.{chars, is_utf8}
 use lib.Utf8.{encode}
@@ -16,11 +16,11 @@ use Rattle.sourcemap_run.specs.declared.counting.Mark.{Mark}
 use Rattle.sourcemap_run.specs.declared.frames.Cut.{Cut}
 use Rattle.sourcemap_run.specs.declared.frames.Target.{Target}
 use Rattle.sourcemap_run.specs.declared.raw_lines.Splice.{Splice}
-use Rattle.sourcemap_run.specs.Counts.{line_count, missed_ranges}
+use Rattle.sourcemap_run.specs.Counts.{original_count, missed_ranges}
 use Rattle.sourcemap_run.specs.Frames.{frame_position, answer_to, location_text, line_led_back}
 use Rattle.sourcemap_run.specs.Differences.{is_same_answer}
 use Rattle.sourcemap_run.specs.Contexts.{context_text, before_column, mark_line}
-use Rattle.sourcemap_run.specs.Totals.{with_counts, counts_of}
+use Rattle.sourcemap_run.specs.Totals.{with_counts}
 use Rattle.sourcemap_run.specs.Covered.{ran, missed_text, lcov_text, missed_numbers}
 use Rattle.sourcemap_run.specs.Covered.{covered_members}
 use Rattle.sourcemap_run.specs.Covered.{covered_line, told}
@@ -40,20 +40,31 @@ at line column = record { line = line; column = column }
 abbrev mark : ℕ → ℕ → ℕ → Mark
 mark source_id line count = record { source_id = source_id; line = line; count = count; start = at 0 0; end = at 0 1 }
 
-abbrev four_marks : List Mark
-four_marks = mark 0 3 1 ∷ mark 1 3 9 ∷ mark 0 3 4 ∷ mark 0 4 0 ∷ []
+-- sources 0 and 2 have one path
+abbrev three_paths : List Text
+three_paths = codes "a.ts" ∷ codes "b.ts" ∷ codes "a.ts" ∷ []
 
-counts-the_greatest_of_a_line : line_count four_marks (0, 3) ≡ Some 4
-counts-the_greatest_of_a_line = refl
+abbrev six_marks : List Mark
+six_marks = mark 0 3 1 ∷ mark 1 3 9 ∷ mark 2 3 2 ∷ mark 0 3 4 ∷ mark 0 4 0 ∷ mark 2 5 1 ∷ []
 
-counts-each_source_by_itself : line_count four_marks (1, 3) ≡ Some 9
-counts-each_source_by_itself = refl
+-- and not 4 and 2, the greatest of each source, together
+counts-the_greatest_of_all_sources_with_the_path : original_count three_paths six_marks (codes "a.ts") 3 ≡ Some 4
+counts-the_greatest_of_all_sources_with_the_path = refl
 
-counts-a_line_that_did_not_run : line_count four_marks (0, 4) ≡ Some 0
+counts-each_original_by_itself : original_count three_paths six_marks (codes "b.ts") 3 ≡ Some 9
+counts-each_original_by_itself = refl
+
+counts-a_line_that_did_not_run : original_count three_paths six_marks (codes "a.ts") 4 ≡ Some 0
 counts-a_line_that_did_not_run = refl
 
-counts-nothing_without_a_mark : line_count four_marks (1, 4) ≡ None
+counts-a_line_of_the_second_source_alone : original_count three_paths six_marks (codes "a.ts") 5 ≡ Some 1
+counts-a_line_of_the_second_source_alone = refl
+
+counts-nothing_without_a_mark : original_count three_paths six_marks (codes "b.ts") 4 ≡ None
 counts-nothing_without_a_mark = refl
+
+counts-nothing_of_another_path : original_count three_paths six_marks (codes "c.ts") 3 ≡ None
+counts-nothing_of_another_path = refl
 
 -- a line without a count does not end a range, as 9 and 10 here
 has-ranges : missed_ranges ((3, 0) ∷ (4, 1) ∷ (7, 0) ∷ (8, 0) ∷ (11, 0) ∷ (12, 5) ∷ []) ≡ (3, 3) ∷ (7, 11) ∷ []
@@ -63,7 +74,11 @@ has-no_range : missed_ranges ((3, 1) ∷ (4, 2) ∷ []) ≡ []
 has-no_range = refl
 
 -- ---- counts of lines over scripts
-adds-two_scripts : with_counts (with_counts None (3 ∷ 4 ∷ [])) (5 ∷ []) ≡ Some 12
+-- in a second script, whose source is a.ts, its line 3 ran 5 times
+adds-two_scripts :
+    with_counts (with_counts None (option_to_list (original_count three_paths six_marks (codes "a.ts") 3)))
+    (option_to_list (original_count (codes "a.ts" ∷ []) (mark 0 3 5 ∷ mark 0 3 2 ∷ []) (codes "a.ts") 3))
+    ≡ Some 9
 adds-two_scripts = refl
 
 ends-at_the_greatest : with_counts (Some 0xffff_ffff_ffff_fffe) (3 ∷ []) ≡ Some 0xffff_ffff_ffff_ffff
@@ -74,19 +89,6 @@ keeps-a_line_that_did_not_run = refl
 
 keeps-no_line_without_a_count : with_counts None [] ≡ None
 keeps-no_line_without_a_count = refl
-
--- sources 0 and 2 have one path
-abbrev three_paths : List Text
-three_paths = codes "a.ts" ∷ codes "b.ts" ∷ codes "a.ts" ∷ []
-
-abbrev four_counts : List ((ℕ × ℕ) × ℕ)
-four_counts = ((0, 3), 4) ∷ ((1, 3), 9) ∷ ((2, 3), 2) ∷ ((2, 5), 1) ∷ []
-
-takes-sources_of_one_path : counts_of three_paths (codes "a.ts") 3 four_counts ≡ 4 ∷ 2 ∷ []
-takes-sources_of_one_path = refl
-
-takes-no_other_path : counts_of three_paths (codes "c.ts") 3 four_counts ≡ []
-takes-no_other_path = refl
 
 -- ---- what is printed of lines that ran
 abbrev five_lines : List (ℕ × ℕ)

@@ -1,14 +1,19 @@
--- How often lines of originals ran.
+-- How often lines of originals ran in a script. An original is the source, or all sources, with one path.
 use Rattle.std.specs.Prelude.{ℕ, Bool, ◌&&◌, ◌==◌, List, [], ◌∷◌, map, false}
-use Rattle.std.specs.Prelude.{Option, Some, None, nat_lt, if◌then◌else◌}
+use Rattle.std.specs.Prelude.{Option, Some, None, nat_lt, if◌then◌else◌, slice_get}
+use Rattle.std.specs.Borrow.{Bor}
+use Rattle.std.specs.Option.{unwrap_or}
 use Rattle.std.specs.Ordering.{nat_cmp, ordering_then}
-use Rattle.std.specs.declared.cmp.Ordering.{Ordering}
+use Rattle.std.specs.Cmp.Lexicographic.{slice_cmp}
 use Rattle.std.specs.List.{filter}
+use Rattle.std.specs.Str.{bytes_eq}
+use Rattle.std.specs.BTreeMap.{BTreeMap, get_by}
+use Rattle.oxc_sourcemap_parts.specs.Record.{Text}
 use Rattle.sourcemap_run.specs.declared.counting.Mark.{Mark}
 
--- the order of lines: by source, then by number
-abbrev pub line_cmp : ℕ × ℕ → ℕ × ℕ → Ordering
-line_cmp a b = ordering_then (nat_cmp a.0 b.0) (nat_cmp a.1 b.1)
+-- the path of a source, of these paths of all sources; empty for a source that is not there
+abbrev pub path_at : List Text → ℕ → Text
+path_at paths id = unwrap_or (slice_get paths id) []
 
 -- the greater of a count that may be there and another one
 abbrev pub raised : Option ℕ → ℕ → ℕ
@@ -20,13 +25,18 @@ abbrev pub greatest : List ℕ → Option ℕ
 greatest [] = None
 greatest (n ∷ ns) = Some (raised (greatest ns) n)
 
--- a mark is of this line
-abbrev pub is_of_line : ℕ × ℕ → Mark → Bool
-is_of_line line m = m.source_id == line.0 && m.line == line.1
+-- a mark is of a source with this path, and of this line
+abbrev pub is_mark_of : List Text → Text → ℕ → Mark → Bool
+is_mark_of paths path line m = bytes_eq (path_at paths m.source_id) path && m.line == line
 
--- how often a line ran: the greatest count of its marks; none if it has no mark
-abbrev pub line_count : List Mark → ℕ × ℕ → Option ℕ
-line_count marks line = greatest (map (λ m. m.count) (filter (is_of_line line) marks))
+-- How often a line of the original with this path ran in a script: the greatest count of its marks, of whichever sources with the path
+-- they are; none if it has no mark.
+abbrev pub original_count : List Text → List Mark → Text → ℕ → Option ℕ
+original_count paths marks path line = greatest (map (λ m. m.count) (filter (is_mark_of paths path line) marks))
+
+-- the count of a line of the original with this path, of counts by number and path
+abbrev pub count_at : BTreeMap (ℕ × Bor Text) ℕ → Text → ℕ → Option ℕ
+count_at counts path line = get_by (λ k. ordering_then (nat_cmp line k.0) (slice_cmp nat_cmp path k.1.now)) counts
 
 -- a line that did not run
 abbrev pub is_missed : ℕ × ℕ → Bool

@@ -34,9 +34,9 @@ pub use Rattle.oxc_sourcemap_map.specs.Reverse.{all_generated_for}
 pub use Rattle.sourcemap_run.specs.Reversed.{opened_object, generated_text, separator}
 pub use Rattle.sourcemap_run.specs.Reversed.{next_generated, generated_texts, is_there, line_end}
 pub use Rattle.sourcemap_run.specs.Reversed.{reversed_object, reversed_line}
-pub use Rattle.sourcemap_run.specs.Counts.{line_cmp, raised, line_count}
+pub use Rattle.sourcemap_run.specs.Counts.{path_at, raised, original_count, count_at}
 pub use Rattle.sourcemap_run.specs.Counts.{is_missed, missed_ranges, closed, opened}
-pub use Rattle.sourcemap_run.specs.Totals.{with_count, with_counts, path_at, counts_of, total_at}
+pub use Rattle.sourcemap_run.specs.Totals.{with_count, with_counts, total_at, HaveLines}
 pub use Rattle.sourcemap_run.specs.Totals.{TotalsAddUp}
 pub use Rattle.sourcemap_run.specs.Covered.{ran, range_text, missed_text, lcov_line, lcov_end}
 pub use Rattle.sourcemap_run.specs.Covered.{lcov_text, LcovTellsApart, missed_numbers}

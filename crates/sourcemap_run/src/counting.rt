@@ -1,9 +1,11 @@
 //! How often the lines of originals ran.
-ghost use Rattle.std.specs.Prelude.{◌≡◌, ◌++◌, ℕ, Some, true, OnOk, IfOk};
+ghost use Rattle.std.specs.Prelude.{◌≡◌, ◌++◌, ◌&&◌, ◌==◌, ℕ, List, map, Some, true, OnOk, IfOk};
+ghost use Rattle.std.specs.Prelude.{string_bytes, if◌then◌else◌};
 ghost use Rattle.std.specs.List.{filter_map};
-ghost use Rattle.std.specs.BTreeMap.{get, Updates};
-ghost use Rattle.sourcemap_run.specs.Words.{are_tokens_sorted, pieces_of, mark_of, line_cmp};
-ghost use Rattle.sourcemap_run.specs.Words.{raised, line_count, missed_ranges, closed, opened};
+ghost use Rattle.std.specs.Str.{bytes_eq};
+ghost use Rattle.sourcemap_run.specs.Words.{are_tokens_sorted, pieces_of, mark_of, path_at};
+ghost use Rattle.sourcemap_run.specs.Words.{raised, original_count, count_at};
+ghost use Rattle.sourcemap_run.specs.Words.{missed_ranges, closed, opened};
 
 use oxc_sourcemap_map::SourceMap;
 use oxc_sourcemap_queries::Piece;
@@ -69,30 +71,57 @@ pub fn push_marks(map: &SourceMap<'_>, block: Block, marks: &mut Vec<Mark>) -> M
     Ok(())
 }
 
-/// How often lines of the sources of a map ran, by source id and number.
-pub type LineCounts = BTreeMap<(u32, u32), u64>;
+/// How often lines of originals ran in a script, by number and path: fewer paths are compared than by path and number.
+pub type LineCounts<'p> = BTreeMap<(u32, &'p str), u64>;
 
-/// Raises the count of a line to this one.
-fn raise(counts: &mut LineCounts, line: (u32, u32), count: u64) -> Memory<()>
-    ensures { OnOk result (Updates line_cmp counts.old counts.new line
-        (Some (raised (get line_cmp counts.old line) count))) }
+/// The path of a source, of these paths of all sources; empty for a source that is not there.
+fn path_at(paths: &[String], id: u32) -> &str
+    ensures { result.now ≡ path_at (map string_bytes paths.now) id }
 {
-    let most = match counts.get(&line) {
-        Some(most) if *most > count => *most,
-        _ => count,
-    };
-    counts.insert(line, most)?;
+    match paths.get(id as usize) {
+        Some(path) => path.as_str(),
+        None => "",
+    }
+}
+
+/// Whether a count that may be there need not be raised to this one.
+fn reaches(most: Option<u64>, count: u64) -> bool
+    ensures { (if result then most else Some count) ≡ Some (raised most count) }
+{
+    match most {
+        Some(most) => most >= count,
+        None => false,
+    }
+}
+
+/// Raises the count of a line of an original to this one.
+fn raise<'p>(counts: &mut LineCounts<'p>, path: &'p str, line: u32, count: u64) -> Memory<()>
+    ensures { OnOk result ((p : List ℕ) (n : ℕ) → count_at counts.new p n
+        ≡ (if bytes_eq path.now p && line == n
+        then Some (raised (count_at counts.old p n) count) else count_at counts.old p n)) }
+{
+    let key = (line, path);
+    if reaches(counts.get(&key).copied(), count) {
+        return Ok(());
+    }
+    counts.insert(key, count)?;
     Ok(())
 }
 
-/// How often the lines of some marks ran: each as often as the mark of it that ran most often.
-pub fn count_lines(alloc: Global, marks: &[Mark]) -> Memory<LineCounts>
-    ensures { IfOk result (λ counts. (line : ℕ × ℕ)
-        → get line_cmp counts line ≡ line_count marks.now line) }
+/// How often the lines of originals ran, by the marks of a script: each as often as the mark of it that ran most often. `paths` has the
+/// path of each source: those with one path are one original.
+pub fn count_lines<'p>(alloc: Global, paths: &'p [String], marks: &[Mark]) -> Memory<LineCounts<'p>>
+    ensures { IfOk result (λ counts. (path : List ℕ) (line : ℕ) → count_at counts path line
+        ≡ original_count (map string_bytes paths.now) marks.now path line) }
 {
     let mut counts = BTreeMap::new(alloc);
     for mark in marks {
-        raise(&mut counts, (mark.source_id, mark.line), mark.count)?;
+        raise(
+            &mut counts,
+            path_at(paths, mark.source_id),
+            mark.line,
+            mark.count,
+        )?;
     }
     Ok(counts)
 }

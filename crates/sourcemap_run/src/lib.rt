@@ -19,7 +19,7 @@ mod tracer;
 pub use answers::{Style, push_answer, push_answers, push_members};
 pub use bundling::{Bundle, line_ends, with_line_end};
 pub use contexts::{Content, lines_are_counted};
-pub use counting::{Block, LineCounts, Mark, count_lines, missed_ranges, push_marks};
+pub use counting::{Block, Mark, missed_ranges, push_marks};
 pub use covered::{
     counted_lines, covered_tells_apart, lcov_tells_apart, percent, push_covered, push_lcov,
     push_missed, ran,
@@ -32,5 +32,5 @@ pub use raw_lines::{Splice, push_spliced, text_of};
 pub use rebasing::rebase_sources;
 pub use reversing::push_reversed;
 pub use texts::{push_number_member, push_object, push_original, push_text_member};
-pub use totals::{LineTotals, Totals, add_counts, totals_add_up};
+pub use totals::{LineTotals, Totals, add_marks, totals_add_up};
 pub use tracer::{Answer, Spot, Tracer};

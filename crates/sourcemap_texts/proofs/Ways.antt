@@ -6,7 +6,8 @@ use Rattle.std.proofs.Common.{ap, ap₂, ◌∙◌}
 use Rattle.std.proofs.Common.{arith, append_assoc, append-nil, take_all, take-take, length-take-le}
 use Rattle.std.proofs.Common.{take-append-drop}
 use Rattle.std.proofs.Common.{true≢false, Bor, Option, Some, slice_get}
-use Rattle.std.specs.List.{fold, flat_map, list_any, list_all, onto_first, join_by, repeat, common_prefix_len}
+use Rattle.std.specs.List.{fold, flat_map, list_any, list_all}
+use Rattle.std.specs.List.{onto_first, join_by, repeat, common_prefix_len}
 use Rattle.std.specs.Str.{bytes_eq}
 use Rattle.std.proofs.lemmas.Bool.{not-true, or_parts, or_from, and_parts, and_from}
 use Rattle.std.proofs.lemmas.Option.{none-some}
@@ -15,7 +16,8 @@ use Rattle.std.proofs.lemmas.List.Folds.{list_all-append, flat_map-map}
 use Rattle.std.proofs.lemmas.List.Splits.{slice_split-cons_yes, slice_split-cons_no}
 use Rattle.std.proofs.lemmas.Slice.Eq.{bytes_eq-Decides}
 use Rattle.sourcemap_texts.specs.Paths.{is_slash, parts_of, is_here, stepped, led, is_name}
-use Rattle.sourcemap_texts.specs.Paths.{begins_plainly, begins_with_slash, is_absolute, is_in_folder}
+use Rattle.sourcemap_texts.specs.Paths.{begins_plainly, begins_with_slash}
+use Rattle.sourcemap_texts.specs.Paths.{is_absolute, is_in_folder}
 use Rattle.oxc_sourcemap_parts.specs.Roots.{is_of_scheme, ends_scheme, has_scheme}
 use Rattle.std.specs.Char.{is_ascii_alphabetic}
 use Rattle.sourcemap_texts.specs.Paths.{climbing, LeadsTo}

@@ -4,7 +4,8 @@ use Rattle.std.specs.Prelude.{Some, None, option_to_list}
 use Rattle.std.specs.Borrow.{Bor}
 use Rattle.std.specs.Str.{chars}
 use lib.Utf8.{encode}
-use Rattle.std.proofs.Common.{inl, inr}
+use Rattle.std.specs.BTreeMap.{BTreeMap}
+use Rattle.std.proofs.Common.{inl, inr, sym, true≢false, String, Global}
 use Rattle.oxc_sourcemap_tokens.specs.declared.position.Position.{Position}
 use Rattle.oxc_sourcemap_parts.specs.Record.{Text, MapRecord}
 use Rattle.oxc_sourcemap_parts.specs.Views.{empty_record}
@@ -19,7 +20,7 @@ use Rattle.sourcemap_run.specs.Counts.{original_count, missed_ranges}
 use Rattle.sourcemap_run.specs.Frames.{frame_position, answer_to, location_text, line_led_back}
 use Rattle.sourcemap_run.specs.Differences.{is_same_answer}
 use Rattle.sourcemap_run.specs.Contexts.{context_text, before_column, mark_line}
-use Rattle.sourcemap_run.specs.Totals.{with_counts}
+use Rattle.sourcemap_run.specs.Totals.{with_counts, HaveLines}
 use Rattle.sourcemap_run.specs.Covered.{ran, missed_text, lcov_text, missed_numbers}
 use Rattle.sourcemap_run.specs.Covered.{covered_members}
 use Rattle.sourcemap_run.specs.Covered.{covered_line}
@@ -88,6 +89,12 @@ keeps-a_line_that_did_not_run = refl
 
 keeps-no_line_without_a_count : with_counts None [] ≡ None
 keeps-no_line_without_a_count = refl
+
+-- totals begin without an original
+have_lines-at_first : (totals : BTreeMap (String Global) (BTreeMap ℕ ℕ)) → totals.entries ≡ [] → HaveLines totals
+have_lines-at_first totals none path there =
+    let nothing : false ≡ true = rw none at there in
+    absurd (true≢false (sym nothing))
 
 -- ---- what is printed of lines that ran
 abbrev five_lines : List (ℕ × ℕ)

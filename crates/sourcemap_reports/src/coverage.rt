@@ -107,6 +107,8 @@ fn code_marks_of(
     };
     let mut marks = marks_of(alloc, map, &positions, runs)?;
     marks.retain(|mark| has_code(&code, mark));
+    // Of pieces that stand in a row and say the same one counts as much as all.
+    marks.dedup_by_key(|mark| (mark.source_id, mark.line, mark.count));
     Ok(marks)
 }
 

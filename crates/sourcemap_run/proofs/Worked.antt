@@ -4,7 +4,8 @@ use Rattle.std.specs.Prelude.{Some, None, option_to_list}
 use Rattle.std.specs.Borrow.{Bor}
 use Rattle.std.specs.Str.{chars, is_utf8}
 use lib.Utf8.{encode}
-use Rattle.std.proofs.Common.{inl}
+use Rattle.std.specs.BTreeMap.{BTreeMap}
+use Rattle.std.proofs.Common.{inl, sym, true≢false, String, Global}
 use Rattle.std.specs.Str.Lossy.{utf8_valid_len, utf8_error_len}
 use Rattle.oxc_sourcemap_tokens.specs.declared.position.Position.{Position}
 use Rattle.oxc_sourcemap_parts.specs.Record.{Text, MapRecord}
@@ -20,7 +21,7 @@ use Rattle.sourcemap_run.specs.Counts.{original_count, missed_ranges}
 use Rattle.sourcemap_run.specs.Frames.{frame_position, answer_to, location_text, line_led_back}
 use Rattle.sourcemap_run.specs.Differences.{is_same_answer}
 use Rattle.sourcemap_run.specs.Contexts.{context_text, before_column, mark_line}
-use Rattle.sourcemap_run.specs.Totals.{with_counts}
+use Rattle.sourcemap_run.specs.Totals.{with_counts, HaveLines}
 use Rattle.sourcemap_run.specs.Covered.{ran, missed_text, lcov_text, missed_numbers}
 use Rattle.sourcemap_run.specs.Covered.{covered_members}
 use Rattle.sourcemap_run.specs.Covered.{covered_line, told}
@@ -89,6 +90,12 @@ keeps-a_line_that_did_not_run = refl
 
 keeps-no_line_without_a_count : with_counts None [] ≡ None
 keeps-no_line_without_a_count = refl
+
+-- totals begin without an original
+have_lines-at_first : (totals : BTreeMap (String Global) (BTreeMap ℕ ℕ)) → totals.entries ≡ [] → HaveLines totals
+have_lines-at_first totals none path there =
+    let nothing : false ≡ true = rw none at there in
+    absurd (true≢false (sym nothing))
 
 -- ---- what is printed of lines that ran
 abbrev five_lines : List (ℕ × ℕ)

@@ -52,7 +52,8 @@ abbrev pub first_from : ℕ → List (ℕ × ℕ) → List (ℕ × ℕ)
 first_from number [] = []
 first_from number (range ∷ ranges) = (number, range.1) ∷ ranges
 
--- The ranges of lines that did not run, of lines with their counts: each maximal run of such lines, by its first and its last one.
+-- The ranges of lines that did not run, of lines with their counts: each maximal run of such lines, by its first and its last one. A number
+-- that is not among the lines does not end a range.
 abbrev pub missed_ranges : List (ℕ × ℕ) → List (ℕ × ℕ)
 missed_ranges [] = []
 missed_ranges (line ∷ lines) =

@@ -19,7 +19,8 @@ are_in_row len from [] = nat_le from len
 are_in_row len from (s ∷ ss) = nat_le from s.start && nat_le s.start s.end && are_in_row len s.end ss
 
 -- A line as a text whose bytes stand where those of the line do. It is cut into the longest text at its front, the sequence behind that
--- which is no UTF-8 (as `String::from_utf8_lossy` takes it together), and what is left: a NUL stands for each byte of the sequence.
+-- which is no UTF-8 (as `String::from_utf8_lossy` takes it together), and what is left: a NUL stands for each byte of the sequence, and what is
+-- left is cut in turn.
 pub data IsMasked : Text → Text → Type 0 where
   whole : (line : Text) → IsUtf8 line → IsMasked line line
   cut : (line valid invalid rest text : Text) → line ≡ valid ++ (invalid ++ rest) → length valid ≡ utf8_valid_len line

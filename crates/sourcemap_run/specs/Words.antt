@@ -48,3 +48,4 @@ pub use Rattle.sourcemap_run.specs.Contexts.{context_line, lines_around, context
 pub use Rattle.sourcemap_run.specs.Contexts.{LinesAreCounted}
 pub use Rattle.sourcemap_run.specs.RawLines.{spliced, are_in_row, IsMasked}
 pub use Rattle.sourcemap_texts.specs.Paths.{IsMoved, IsRebased, written}
+pub use Rattle.oxc_sourcemap_parts.specs.Roots.{rooted}

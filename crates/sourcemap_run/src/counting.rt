@@ -109,7 +109,7 @@ fn raise<'p>(counts: &mut LineCounts<'p>, path: &'p str, line: u32, count: u64) 
 }
 
 /// How often the lines of originals ran, by the marks of a script: each as often as the mark of it that ran most often. `paths` has the
-/// path of each source: those with one path are one original.
+/// path of each source: those with one path are one original. A source that is not there has the empty path.
 pub fn count_lines<'p>(alloc: Global, paths: &'p [String], marks: &[Mark]) -> Memory<LineCounts<'p>>
     ensures { IfOk result (λ counts. (path : List ℕ) (line : ℕ) → count_at counts path line
         ≡ original_count (map string_bytes paths.now) marks.now path line) }

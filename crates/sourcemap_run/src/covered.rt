@@ -31,7 +31,7 @@ pub fn ran(lines: &[(u32, u64)]) -> u64
     lines.iter().filter(|line| line.1 > 0).count() as u64
 }
 
-/// How many of a hundred lines ran, rounded down; None if there are no lines.
+/// How many of a hundred lines ran, rounded down, if a hundred times as many fit 64 bits; None if there are no lines.
 pub fn percent(ran: u64, all: u64) -> Option<u64>
     ensures none { all ≡ 0 → result ≡ None }
     ensures part { all ≢ 0 → ran * 100 < 2 ^ 64 → result ≡ Some ((ran * 100) / all) }
@@ -152,7 +152,7 @@ pub fn push_lcov(alloc: Global, path: &str, lines: &[(u32, u64)], out: &mut Stri
     push_lcov_end(alloc, lines, out)
 }
 
-/// The text for lcov tells originals apart: no two lists of them, whose paths have no line feed, have one text.
+/// The text for lcov tells originals apart: no two different lists of them, whose paths have no line feed, have one text.
 pub fn lcov_tells_apart()
     ensures { LcovTellsApart }
 {}

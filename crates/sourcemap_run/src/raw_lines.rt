@@ -66,7 +66,8 @@ fn are_in_row(len: usize, splices: &[Splice<'_>]) -> bool
 }
 
 /// Appends a line, which need not be UTF-8: at each place its text, and all else as it is. Appends nothing, and says so by false, exactly
-/// if a place begins before the end of the one ahead of it, or ends before it begins or past the line.
+/// if a place begins before the end of the one ahead of it, or ends before it begins or past the line. For want of memory some may be
+/// appended.
 pub fn push_spliced(line: &[u8], splices: &[Splice<'_>], out: &mut Vec<u8>) -> Memory<bool>
     ensures spliced { result ≡ Ok true → out.new.items
         ≡ out.old.items ++ spliced line.now 0 splices.now }

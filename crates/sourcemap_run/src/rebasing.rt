@@ -1,7 +1,7 @@
 //! Maps whose sources are led from one folder to another.
-ghost use Rattle.std.specs.Prelude.{◌≡◌, IfOk, OnOk};
+ghost use Rattle.std.specs.Prelude.{◌≡◌, ◌⊎◌, IfOk, OnOk, OnErr};
 ghost use Rattle.std.specs.List.{AllZip};
-ghost use Rattle.sourcemap_run.specs.Words.{OnlyMemory, written, IsMoved, IsRebased};
+ghost use Rattle.sourcemap_run.specs.Words.{OnlyMemory, written, rooted, IsMoved, IsRebased};
 
 use oxc_sourcemap_map::SourceMap;
 use oxc_sourcemap_tokens::{Memory, Result};
@@ -37,6 +37,7 @@ pub fn rebase_sources(
 ) -> Result<()>
     ensures rebased { OnOk result (IsRebased current.now from.now to.now map.old map.new) }
     ensures error { OnlyMemory result }
+    ensures kept { OnErr result ((map.new ≡ map.old) ⊎ (map.new ≡ rooted map.old)) }
 {
     map.apply_source_root(alloc)?;
     let paths = moved_sources(alloc, map, current, from, to)?;

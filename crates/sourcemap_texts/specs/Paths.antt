@@ -1,5 +1,5 @@
 -- Paths of sources, and what they name. A place in the tree of folders is given by its parts from the root on.
-use Rattle.std.specs.Prelude.{◌≡◌, ◌≢◌, ◌<◌, ◌-◌, ℕ, Bool, not, true, false, ◌&&◌, ◌||◌, ◌==◌, List}
+use Rattle.std.specs.Prelude.{◌≡◌, ◌≢◌, ◌≤◌, ◌-◌, ℕ, Bool, not, true, false, ◌&&◌, ◌||◌, ◌==◌, List}
 use Rattle.std.specs.Prelude.{[], ◌∷◌, ◌++◌, Some, slice_get}
 use Rattle.std.specs.Prelude.{codes, take, length, map, slice_index, if◌then◌else◌, String}
 use Rattle.std.specs.Prelude.{string_bytes}
@@ -75,13 +75,13 @@ front_of up parts = if up == 0 && not (begins_plainly parts) then codes "./" els
 abbrev pub climbing : ℕ → List Text → Text
 climbing up parts = repeat up (codes "../") ++ (front_of up parts ++ join_by (λ part. part) (codes "/") parts)
 
--- A path goes up so many folders, and then down by names; below the root not into a folder that it just left.
+-- A path goes up so many folders, and then down by names, and not into a folder that it just left.
 pub record IsDirect (base : List Text) (path : Text) : Type 0 where
   pub up : ℕ
   pub names : List Text
   pub is_path : path ≡ climbing up names
   pub are_names : list_all is_name names ≡ true
-  pub apart : (name : Text) → up < length base → slice_get base (length base - up) ≡ Some name → slice_get names 0 ≢ Some name
+  pub apart : (name : Text) → up ≤ length base → slice_get base (length base - up) ≡ Some name → slice_get names 0 ≢ Some name
 
 -- A path of the folder `from` that became one of the folder `to`. If the path named something by its folder, the new one names it in
 -- the folder `to`, without a detour, and is no URL and from no root or drive. Else it stays, and so does every path where both folders

@@ -1,5 +1,5 @@
 //! Paths of sources, led from one folder to another.
-ghost use Rattle.std.specs.Prelude.{◌≡◌, ◌<◌, ◌≤◌, ℕ, List, Some, true, IfOk, OnOk};
+ghost use Rattle.std.specs.Prelude.{◌≡◌, ◌<◌, ◌≤◌, ◌+◌, ℕ, List, Some, true, IfOk, OnOk};
 ghost use Rattle.std.specs.Prelude.{length, take, slice_get, string_bytes};
 ghost use Rattle.std.specs.List.{common_prefix_len, list_all};
 ghost use Rattle.std.specs.Str.{bytes_eq};
@@ -133,23 +133,25 @@ fn begins_plainly(parts: &[&str]) -> bool
     }
 }
 
-/// `./` in front of parts whose first one could be read as the scheme of a URL.
-fn front_of(up: usize, parts: &[&str]) -> &'static str
-    ensures { result.now ≡ front_of up (lent_items parts.now) }
+/// `./` in front of parts whose first one could be read as the scheme of a URL, if the path does not go up before them.
+fn front_of(above: usize, up: usize, parts: &[&str]) -> &'static str
+    ensures { result.now ≡ front_of (above + up) (lent_items parts.now) }
 {
-    if up == 0 && !begins_plainly(parts) {
+    if above == 0 && up == 0 && !begins_plainly(parts) {
         "./"
     } else {
         ""
     }
 }
 
-/// A path that goes up so many folders, and then has these parts.
-fn climbing_path(alloc: Global, up: usize, parts: &[&str]) -> Memory<String>
-    ensures { IfOk result (λ path. string_bytes path ≡ climbing up (lent_items parts.now)) }
+/// A path that goes above the root so often, and up so many folders, and then has these parts.
+fn climbing_path(alloc: Global, above: usize, up: usize, parts: &[&str]) -> Memory<String>
+    ensures { IfOk result (λ path. string_bytes path
+        ≡ climbing (above + up) (lent_items parts.now)) }
 {
-    let mut path = "../".repeat(alloc, up)?;
-    path.push_str(front_of(up, parts))?;
+    let mut path = "../".repeat(alloc, above)?;
+    path.push_str("../".repeat(alloc, up)?.as_str())?;
+    path.push_str(front_of(above, up, parts))?;
     path.push_str(parts.join(alloc, "/")?.as_str())?;
     Ok(path)
 }
@@ -175,8 +177,8 @@ fn path_from(alloc: Global, base: &[&str], place: &Place<'_>) -> Memory<String>
         → LeadsTo (lent_items base.now) (lent_items place.now.parts.items) (string_bytes path)) }
 {
     let shared = shared_count(base, place);
-    let up = (base.len() - shared).saturating_add(place.above);
-    climbing_path(alloc, up, &place.parts.as_slice()[shared..])
+    let up = base.len() - shared;
+    climbing_path(alloc, place.above, up, &place.parts.as_slice()[shared..])
 }
 
 /// Whether two places are one.

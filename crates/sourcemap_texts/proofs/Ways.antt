@@ -242,11 +242,17 @@ goes_back n s (suc a) inside none = let e : s ≡ 0 = none (omega arith) in omeg
 not_above : (n s a : ℕ) → (0 < a → s ≡ 0) → a + (n - s) ≤ n → 0 < a → ⊥
 not_above n s a none below high = let e : s ≡ 0 = none high in omega (arith, e, below, high)
 
+below_root : (n s a : ℕ) → a ≡ 0 → a + (n - s) ≤ n
+below_root n s a e = omega (arith, e)
+
+as_far : (n s a : ℕ) → (0 < a → s ≡ 0) → 0 < a → a + (n - s) ≡ n + a
+as_far n s a none high = let e : s ≡ 0 = none high in omega (arith, e)
+
 -- the path from `base` up to what it has in common with a place that is so often above the root, and down from there
 pub leads_from : (base parts : List (List ℕ)) (shared above : ℕ) → list_all is_name parts ≡ true → shared ≤ length base
     → take shared base ≡ take shared parts → (0 < above → shared ≡ 0)
     → ((name : List ℕ) → slice_get base shared ≡ Some name → slice_get parts shared ≡ Some name → 0 < above)
-    → LeadsTo base parts (climbing (above + (length base - shared)) (drop shared parts))
+    → LeadsTo base (above, parts) (climbing (above + (length base - shared)) (drop shared parts))
 leads_from base parts shared above h inside same none apart =
     let up = above + (length base - shared) in
     let rest = names_drop shared parts h in
@@ -263,6 +269,8 @@ leads_from base parts shared above h inside same none apart =
         apart = λ name below from into.
             not_above (length base) shared above none below
             (apart name (ap (slice_get base) (sym back) ∙ from) (sym (first_of_rest shared parts) ∙ into));
+        no_higher = λ e. below_root (length base) shared above e;
+        as_high = λ high. as_far (length base) shared above none high;
       };
       plain = plain_climbing (drop shared parts) up;
     }

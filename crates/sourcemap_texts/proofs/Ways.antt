@@ -1,7 +1,7 @@
 -- Where paths lead that are made of parts.
 use Rattle.std.proofs.Common.{◌≡◌, ℕ, zero, suc, ◌+◌, ◌-◌, ◌==◌, ◌≤◌, ◌<◌, Bool, true, false, cond}
 use Rattle.std.proofs.Common.{not, ◌&&◌, ◌||◌}
-use Rattle.std.proofs.Common.{List, [], ◌∷◌, ◌++◌, length, take, drop, map, min, codes, refl, sym}
+use Rattle.std.proofs.Common.{List, [], ◌∷◌, ◌++◌, length, take, drop, map, codes, refl, sym}
 use Rattle.std.proofs.Common.{ap, ap₂, ◌∙◌}
 use Rattle.std.proofs.Common.{arith, append_assoc, append-nil, take_all, take-take, length-take-le}
 use Rattle.std.proofs.Common.{take-append-drop}
@@ -217,27 +217,6 @@ none_shared (x ∷ xs) [] z p q = none-some z q
 none_shared (x ∷ xs) (y ∷ ys) z p q =
     shared_by (bytes_eq x y) x y xs ys (common_prefix_len bytes_eq xs ys) z refl (λ e f. none_shared xs ys z e f) p q
 
--- a path that goes up from `base` to what it has in common with a place, and down from there
-pub leads : (base parts : List (List ℕ)) (common up : ℕ) → list_all is_name parts ≡ true → take common base ≡ take common parts
-    → (up < length base → length base - up ≡ common)
-    → take (length base - up) base ≡ take common base
-    → ((name : List ℕ) → up < length base → slice_get base common ≡ Some name → slice_get parts common ≡ Some name → ⊥)
-    → LeadsTo base parts (climbing up (drop common parts))
-leads base parts common up h shared back goes apart =
-    let rest = names_drop common parts h in
-    record {
-      there = led_climbing base (drop common parts) up rest ∙ ap (λ l. l ++ drop common parts) (goes ∙ shared) ∙ take-append-drop common parts;
-      direct = record {
-        up = up;
-        names = drop common parts;
-        is_path = refl;
-        are_names = rest;
-        apart = λ name less from into.
-            apart name less (ap (slice_get base) (sym (back less)) ∙ from) (sym (first_of_rest common parts) ∙ into);
-      };
-      plain = plain_climbing (drop common parts) up;
-    }
-
 -- ---- what two places have in common
 same_step : (b : Bool) (x y : List ℕ) (xs ys : List (List ℕ)) (n : ℕ) → bytes_eq x y ≡ b → take n xs ≡ take n ys
     → take (cond b (1 + n) 0) (x ∷ xs) ≡ take (cond b (1 + n) 0) (y ∷ ys)
@@ -256,23 +235,56 @@ pub join_lent : (parts : List (Bor (List ℕ))) → join_by (λ part. part.now) 
 join_lent [] = refl
 join_lent (x ∷ xs) = ap (λ t. x.now ++ t) (sym (flat_map-map (λ y. codes "/" ++ y) (λ part. part.now) xs))
 
-goes_back : (n s a u : ℕ) → s ≤ n → n ≤ 18446744073709551615 → (0 < a → s ≡ 0) → u ≡ min ((n - s) + a) 18446744073709551615 → n - u ≡ s
-goes_back n s zero u l m z e = omega arith
-goes_back n s (suc a) u l m z e = let none : s ≡ 0 = z (omega arith) in omega arith
+goes_back : (n s a : ℕ) → s ≤ n → (0 < a → s ≡ 0) → n - (a + (n - s)) ≡ s
+goes_back n s zero inside none = omega arith
+goes_back n s (suc a) inside none = let e : s ≡ 0 = none (omega arith) in omega arith
 
-not_above : (n s a u : ℕ) → n ≤ 18446744073709551615 → (0 < a → s ≡ 0) → u ≡ min ((n - s) + a) 18446744073709551615 → u < n → 0 < a → ⊥
-not_above n s a u m z e less above = let none : s ≡ 0 = z above in omega (arith, none, e, less, above, m)
+not_above : (n s a : ℕ) → (0 < a → s ≡ 0) → a + (n - s) ≤ n → 0 < a → ⊥
+not_above n s a none below high = let e : s ≡ 0 = none high in omega (arith, e, below, high)
 
--- the path of a place that is above the root, or has some parts in common with `base`
-pub leads_from : (base parts : List (List ℕ)) (shared above up : ℕ) → list_all is_name parts ≡ true → shared ≤ length base
-    → take shared base ≡ take shared parts → (0 < above → shared ≡ 0) → length base ≤ 18446744073709551615
-    → up ≡ min ((length base - shared) + above) 18446744073709551615
+below_root : (n s a : ℕ) → a ≡ 0 → a + (n - s) ≤ n
+below_root n s a e = omega (arith, e)
+
+as_far : (n s a : ℕ) → (0 < a → s ≡ 0) → 0 < a → a + (n - s) ≡ n + a
+as_far n s a none high = let e : s ≡ 0 = none high in omega (arith, e)
+
+-- the path from `base` up to what it has in common with a place that is so often above the root, and down from there
+pub leads_from : (base parts : List (List ℕ)) (shared above : ℕ) → list_all is_name parts ≡ true → shared ≤ length base
+    → take shared base ≡ take shared parts → (0 < above → shared ≡ 0)
     → ((name : List ℕ) → slice_get base shared ≡ Some name → slice_get parts shared ≡ Some name → 0 < above)
-    → LeadsTo base parts (climbing up (drop shared parts))
-leads_from base parts shared above up h inside same none fits goes apart =
-    let back = goes_back (length base) shared above up inside fits none goes in
-    leads base parts shared up h same (λ _. back) (ap (λ n. take n base) back)
-    (λ name less from into. not_above (length base) shared above up fits none goes less (apart name from into))
+    → LeadsTo base (above, parts) (climbing (above + (length base - shared)) (drop shared parts))
+leads_from base parts shared above h inside same none apart =
+    let up = above + (length base - shared) in
+    let rest = names_drop shared parts h in
+    let back = goes_back (length base) shared above inside none in
+    record {
+      there =
+          led_climbing base (drop shared parts) up rest ∙ ap (λ l. l ++ drop shared parts) (ap (λ n. take n base) back ∙ same)
+          ∙ take-append-drop shared parts;
+      direct = record {
+        up = up;
+        names = drop shared parts;
+        is_path = refl;
+        are_names = rest;
+        apart = λ name below from into.
+            not_above (length base) shared above none below
+            (apart name (ap (slice_get base) (sym back) ∙ from) (sym (first_of_rest shared parts) ∙ into));
+        no_higher = λ e. below_root (length base) shared above e;
+        as_high = λ high. as_far (length base) shared above none high;
+      };
+      plain = plain_climbing (drop shared parts) up;
+    }
+
+-- ---- texts of paths
+repeat_sum : (m n : ℕ) (xs : List ℕ) → repeat (m + n) xs ≡ repeat m xs ++ repeat n xs
+repeat_sum zero n xs = let none : zero + n ≡ n = omega arith in ap (λ k. repeat k xs) none
+repeat_sum (suc m) n xs =
+    let more : suc m + n ≡ suc (m + n) = omega arith in
+    ap (λ k. repeat k xs) more ∙ ap (λ l. xs ++ l) (repeat_sum m n xs) ∙ sym (append_assoc xs (repeat m xs) (repeat n xs))
+
+pub goes_up : (above up : ℕ) (first both : List ℕ) → first ≡ repeat above (codes "../") → both ≡ first ++ repeat up (codes "../")
+    → both ≡ repeat (above + up) (codes "../")
+goes_up above up first both e f = f ∙ ap (λ t. t ++ repeat up (codes "../")) e ∙ sym (repeat_sum above up (codes "../"))
 
 pub two_parts : (new mid x y z : List ℕ) → mid ≡ x ++ y → new ≡ mid ++ z → new ≡ x ++ (y ++ z)
 two_parts new mid x y z e f = f ∙ ap (λ t. t ++ z) e ∙ append_assoc x y z

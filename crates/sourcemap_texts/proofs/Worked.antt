@@ -13,7 +13,8 @@ use Rattle.sourcemap_texts.specs.declared.matching.Candidate.{Candidate}
 use Rattle.sourcemap_texts.specs.declared.matching.Choice.TheVariants.{Determined, MaybeFirst}
 use Rattle.sourcemap_texts.specs.declared.matching.Choice.TheVariants.{Nothing}
 use Rattle.sourcemap_texts.specs.Matching.{below_length, ends_in_folder, tells_apart, chosen}
-use Rattle.sourcemap_texts.specs.Paths.{place_of, named, is_in_folder, begins_plainly, IsMoved}
+use Rattle.sourcemap_texts.specs.Paths.{place_of, named, above, is_in_folder}
+use Rattle.sourcemap_texts.specs.Paths.{begins_plainly, IsMoved}
 use Rattle.sourcemap_texts.specs.Positions.{IsSourcePosition}
 use Rattle.sourcemap_texts.specs.Texts.{visible_string}
 use Rattle.oxc_sourcemap_json.specs.JsonString.{json_string, escaped}
@@ -90,6 +91,12 @@ leads-out_of_a_folder = refl
 leads-to_no_folder_above_the_root : named [] (codes "/a/") (codes "../../b.ts") ≡ codes "b.ts" ∷ []
 leads-to_no_folder_above_the_root = refl
 
+goes-above_the_root : above [] (codes "/a/") (codes "../../../b.ts") ≡ 2
+goes-above_the_root = refl
+
+goes-not_above_the_root : above (codes "/p") (codes "a/") (codes "../../b.ts") ≡ 0
+goes-not_above_the_root = refl
+
 is_from-the_root : place_of (codes "/home/u") (codes "/out//x/..") ≡ codes "out" ∷ []
 is_from-the_root = refl
 
@@ -120,5 +127,24 @@ moves-to_a_deeper_folder = record {
     is_path = refl;
     are_names = refl;
     apart = λ name less from into. true≢false (ap is_out (from ∙ sym into));
+    no_higher = λ _. omega arith;
+    as_high = λ high. absurd (omega (arith, high));
+  };
+}
+
+moves-above_the_root : IsMoved [] (codes "/dist/") (codes "/out/js/") (codes "../../a.ts") (codes "../../../a.ts")
+moves-above_the_root = record {
+  same_place = λ _. refl;
+  plain = λ _. refl;
+  absolute_stays = λ e. absurd (true≢false e);
+  stays = λ e. absurd (omega (arith, ap length e));
+  direct = λ _ _. record {
+    up = 3;
+    names = codes "a.ts" ∷ [];
+    is_path = refl;
+    are_names = refl;
+    apart = λ name below from into. omega (arith, below);
+    no_higher = λ none. absurd (omega (arith, none));
+    as_high = λ _. refl;
   };
 }

@@ -1,13 +1,15 @@
 -- Paths of sources, and what they name. A place in the tree of folders is given by its parts from the root on.
-use Rattle.std.specs.Prelude.{◌≡◌, ◌≢◌, ◌<◌, ◌-◌, ℕ, Bool, not, true, false, ◌&&◌, ◌||◌, ◌==◌, List}
-use Rattle.std.specs.Prelude.{[], ◌∷◌, ◌++◌, Some, slice_get}
+use Rattle.std.specs.Prelude.{◌≡◌, ◌≢◌, ◌<◌, ◌≤◌, ◌+◌, ◌-◌, ℕ, Bool, not, true, false, ◌&&◌, ◌||◌}
+use Rattle.std.specs.Prelude.{◌==◌, List, [], ◌∷◌, ◌++◌, Some, slice_get}
 use Rattle.std.specs.Prelude.{codes, take, length, map, slice_index, if◌then◌else◌, String}
-use Rattle.std.specs.Prelude.{string_bytes}
+use Rattle.std.specs.Prelude.{string_bytes, vec_len}
 use Rattle.std.specs.List.{fold, list_any, list_all, slice_split, join_by, repeat, AllZip}
 use Rattle.std.specs.Str.{bytes_eq}
 use Rattle.std.specs.declared.alloc.Global.{Global}
 use Rattle.oxc_sourcemap_parts.specs.Record.{Text, MapRecord}
 use Rattle.oxc_sourcemap_parts.specs.Roots.{rooted, has_scheme}
+use Rattle.oxc_sourcemap_tokens.specs.Results.{lent_items}
+use Rattle.sourcemap_texts.specs.declared.paths.Place.{Place}
 
 abbrev pub is_slash : ℕ → Bool
 is_slash byte = byte == 47
@@ -42,6 +44,32 @@ place_of current folder = led (led [] (outer_folder current folder)) folder
 abbrev pub named : Text → Text → Text → List Text
 named current folder path = led (place_of current folder) path
 
+-- a way of parts from the root: how often it went above the root, and the place that it led to
+abbrev pub Way : Type 0
+Way = ℕ × List Text
+
+-- a way that goes on to the folder that its place is in, or from the root once more above it
+abbrev pub gone_up : Way → Way
+gone_up way = if length way.1 == 0 then (way.0 + 1, []) else (way.0, take (length way.1 - 1) way.1)
+
+-- a way that goes on where a part leads
+abbrev pub climbed : Way → Text → Way
+climbed way part =
+    if is_here part then way
+    else if bytes_eq part (codes "..") then gone_up way else (way.0, way.1 ++ part ∷ [])
+
+-- a way that goes on where a path leads
+abbrev pub climbed_along : Way → Text → Way
+climbed_along way path = fold climbed way (parts_of path)
+
+-- the way to a folder
+abbrev pub way_of : Text → Text → Way
+way_of current folder = climbed_along (climbed_along (0, []) (outer_folder current folder)) folder
+
+-- how far above the root a path of a folder goes
+abbrev pub above : Text → Text → Text → ℕ
+above current folder path = (climbed_along (way_of current folder) path).0
+
 -- a path begins with a slash of some system
 abbrev pub begins_with_slash : Text → Bool
 begins_with_slash path = slice_index path 0 == 47 || slice_index path 0 == 92
@@ -75,13 +103,16 @@ front_of up parts = if up == 0 && not (begins_plainly parts) then codes "./" els
 abbrev pub climbing : ℕ → List Text → Text
 climbing up parts = repeat up (codes "../") ++ (front_of up parts ++ join_by (λ part. part) (codes "/") parts)
 
--- A path goes up so many folders, and then down by names; below the root not into a folder that it just left.
-pub record IsDirect (base : List Text) (path : Text) : Type 0 where
+-- A path goes up so many folders, and then down by names: not into a folder that it just left, and above the root only as far as the
+-- path was that it stands for.
+pub record IsDirect (base : List Text) (above : ℕ) (path : Text) : Type 0 where
   pub up : ℕ
   pub names : List Text
   pub is_path : path ≡ climbing up names
   pub are_names : list_all is_name names ≡ true
-  pub apart : (name : Text) → up < length base → slice_get base (length base - up) ≡ Some name → slice_get names 0 ≢ Some name
+  pub apart : (name : Text) → up ≤ length base → slice_get base (length base - up) ≡ Some name → slice_get names 0 ≢ Some name
+  pub no_higher : above ≡ 0 → up ≤ length base
+  pub as_high : 0 < above → up ≡ length base + above
 
 -- A path of the folder `from` that became one of the folder `to`. If the path named something by its folder, the new one names it in
 -- the folder `to`, without a detour, and is no URL and from no root or drive. Else it stays, and so does every path where both folders
@@ -91,7 +122,8 @@ pub record IsMoved (current from to path moved : Text) : Type 0 where
   pub plain : is_in_folder path ≡ true → is_in_folder moved ≡ true
   pub absolute_stays : is_in_folder path ≡ false → moved ≡ path
   pub stays : place_of current to ≡ place_of current from → moved ≡ path
-  pub direct : is_in_folder path ≡ true → ¬ (place_of current to ≡ place_of current from) → IsDirect (place_of current to) moved
+  pub direct : is_in_folder path ≡ true → ¬ (place_of current to ≡ place_of current from)
+      → IsDirect (place_of current to) (above current from path) moved
 
 -- A map of the folder `from` that became one of the folder `to`: its source root is put before its sources, these are led there, and all
 -- else is as it was.
@@ -105,8 +137,12 @@ pub record IsRebased (current from to : Text) (old new : MapRecord) : Type 0 whe
 abbrev pub written : List (String Global) → List Text
 written texts = map string_bytes texts
 
--- A path leads from the place `base` to another one without a detour, and is neither from the root or from a drive, nor a URL.
-pub record LeadsTo (base place : List Text) (path : Text) : Type 0 where
-  pub there : led base path ≡ place
-  pub direct : IsDirect base path
+-- the way to a place
+abbrev pub way : Place → Way
+way place = (vec_len place.above, lent_items place.parts.items)
+
+-- A path leads from the place `base` where a way leads without a detour, and is neither from the root or from a drive, nor a URL.
+pub record LeadsTo (base : List Text) (way : Way) (path : Text) : Type 0 where
+  pub there : led base path ≡ way.1
+  pub direct : IsDirect base way.0 path
   pub plain : is_in_folder path ≡ true

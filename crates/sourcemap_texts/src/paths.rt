@@ -1,10 +1,11 @@
 //! Paths of sources, led from one folder to another.
-ghost use Rattle.std.specs.Prelude.{◌≡◌, ◌<◌, ◌≤◌, ℕ, List, Some, true, IfOk, OnOk};
-ghost use Rattle.std.specs.Prelude.{length, take, slice_get, string_bytes};
+ghost use Rattle.std.specs.Prelude.{◌≡◌, ◌<◌, ◌≤◌, ◌+◌, ℕ, List, Some, true, IfOk, OnOk};
+ghost use Rattle.std.specs.Prelude.{length, take, slice_get, string_bytes, vec_len};
 ghost use Rattle.std.specs.List.{common_prefix_len, list_all};
 ghost use Rattle.std.specs.Str.{bytes_eq};
-ghost use Rattle.sourcemap_texts.specs.Words.{lent_items, parts_of, stepped, led, outer_folder};
-ghost use Rattle.sourcemap_texts.specs.Words.{place_of, begins_with_slash, is_absolute};
+ghost use Rattle.sourcemap_texts.specs.Words.{lent_items, parts_of, is_here, outer_folder, way};
+ghost use Rattle.sourcemap_texts.specs.Words.{gone_up, climbed, climbed_along, way_of};
+ghost use Rattle.sourcemap_texts.specs.Words.{begins_with_slash, is_absolute};
 ghost use Rattle.sourcemap_texts.specs.Words.{is_url, is_in_folder, is_name, begins_plainly};
 ghost use Rattle.sourcemap_texts.specs.Words.{front_of, climbing, LeadsTo, IsMoved};
 
@@ -43,8 +44,8 @@ fn is_in_folder(path: &str) -> bool
 /// A place in the tree of folders, as paths led there.
 #[derive(Drop)]
 struct Place<'p> {
-    /// How often they went above the root.
-    above: usize,
+    /// Their parts `..` that went above the root.
+    above: Vec<&'p str>,
     /// Its parts from the root on.
     parts: Vec<&'p str>,
 }
@@ -56,29 +57,42 @@ fn parts_of<'p>(alloc: Global, path: &'p str) -> Memory<Vec<&'p str>>
     path.split('/').collect(alloc)
 }
 
+/// Whether a part leads nowhere.
+fn is_here(part: &str) -> bool
+    ensures { result ≡ is_here part.now }
+{
+    part.is_empty() || part == "."
+}
+
 impl<'p> Place<'p> {
+    /// Goes up by the part `up`: to the folder that this one is in, or from the root above it.
+    fn leave(&mut self, up: &'p str) -> Memory<()>
+        ensures { OnOk result (way self.new ≡ gone_up (way self.old)) }
+    {
+        if self.parts.pop().is_some() {
+            return Ok(());
+        }
+        self.above.push(up)?;
+        Ok(())
+    }
+
     /// Goes where a part leads.
     fn step(&mut self, part: &'p str) -> Memory<()>
-        ensures { OnOk result (lent_items self.new.parts.items
-            ≡ stepped (lent_items self.old.parts.items) part.entry.now) }
+        ensures { OnOk result (way self.new ≡ climbed (way self.old) part.entry.now) }
     {
-        if part.is_empty() || part == "." {
+        if is_here(part) {
             return Ok(());
         }
         if part != ".." {
             self.parts.push(part)?;
             return Ok(());
         }
-        if self.parts.pop().is_none() {
-            self.above = self.above.saturating_add(1);
-        }
-        Ok(())
+        self.leave(part)
     }
 
     /// Goes where a path leads.
     fn follow(&mut self, alloc: Global, path: &'p str) -> Memory<()>
-        ensures { OnOk result (lent_items self.new.parts.items
-            ≡ led (lent_items self.old.parts.items) path.entry.now) }
+        ensures { OnOk result (way self.new ≡ climbed_along (way self.old) path.entry.now) }
     {
         let parts = parts_of(alloc, path)?;
         for part in parts.as_slice() {
@@ -100,11 +114,10 @@ fn outer_folder<'p>(current: &'p str, folder: &str) -> &'p str
 
 /// The place of a folder.
 fn place_of<'p>(alloc: Global, current: &'p str, folder: &'p str) -> Memory<Place<'p>>
-    ensures { IfOk result (λ place. lent_items place.parts.items
-        ≡ place_of current.entry.now folder.entry.now) }
+    ensures { IfOk result (λ place. way place ≡ way_of current.entry.now folder.entry.now) }
 {
     let mut place = Place {
-        above: 0,
+        above: Vec::new(alloc),
         parts: Vec::new(alloc),
     };
     place.follow(alloc, outer_folder(current, folder))?;
@@ -133,23 +146,25 @@ fn begins_plainly(parts: &[&str]) -> bool
     }
 }
 
-/// `./` in front of parts whose first one could be read as the scheme of a URL.
-fn front_of(up: usize, parts: &[&str]) -> &'static str
-    ensures { result.now ≡ front_of up (lent_items parts.now) }
+/// `./` in front of parts whose first one could be read as the scheme of a URL, if the path does not go up before them.
+fn front_of(above: usize, up: usize, parts: &[&str]) -> &'static str
+    ensures { result.now ≡ front_of (above + up) (lent_items parts.now) }
 {
-    if up == 0 && !begins_plainly(parts) {
+    if above == 0 && up == 0 && !begins_plainly(parts) {
         "./"
     } else {
         ""
     }
 }
 
-/// A path that goes up so many folders, and then has these parts.
-fn climbing_path(alloc: Global, up: usize, parts: &[&str]) -> Memory<String>
-    ensures { IfOk result (λ path. string_bytes path ≡ climbing up (lent_items parts.now)) }
+/// A path that goes above the root so often, and up so many folders, and then has these parts.
+fn climbing_path(alloc: Global, above: usize, up: usize, parts: &[&str]) -> Memory<String>
+    ensures { IfOk result (λ path. string_bytes path
+        ≡ climbing (above + up) (lent_items parts.now)) }
 {
-    let mut path = "../".repeat(alloc, up)?;
-    path.push_str(front_of(up, parts))?;
+    let mut path = "../".repeat(alloc, above)?;
+    path.push_str("../".repeat(alloc, up)?.as_str())?;
+    path.push_str(front_of(above, up, parts))?;
     path.push_str(parts.join(alloc, "/")?.as_str())?;
     Ok(path)
 }
@@ -159,11 +174,12 @@ fn shared_count(base: &[&str], place: &Place<'_>) -> usize
     ensures within { (result ≤ length base.now) × (result ≤ length place.now.parts.items) }
     ensures same { take result (lent_items base.now)
         ≡ take result (lent_items place.now.parts.items) }
-    ensures above { 0 < place.now.above → result ≡ 0 }
+    ensures above { 0 < vec_len place.now.above → result ≡ 0 }
     ensures apart { (name : List ℕ) → slice_get (lent_items base.now) result ≡ Some name
-        → slice_get (lent_items place.now.parts.items) result ≡ Some name → 0 < place.now.above }
+        → slice_get (lent_items place.now.parts.items) result ≡ Some name
+        → 0 < vec_len place.now.above }
 {
-    if place.above > 0 {
+    if !place.above.is_empty() {
         return 0;
     }
     common_count(base, place.parts.as_slice())
@@ -172,11 +188,16 @@ fn shared_count(base: &[&str], place: &Place<'_>) -> usize
 /// The path of a place, as it is seen from the place `base`. A place above the root is as far above it.
 fn path_from(alloc: Global, base: &[&str], place: &Place<'_>) -> Memory<String>
     ensures { IfOk result (λ path. list_all is_name (lent_items place.now.parts.items) ≡ true
-        → LeadsTo (lent_items base.now) (lent_items place.now.parts.items) (string_bytes path)) }
+        → LeadsTo (lent_items base.now) (way place.now) (string_bytes path)) }
 {
     let shared = shared_count(base, place);
-    let up = (base.len() - shared).saturating_add(place.above);
-    climbing_path(alloc, up, &place.parts.as_slice()[shared..])
+    let up = base.len() - shared;
+    climbing_path(
+        alloc,
+        place.above.len(),
+        up,
+        &place.parts.as_slice()[shared..],
+    )
 }
 
 /// Whether two places are one.

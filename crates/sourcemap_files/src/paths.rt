@@ -1,6 +1,6 @@
 //! Paths, as texts with slashes.
 use percent_encoding::percent_decode_str;
-use sourcemap_texts::{is_absolute, is_url};
+use sourcemap_texts::{is_url, stands_by_itself};
 use std::alloc::{AllocError, Global};
 use std::fs;
 use url::Url;
@@ -23,7 +23,7 @@ pub fn file_name(path: &str) -> &str {
 
 /// A path in a folder, where the folder is empty or ends in a slash. A path that stands by itself stays.
 pub fn join_path(alloc: Global, folder: &str, path: &str) -> Result<String, AllocError> {
-    if is_absolute(path) {
+    if stands_by_itself(path) {
         return String::from_str(alloc, path);
     }
     format!(in alloc; "{folder}{path}")
@@ -159,7 +159,7 @@ fn plain_parts<'p>(
 
 /// The path of a source in a folder, `..` taken together with the parts before it; a path that stands by itself stays.
 pub fn plain_path(alloc: Global, folder: &str, path: &str) -> Result<String, AllocError> {
-    if is_absolute(path) {
+    if stands_by_itself(path) {
         return String::from_str(alloc, path);
     }
     let root = if folder.starts_with('/') { "/" } else { "" };

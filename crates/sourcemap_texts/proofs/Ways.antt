@@ -17,7 +17,7 @@ use Rattle.std.proofs.lemmas.List.Splits.{slice_split-cons_yes, slice_split-cons
 use Rattle.std.proofs.lemmas.Slice.Eq.{bytes_eq-Decides}
 use Rattle.sourcemap_texts.specs.Paths.{is_slash, parts_of, is_here, stepped, led, is_name}
 use Rattle.sourcemap_texts.specs.Paths.{begins_plainly, begins_with_slash}
-use Rattle.sourcemap_texts.specs.Paths.{is_absolute, is_in_folder}
+use Rattle.sourcemap_texts.specs.Paths.{stands_by_itself, is_in_folder}
 use Rattle.oxc_sourcemap_parts.specs.Roots.{is_of_scheme, ends_scheme, has_scheme}
 use Rattle.std.specs.Char.{is_ascii_alphabetic}
 use Rattle.sourcemap_texts.specs.Paths.{climbing, LeadsTo}
@@ -170,7 +170,7 @@ more_scheme (b ∷ bs) rest none after =
 more_in_folder : (path rest : List ℕ) → is_in_folder path ≡ true → ends_scheme rest ≡ false → is_in_folder (path ++ rest) ≡ true
 more_in_folder [] rest h after = absurd (true≢false (sym h))
 more_in_folder (c ∷ cs) rest h after =
-    let two = or_parts (begins_with_slash (c ∷ cs)) (has_scheme (c ∷ cs)) (not-true (is_absolute (c ∷ cs)) h) in
+    let two = or_parts (begins_with_slash (c ∷ cs)) (has_scheme (c ∷ cs)) (not-true (stands_by_itself (c ∷ cs)) h) in
     ap not (or_from (begins_with_slash (c ∷ cs)) (has_scheme (c ∷ (cs ++ rest))) two.0
     (and_still (is_ascii_alphabetic c) (ends_scheme cs) (ends_scheme (cs ++ rest)) two.1 (λ e. more_scheme cs rest e after)))
 

@@ -75,18 +75,18 @@ abbrev pub begins_with_slash : Text → Bool
 begins_with_slash path = slice_index path 0 == 47 || slice_index path 0 == 92
 
 -- a path stands by itself: it is from the root, or begins with a scheme, as a URL does, or with a drive
-abbrev pub is_absolute : Text → Bool
-is_absolute path = begins_with_slash path || has_scheme path
+abbrev pub stands_by_itself : Text → Bool
+stands_by_itself path = begins_with_slash path || has_scheme path
 
--- a path begins with a scheme of two bytes or more
+-- a path begins with a scheme of two bytes or more, and a colon
 abbrev pub is_url : Text → Bool
 is_url path = has_scheme path && not (slice_index path 1 == 58)
 
 -- a path names something by the folder that it is in
 abbrev pub is_in_folder : Text → Bool
-is_in_folder path = not (bytes_eq path [] || is_absolute path)
+is_in_folder path = not (bytes_eq path [] || stands_by_itself path)
 
--- the first of these parts does not make a path one from a drive, or a URL
+-- there is a first part, and it is not empty and begins with no backslash, drive or scheme
 abbrev pub begins_plainly : List Text → Bool
 begins_plainly [] = false
 begins_plainly (part ∷ parts) = is_in_folder part
@@ -95,7 +95,7 @@ begins_plainly (part ∷ parts) = is_in_folder part
 abbrev pub is_name : Text → Bool
 is_name part = not (is_here part || bytes_eq part (codes "..") || list_any is_slash part)
 
--- `./` in front of parts that a path may not begin with
+-- `./`, where a path that goes up by none would be empty, or begin with a backslash, a drive or a scheme
 abbrev pub front_of : ℕ → List Text → Text
 front_of up parts = if up == 0 && not (begins_plainly parts) then codes "./" else []
 

@@ -9,7 +9,7 @@ use Rattle.oxc_sourcemap_json.specs.JsonString.{json_string}
 abbrev pub is_between : ℕ → ℕ → ℕ → Bool
 is_between low high c = nat_le low c && nat_le c high
 
--- Whether a character is seen only by what it does to others: a control character (C0, DEL and C1), or a mark of the direction of text.
+-- Whether a character is a control character (C0, DEL and C1), or a mark of the direction of text.
 abbrev pub is_hidden : ℕ → Bool
 is_hidden c =
     nat_le c 31 || is_between 0x7f 0x9f c || c == 0x61c || is_between 0x200e 0x200f c || is_between 0x202a 0x202e c

@@ -7,7 +7,8 @@ pub use Rattle.sourcemap_texts.specs.Texts.{VisibleStringsToldApart}
 pub use Rattle.sourcemap_texts.specs.Positions.{IsNumber, IsPosition, IsSourcePosition, is_colon}
 pub use Rattle.sourcemap_texts.specs.Paths.{parts_of, stepped, led, outer_folder, place_of, named}
 pub use Rattle.sourcemap_texts.specs.Paths.{Way, gone_up, climbed, climbed_along, way_of, above}
-pub use Rattle.sourcemap_texts.specs.Paths.{begins_with_slash, is_absolute, is_url, is_in_folder}
+pub use Rattle.sourcemap_texts.specs.Paths.{begins_with_slash, stands_by_itself}
+pub use Rattle.sourcemap_texts.specs.Paths.{is_url, is_in_folder}
 pub use Rattle.sourcemap_texts.specs.Paths.{IsMoved, IsRebased, IsDirect}
 pub use Rattle.sourcemap_texts.specs.Paths.{is_name, begins_plainly, front_of, climbing, LeadsTo}
 pub use Rattle.sourcemap_texts.specs.Paths.{is_here, way, written}

@@ -7,7 +7,7 @@ mod positions;
 mod texts;
 
 pub use matching::{Candidate, Choice, Prefix, choose, longest_prefix};
-pub use paths::{is_absolute, is_url, relative_path};
+pub use paths::{is_url, relative_path, stands_by_itself};
 pub use positions::{position_of, source_position_of};
 pub use texts::{
     is_hidden, push_shown, push_visible, push_visible_char, push_visible_string,

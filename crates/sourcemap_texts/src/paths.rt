@@ -5,7 +5,7 @@ ghost use Rattle.std.specs.List.{common_prefix_len, list_all};
 ghost use Rattle.std.specs.Str.{bytes_eq};
 ghost use Rattle.sourcemap_texts.specs.Words.{lent_items, parts_of, is_here, outer_folder, way};
 ghost use Rattle.sourcemap_texts.specs.Words.{gone_up, climbed, climbed_along, way_of};
-ghost use Rattle.sourcemap_texts.specs.Words.{begins_with_slash, is_absolute};
+ghost use Rattle.sourcemap_texts.specs.Words.{begins_with_slash, stands_by_itself};
 ghost use Rattle.sourcemap_texts.specs.Words.{is_url, is_in_folder, is_name, begins_plainly};
 ghost use Rattle.sourcemap_texts.specs.Words.{front_of, climbing, LeadsTo, IsMoved};
 
@@ -21,8 +21,8 @@ fn begins_with_slash(path: &str) -> bool
 }
 
 /// Whether a path stands by itself: from the root, from a drive, or a URL.
-pub fn is_absolute(path: &str) -> bool
-    ensures { result ≡ is_absolute path.now }
+pub fn stands_by_itself(path: &str) -> bool
+    ensures { result ≡ stands_by_itself path.now }
 {
     begins_with_slash(path) || has_scheme(path.as_bytes())
 }
@@ -38,7 +38,7 @@ pub fn is_url(path: &str) -> bool
 fn is_in_folder(path: &str) -> bool
     ensures { result ≡ is_in_folder path.now }
 {
-    !path.is_empty() && !is_absolute(path)
+    !path.is_empty() && !stands_by_itself(path)
 }
 
 /// A place in the tree of folders, as paths led there.
@@ -136,7 +136,7 @@ fn common_count(a: &[&str], b: &[&str]) -> usize
     count
 }
 
-/// Whether the first of these parts does not make a path one from a drive, or a URL.
+/// Whether there is a first part, and it is not empty and begins with no backslash, drive or scheme.
 fn begins_plainly(parts: &[&str]) -> bool
     ensures { result ≡ begins_plainly (lent_items parts.now) }
 {
@@ -146,7 +146,7 @@ fn begins_plainly(parts: &[&str]) -> bool
     }
 }
 
-/// `./` in front of parts whose first one could be read as the scheme of a URL, if the path does not go up before them.
+/// `./`, where a path that goes up by none would be empty, or begin with a backslash, a drive or a scheme.
 fn front_of(above: usize, up: usize, parts: &[&str]) -> &'static str
     ensures { result.now ≡ front_of (above + up) (lent_items parts.now) }
 {
@@ -210,7 +210,7 @@ fn are_same(a: &[&str], b: &[&str]) -> bool
 
 /// A path that is relative to the folder `from`, as one that is relative to the folder `to`. The folders are in the folder `current`,
 /// which begins with a slash, where they do not begin with one themselves. What stands by itself (a path from the root or a drive, a
-/// URL) stays, and so does every path where both folders are one. A path above the root stays as far above it.
+/// URL) stays, and so do the empty path and every path where both folders are one. A path above the root stays as far above it.
 ///
 /// By the names of folders, and not by where links lead: sources were written, and are read, relative to the folder by its name.
 pub fn relative_path<'p>(

@@ -10,7 +10,7 @@ ghost use Rattle.sourcemap_texts.specs.Words.{VisibleStringsToldApart};
 use oxc_sourcemap_json::push_json_string;
 use oxc_sourcemap_tokens::Result;
 
-/// Whether a character is seen only by what it does to others: a control character (C0, DEL and C1), or a mark of the direction of text.
+/// Whether a character is a control character (C0, DEL and C1), or a mark of the direction of text.
 pub fn is_hidden(ch: char) -> bool
     ensures { result ≡ is_hidden ch }
 {

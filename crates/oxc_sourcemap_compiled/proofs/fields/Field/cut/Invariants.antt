@@ -1,0 +1,14 @@
+use Rattle.std.proofs.Common.{◌≤◌, ◌+◌, ℕ}
+use Rattle.oxc_sourcemap_compiled.specs.Cuts.{IsCut}
+use Rattle.oxc_sourcemap_compiled.specs.Words.{value_in}
+use Rattle.oxc_sourcemap_compiled.proofs.fields.Field.cut.Given as goal
+
+abbrev pub invariant-loop-size : goal.invariant-loop-size
+invariant-loop-size l = record {
+  reached : l.first ≤ l.start;
+  within : l.start + l.size ≤ l.first + l.count;
+  cut : (cut : ℕ) → IsCut (value_in l.bytes l.self) l.limit l.first (l.first + l.count) cut → (l.start ≤ cut) × (cut ≤ l.start + l.size);
+}
+
+abbrev pub decreases-loop-size : goal.decreases-loop-size
+decreases-loop-size l = l.size

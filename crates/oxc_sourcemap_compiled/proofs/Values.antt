@@ -13,7 +13,7 @@ use Rattle.oxc_sourcemap_tokens.specs.Token.{TokenRecord, IsInBounds, AreInBound
 use Rattle.oxc_sourcemap_compiled.specs.Compiled.{id_number, field_number, IsPacked, ArePacked}
 use Rattle.oxc_sourcemap_compiled.specs.Compiled.{AreBlocksOf, group_bytes_of, stride_of, widths_of}
 use Rattle.oxc_sourcemap_compiled.specs.Compiled.{no_block, above_in, packed, rows_of, groups_of}
-use Rattle.oxc_sourcemap_compiled.specs.Compiled.{row_of, group_of, four_in}
+use Rattle.oxc_sourcemap_compiled.specs.Compiled.{bytes_of, row_of, group_of, four_in}
 use Rattle.oxc_sourcemap_compiled.specs.Numbers.{number_at}
 use Rattle.oxc_sourcemap_compiled.specs.Layout.{rows_base, groups_base}
 use Rattle.oxc_sourcemap_compiled.specs.Fields.{value_in, value_of, field_in}

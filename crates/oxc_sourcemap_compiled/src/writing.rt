@@ -13,7 +13,9 @@ ghost use Rattle.oxc_sourcemap_compiled.specs.Words.{parts_bytes, stored_count, 
 ghost use Rattle.oxc_sourcemap_compiled.specs.Words.{header_of_map};
 ghost use Rattle.oxc_sourcemap_compiled.specs.Words.{group_bytes_of};
 ghost use Rattle.oxc_sourcemap_compiled.specs.Compiled.{map_bytes};
-ghost use Rattle.std.specs.Prelude.{◌+◌, ◌/◌};
+ghost use Rattle.oxc_sourcemap_compiled.specs.Words.{compiled_meaning, compiled_of, FitsFormat};
+ghost use Rattle.oxc_sourcemap_compiled.specs.Words.{IsInOrder};
+ghost use Rattle.std.specs.Prelude.{◌+◌, ◌/◌, Ok};
 ghost use Rattle.oxc_sourcemap_compiled.specs.Compiled.{flag_of, listed_table};
 
 mod blocks;
@@ -27,7 +29,7 @@ use crate::writing::lines::{all_lines, filled_lines, line_count, push_starts};
 use crate::writing::pushing::{push_number, push_table, push_u32};
 use crate::writing::texts::{push_offsets, push_texts, text_bytes};
 use oxc_sourcemap_parts::{SourceMapParts, are_sorted};
-use oxc_sourcemap_tokens::{Error, Memory, PlanError, Token};
+use oxc_sourcemap_tokens::{Error, Memory, PlanError, Token, tokens_in_bounds};
 use std::alloc::Global;
 
 /// The entries of the ignore list; none where there is no list.
@@ -82,6 +84,14 @@ fn has_large_counts(parts: &SourceMapParts<'_>) -> bool
         || parts.sources.len() > 4294967295
         || parts.names.len() > 4294967295
         || ignored_ids(parts).len() > 4294967295
+}
+
+/// Numbers have the bits that the format gives them, since these types have no more.
+fn numbers_fit(parts: &SourceMapParts<'_>, text_length: u64, stamp: &[u8; 32])
+    ensures { FitsFormat (record_of_parts parts.now) text_length stamp.now }
+{
+    tokens_in_bounds(parts.tokens.as_slice());
+    ignored_ids(parts);
 }
 
 /// The lines that have an entry, and whether their numbers are listed: all lines, where there are at most four for each that
@@ -209,7 +219,7 @@ fn write_map(
 }
 
 /// The compiled map of these parts, whose text had `text_length` bytes (0 if there was none), with 32 bytes that are kept as they
-/// are, as a hash of the text. It has every field of the map but the chunks, and contents past the last source.
+/// are, as a hash of the text. They mean the map, but for its chunks and contents past the last source, and are in order.
 ///
 /// Fails with `Unsorted` if the tokens are not sorted, then with `Map(TooLarge)` if there are more than 4294967295 tokens, sources,
 /// names or entries of the ignore list, or more bytes of texts or of groups of tokens, and with `Map(OutOfMemory)`.
@@ -221,6 +231,9 @@ pub fn compile(
 ) -> Result<Vec<u8>, PlanError>
     ensures bytes { IfOk result (λ bytes. AreBytesOf (record_of_parts parts.now) text_length
         stamp.now bytes.items) }
+    ensures meaning { IfOk result (λ bytes. compiled_meaning bytes.items
+        ≡ Ok (compiled_of (record_of_parts parts.now) text_length stamp.now)) }
+    ensures order { IfOk result (λ bytes. IsInOrder bytes.items) }
     ensures unsorted { are_tokens_sorted (record_of_parts parts.now).tokens ≡ false
         → result ≡ Err Unsorted }
     ensures errors { IfErr result
@@ -255,5 +268,6 @@ pub fn compile(
         text_length,
         stamp,
     )?;
+    numbers_fit(parts, text_length, stamp);
     Ok(made)
 }

@@ -3,6 +3,7 @@ use Rattle.oxc_sourcemap_parts.specs.Views.{record_of_parts}
 use Rattle.oxc_sourcemap_parts.specs.Sorted.{are_tokens_sorted}
 use Rattle.oxc_sourcemap_compiled.specs.Compiled.{AreLinesOf, AreBlocksOf, group_bytes_of}
 use Rattle.oxc_sourcemap_compiled.specs.Compiled.{map_bytes}
+use Rattle.oxc_sourcemap_compiled.proofs.Means.{compiled-means, compiled-in-order}
 use Rattle.oxc_sourcemap_compiled.proofs.writing.compile.Goals as goal
 
 pub returns-clause-bytes : goal.returns-clause-bytes
@@ -25,9 +26,16 @@ returns-clause-bytes c =
       sorted = sym (c.are_sorted.ensures.sorted ∙ ap are_tokens_sorted tokens) ∙ c.if-not-are_sorted.false;
       lines_of = subst (λ ts. AreLinesOf ts lines) tokens c.in_ok-lines.ensures.lines;
       few_lines = c.in_ok-lines.ensures.few;
+      small_lines = ?;
       all_listed = c.in_ok-lines.ensures.all;
       blocks_of = subst (λ ts. AreBlocksOf ts blocks) tokens c.in_ok-blocks.ensures;
       few_groups = subst (λ n. n ≤ 4294967295) groups c.if-group_bytes-gt4294967295.false;
       few_texts = subst (λ n. n ≤ 4294967295) (c.text_bytes-text_bytes.ensures c.if-text_bytes-gt4294967295.false) c.if-text_bytes-gt4294967295.false;
       are = c.in_ok-made.ensures ∙ ap (λ xs. map_bytes r xs listed c.as_slice-3.result.now number stamp) c.as_slice-2.ensures.value ∙ ap (λ bs. map_bytes r lines listed bs number stamp) c.as_slice-3.ensures.value;
     }
+
+pub returns-clause-meaning : goal.returns-clause-meaning
+returns-clause-meaning c = compiled-means (record_of_parts c.args.parts.now) c.args.text_length c.args.stamp.now c.in_ok-made.made.items c.numbers_fit.ensures (returns-clause-bytes c)
+
+pub returns-clause-order : goal.returns-clause-order
+returns-clause-order c = compiled-in-order (record_of_parts c.args.parts.now) c.args.text_length c.args.stamp.now c.in_ok-made.made.items c.numbers_fit.ensures (returns-clause-bytes c)

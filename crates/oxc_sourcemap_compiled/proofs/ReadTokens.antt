@@ -1,6 +1,6 @@
 -- The tokens of a map, read back: bytes whose numbers are those of sorted tokens have these tokens, and are in order.
-use Rattle.std.proofs.Common.{◌≡◌, ℕ, suc, ◌+◌, ◌-◌, ◌*◌, ◌/◌, ◌<◌, ◌≤◌, Bool, true, List, map, take, drop}
-use Rattle.std.proofs.Common.{length, get_or, min, nat_lt, Option, Some, None, refl, sym, ap, ◌∙◌, arith}
+use Rattle.std.proofs.Common.{◌≡◌, ℕ, ◌+◌, ◌-◌, ◌<◌, ◌≤◌, true, List, map, take, drop}
+use Rattle.std.proofs.Common.{length, get_or, nat_lt, Option, Some, None, refl, sym, ap, ◌∙◌, arith}
 use Rattle.std.proofs.Common.{length-take, length-drop}
 use Rattle.std.proofs.lemmas.List.{same_lists, get_or-take, get_or-drop}
 use Rattle.std.proofs.lemmas.List.FromFn.{length-map-range_with_len, get_or-map-range_with_len}
@@ -17,7 +17,7 @@ use Rattle.oxc_sourcemap_compiled.specs.Meaning.{entry_end, entry_tokens, tokens
 use Rattle.oxc_sourcemap_compiled.specs.Order.{AreRowsExact, AreInOrder}
 use Rattle.oxc_sourcemap_compiled.specs.declared.layout.Header.{Header}
 use Rattle.oxc_sourcemap_compiled.proofs.Entries.{tokens-length, token-is, entry-of}
-use Rattle.oxc_sourcemap_compiled.proofs.LineStarts.{any_token, start-last, start-within, on-entry}
+use Rattle.oxc_sourcemap_compiled.proofs.LineStarts.{start-last, start-within, on-entry}
 use Rattle.oxc_sourcemap_compiled.proofs.LineStarts.{starts-grow, first-start, entry-is}
 
 -- an id that was stored is read

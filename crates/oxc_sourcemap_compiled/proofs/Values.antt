@@ -1,6 +1,6 @@
 -- The fields of tokens, read back: what is read of a token's field is what was written.
 use Rattle.std.proofs.Common.{◌≡◌, ℕ, zero, suc, ◌+◌, ◌-◌, ◌*◌, ◌/◌, ◌%◌, ◌^◌, ◌<◌, ◌≤◌, Bool, true, false}
-use Rattle.std.proofs.Common.{List, [], length, take, drop, get_or, slice_get, Option, Some, None, IfSome}
+use Rattle.std.proofs.Common.{List, length, take, drop, get_or, slice_get, Option, Some, None, IfSome}
 use Rattle.std.proofs.Common.{sum, nat_lt, nat_le, refl, sym, ap, ◌∙◌, arith, subst, length-take}
 use Rattle.std.proofs.Common.{length-drop}
 use Rattle.std.proofs.Math.Nat.{mod-eq_of_lt}
@@ -10,10 +10,10 @@ use Rattle.std.proofs.lemmas.Nat.{pow_pos}
 use Rattle.std.proofs.lemmas.Option.{slice_get-get_or, slice_get_past}
 use Rattle.std.specs.List.{flat_map, range_with_len}
 use Rattle.oxc_sourcemap_tokens.specs.Token.{TokenRecord, IsInBounds, AreInBounds}
-use Rattle.oxc_sourcemap_compiled.specs.Compiled.{id_number, field_number, IsPacked, ArePacked}
+use Rattle.oxc_sourcemap_compiled.specs.Compiled.{id_number, field_number, IsPacked}
 use Rattle.oxc_sourcemap_compiled.specs.Compiled.{AreBlocksOf, group_bytes_of, stride_of, widths_of}
-use Rattle.oxc_sourcemap_compiled.specs.Compiled.{no_block, above_in, packed, rows_of, groups_of}
-use Rattle.oxc_sourcemap_compiled.specs.Compiled.{bytes_of, row_of, group_of, four_in}
+use Rattle.oxc_sourcemap_compiled.specs.Compiled.{no_block, above_in, rows_of, groups_of}
+use Rattle.oxc_sourcemap_compiled.specs.Compiled.{bytes_of, group_of, four_in}
 use Rattle.oxc_sourcemap_compiled.specs.Numbers.{number_at}
 use Rattle.oxc_sourcemap_compiled.specs.Layout.{rows_base, groups_base}
 use Rattle.oxc_sourcemap_compiled.specs.Fields.{value_in, value_of, field_in}
@@ -24,7 +24,6 @@ use Rattle.oxc_sourcemap_compiled.specs.declared.writing.blocks.Block.{Block}
 use Rattle.oxc_sourcemap_compiled.proofs.Parts.{LiesAt, lies-whole, lies-same, lies-within, lies-among}
 use Rattle.oxc_sourcemap_compiled.proofs.ReadNumbers.{number-read, number-split}
 use Rattle.oxc_sourcemap_compiled.proofs.Digits.{digit_of, four-fit, four-read}
-use Rattle.oxc_sourcemap_compiled.proofs.Bytes.{bytes-length}
 use Rattle.oxc_sourcemap_compiled.proofs.Rows.{packing_at, packed-at, rows-lie, field-read}
 use Rattle.oxc_sourcemap_compiled.proofs.Groups.{bytes-below, bytes-before, bytes-within, field_bytes}
 use Rattle.oxc_sourcemap_compiled.proofs.Groups.{field-lies, group_at, groups-length}

@@ -1,6 +1,6 @@
 -- Where the parts of a compiled map lie in the bytes that are written, and how many bytes there are.
-use Rattle.std.proofs.Common.{◌≡◌, ℕ, zero, suc, ◌+◌, ◌*◌, ◌/◌, ◌<◌, ◌≤◌, Bool, true, false, List, [], ◌∷◌}
-use Rattle.std.proofs.Common.{◌++◌, length, map, refl, ap, ◌∙◌, arith, subst, length-append}
+use Rattle.std.proofs.Common.{◌≡◌, ℕ, ◌+◌, ◌*◌, ◌/◌, Bool, true, false, List}
+use Rattle.std.proofs.Common.{◌++◌, length, map, refl, ap, ◌∙◌, arith, length-append}
 use Rattle.std.proofs.Common.{if◌then◌else◌}
 use Rattle.std.proofs.lemmas.List.{length-map, length_push}
 use Rattle.std.proofs.lemmas.List.FromFn.{length-map-range_with_len}
@@ -10,7 +10,7 @@ use Rattle.oxc_sourcemap_lookup.specs.LineSpans.{count_before_line}
 use Rattle.oxc_sourcemap_compiled.specs.Compiled.{bytes_of, table, line_starts, AreBlocksOf, rows_of}
 use Rattle.oxc_sourcemap_compiled.specs.Compiled.{group_bytes_of, groups_of, stored_count, stored_text}
 use Rattle.oxc_sourcemap_compiled.specs.Compiled.{text_offset, ignored_of, header_bytes, listed_table}
-use Rattle.oxc_sourcemap_compiled.specs.Compiled.{parts_bytes, header_of_map, compiled_length, map_bytes}
+use Rattle.oxc_sourcemap_compiled.specs.Compiled.{header_of_map, compiled_length, map_bytes}
 use Rattle.oxc_sourcemap_compiled.specs.Layout.{rows_base, ignored_base, offsets_base}
 use Rattle.oxc_sourcemap_compiled.specs.Layout.{line_numbers_base, groups_base, texts_base}
 use Rattle.oxc_sourcemap_compiled.specs.declared.layout.Header.{Header}

@@ -15,6 +15,7 @@ ghost use Rattle.oxc_sourcemap_compiled.specs.Words.{group_bytes_of};
 ghost use Rattle.oxc_sourcemap_compiled.specs.Compiled.{map_bytes};
 ghost use Rattle.oxc_sourcemap_compiled.specs.Words.{compiled_meaning, compiled_of, FitsFormat};
 ghost use Rattle.oxc_sourcemap_compiled.specs.Words.{IsInOrder};
+ghost use Rattle.std.specs.List.{All};
 ghost use Rattle.std.specs.Prelude.{◌+◌, ◌/◌, Ok};
 ghost use Rattle.oxc_sourcemap_compiled.specs.Compiled.{flag_of, listed_table};
 
@@ -86,12 +87,18 @@ fn has_large_counts(parts: &SourceMapParts<'_>) -> bool
         || ignored_ids(parts).len() > 4294967295
 }
 
+/// Numbers of 32 bits are at most 4294967295.
+fn have_32_bits(numbers: &[u32])
+    ensures { All (λ n. n ≤ 4294967295) numbers.now }
+{
+}
+
 /// Numbers have the bits that the format gives them, since these types have no more.
 fn numbers_fit(parts: &SourceMapParts<'_>, text_length: u64, stamp: &[u8; 32])
     ensures { FitsFormat (record_of_parts parts.now) text_length stamp.now }
 {
     tokens_in_bounds(parts.tokens.as_slice());
-    ignored_ids(parts);
+    have_32_bits(ignored_ids(parts));
 }
 
 /// The lines that have an entry, and whether their numbers are listed: all lines, where there are at most four for each that
@@ -269,5 +276,6 @@ pub fn compile(
         stamp,
     )?;
     numbers_fit(parts, text_length, stamp);
+    have_32_bits(lines.as_slice());
     Ok(made)
 }

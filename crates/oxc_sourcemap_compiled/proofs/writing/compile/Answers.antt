@@ -1,4 +1,5 @@
 use Rattle.std.proofs.Common.{◌≤◌, ◌+◌, ◌/◌, length, ap, ◌∙◌, sym, subst}
+use Rattle.std.specs.List.{All}
 use Rattle.oxc_sourcemap_parts.specs.Views.{record_of_parts}
 use Rattle.oxc_sourcemap_parts.specs.Sorted.{are_tokens_sorted}
 use Rattle.oxc_sourcemap_compiled.specs.Compiled.{AreLinesOf, AreBlocksOf, group_bytes_of}
@@ -26,7 +27,7 @@ returns-clause-bytes c =
       sorted = sym (c.are_sorted.ensures.sorted ∙ ap are_tokens_sorted tokens) ∙ c.if-not-are_sorted.false;
       lines_of = subst (λ ts. AreLinesOf ts lines) tokens c.in_ok-lines.ensures.lines;
       few_lines = c.in_ok-lines.ensures.few;
-      small_lines = ?;
+      small_lines = λ k lt. subst (λ xs. All (λ n. n ≤ 4294967295) xs) c.as_slice-4.ensures.value c.have_32_bits.ensures k 0 lt;
       all_listed = c.in_ok-lines.ensures.all;
       blocks_of = subst (λ ts. AreBlocksOf ts blocks) tokens c.in_ok-blocks.ensures;
       few_groups = subst (λ n. n ≤ 4294967295) groups c.if-group_bytes-gt4294967295.false;

@@ -1,6 +1,8 @@
 -- The groups of tokens: how many bytes they take, and where each lies.
-use Rattle.std.proofs.Common.{◌≡◌, ℕ, zero, suc, ◌+◌, ◌-◌, ◌*◌, ◌/◌, ◌<◌, ◌≤◌, Bool, true, false, List}
-use Rattle.std.proofs.Common.{[], ◌∷◌, ◌++◌, length, take, drop, get_or, min, sum, nat_lt, refl, sym, ap}
+use Rattle.std.proofs.Common.{◌≡◌, ℕ, zero, suc, ◌+◌, ◌-◌, ◌*◌, ◌/◌, ◌<◌, ◌≤◌, Bool, true, false}
+use Rattle.std.proofs.Common.{List}
+use Rattle.std.proofs.Common.{[], ◌∷◌, ◌++◌, length, take, drop, get_or, min, sum, nat_lt, refl}
+use Rattle.std.proofs.Common.{sym, ap}
 use Rattle.std.proofs.Common.{◌∙◌, arith, subst, append_assoc, length-append}
 use Rattle.std.specs.List.{flat_map, range_with_len}
 use Rattle.oxc_sourcemap_tokens.specs.Token.{TokenRecord}
@@ -35,9 +37,9 @@ bytes-more-by true g b bs e more =
     let nothing : g - 16 ≡ 0 = omega (arith, lt) in
     let here : g / 16 ≡ 0 = omega (arith, lt) in
     low-step g s (group_bytes_of (g + 1) (b ∷ bs)) (group_bytes_of g (b ∷ bs)) (group_bytes_of 0 bs) (stride_of (get_or (b ∷ bs) (g / 16) no_block))
-        (ap (λ m. m * s + group_bytes_of (g + 1 - 16) bs) m ∙ ap (λ n. (g + 1) * s + group_bytes_of n bs) none)
-        (ap (λ m. m * s + group_bytes_of (g - 16) bs) n ∙ ap (λ n. g * s + group_bytes_of n bs) nothing)
-        (ap (λ k. stride_of (get_or (b ∷ bs) k no_block)) here)
+    (ap (λ m. m * s + group_bytes_of (g + 1 - 16) bs) m ∙ ap (λ n. (g + 1) * s + group_bytes_of n bs) none)
+    (ap (λ m. m * s + group_bytes_of (g - 16) bs) n ∙ ap (λ n. g * s + group_bytes_of n bs) nothing)
+    (ap (λ k. stride_of (get_or (b ∷ bs) k no_block)) here)
 bytes-more-by false g b bs e more =
     let le : 16 ≤ g = grind (arith, e) in
     let s = stride_of b in
@@ -46,9 +48,9 @@ bytes-more-by false g b bs e more =
     let rest : g + 1 - 16 ≡ g - 16 + 1 = omega (arith, le) in
     let there : g / 16 ≡ suc ((g - 16) / 16) = omega (arith, le) in
     high-step (16 * s) (group_bytes_of (g + 1) (b ∷ bs)) (group_bytes_of g (b ∷ bs)) (group_bytes_of (g - 16 + 1) bs) (group_bytes_of (g - 16) bs)
-        (stride_of (get_or (b ∷ bs) (g / 16) no_block)) (stride_of (get_or bs ((g - 16) / 16) no_block))
-        (ap (λ m. m * s + group_bytes_of (g + 1 - 16) bs) m ∙ ap (λ n. 16 * s + group_bytes_of n bs) rest)
-        (ap (λ m. m * s + group_bytes_of (g - 16) bs) n) (more le) (ap (λ k. stride_of (get_or (b ∷ bs) k no_block)) there)
+    (stride_of (get_or (b ∷ bs) (g / 16) no_block)) (stride_of (get_or bs ((g - 16) / 16) no_block))
+    (ap (λ m. m * s + group_bytes_of (g + 1 - 16) bs) m ∙ ap (λ n. 16 * s + group_bytes_of n bs) rest)
+    (ap (λ m. m * s + group_bytes_of (g - 16) bs) n) (more le) (ap (λ k. stride_of (get_or (b ∷ bs) k no_block)) there)
 
 -- one group more takes the bytes of its block's widths
 bytes-more : (g : ℕ) (blocks : List Block) → g < 16 * length blocks → group_bytes_of (g + 1) blocks ≡ group_bytes_of g blocks + stride_of (get_or blocks (g / 16) no_block)
@@ -86,15 +88,15 @@ pub bytes-within : (i m : ℕ) (blocks : List Block) → m ≤ 16 → i < length
 bytes-within i zero blocks le lt =
     let same : 16 * i + 0 ≡ 16 * i = omega arith in
     ap (λ n. group_bytes_of n blocks) same ∙ nothing (group_bytes_of (16 * i) blocks) (stride_of (get_or blocks i no_block)) where
-  nothing : (x s : ℕ) → x ≡ x + 0 * s
-  nothing x s = omega arith
+      nothing : (x s : ℕ) → x ≡ x + 0 * s
+      nothing x s = omega arith
 bytes-within i (suc m) blocks le lt =
     let next : 16 * i + suc m ≡ 16 * i + m + 1 = omega arith in
     let block : (16 * i + m) / 16 ≡ i = omega (arith, le) in
     product-step m (stride_of (get_or blocks i no_block)) (group_bytes_of (16 * i + suc m) blocks) (group_bytes_of (16 * i + m) blocks) (group_bytes_of (16 * i) blocks)
-        (stride_of (get_or blocks ((16 * i + m) / 16) no_block))
-        (ap (λ n. group_bytes_of n blocks) next ∙ bytes-more (16 * i + m) blocks (omega (arith, le, lt))) (bytes-within i m blocks (omega (arith, le)) lt)
-        (ap (λ k. stride_of (get_or blocks k no_block)) block)
+    (stride_of (get_or blocks ((16 * i + m) / 16) no_block))
+    (ap (λ n. group_bytes_of n blocks) next ∙ bytes-more (16 * i + m) blocks (omega (arith, le, lt))) (bytes-within i m blocks (omega (arith, le)) lt)
+    (ap (λ k. stride_of (get_or blocks k no_block)) block)
 
 -- ---- the parts of a group
 five-length : (a b c d e : List ℕ) → length (a ++ b ++ c ++ d ++ e) ≡ length a + length b + length c + length d + length e
@@ -114,8 +116,8 @@ pub group-length : (b : Block) (ts : List TokenRecord) → length (group_of b ts
 group-length b ts =
     five-length (field_bytes 0 b ts) (field_bytes 1 b ts) (field_bytes 2 b ts) (field_bytes 3 b ts) (field_bytes 4 b ts)
     ∙ five-sum (length (field_bytes 0 b ts)) (length (field_bytes 1 b ts)) (length (field_bytes 2 b ts)) (length (field_bytes 3 b ts)) (length (field_bytes 4 b ts))
-        b.column.width b.source.width b.src_line.width b.src_col.width b.name.width
-        (field-length 0 b ts) (field-length 1 b ts) (field-length 2 b ts) (field-length 3 b ts) (field-length 4 b ts)
+    b.column.width b.source.width b.src_line.width b.src_col.width b.name.width
+    (field-length 0 b ts) (field-length 1 b ts) (field-length 2 b ts) (field-length 3 b ts) (field-length 4 b ts)
 
 -- five parts lie one behind the other
 record FiveLie (at na nb nc nd : ℕ) (a b c d e all : List ℕ) : Type 0 where
@@ -156,8 +158,8 @@ by-number (suc (suc (suc (suc (suc k))))) at b ts all lt f = absurd (omega (arit
 pub field-lies : (k at : ℕ) (b : Block) (ts : List TokenRecord) (all : List ℕ) → k < 5 → LiesAt at (group_of b ts) all → LiesAt (at + sum (take k (widths_of b))) (field_bytes k b ts) all
 field-lies k at b ts all lt h =
     by-number k at b ts all lt (five-lie at b.column.width b.source.width b.src_line.width b.src_col.width
-        (field_bytes 0 b ts) (field_bytes 1 b ts) (field_bytes 2 b ts) (field_bytes 3 b ts) (field_bytes 4 b ts) all
-        (field-length 0 b ts) (field-length 1 b ts) (field-length 2 b ts) (field-length 3 b ts) h)
+    (field_bytes 0 b ts) (field_bytes 1 b ts) (field_bytes 2 b ts) (field_bytes 3 b ts) (field_bytes 4 b ts) all
+    (field-length 0 b ts) (field-length 1 b ts) (field-length 2 b ts) (field-length 3 b ts) h)
 
 -- ---- all groups
 -- a group of tokens, by its number

@@ -1,5 +1,6 @@
 -- The lines of sorted tokens, and where the tokens of each begin: the tokens from one start to the next are those of the line.
-use Rattle.std.proofs.Common.{◌≡◌, ℕ, zero, suc, ◌+◌, ◌-◌, ◌<◌, ◌≤◌, Bool, true, false, List, [], ◌∷◌}
+use Rattle.std.proofs.Common.{◌≡◌, ℕ, zero, suc, ◌+◌, ◌-◌, ◌<◌, ◌≤◌, Bool, true, false, List, []}
+use Rattle.std.proofs.Common.{◌∷◌}
 use Rattle.std.proofs.Common.{map, take, drop, length, get_or, nat_lt, None, refl, ap, ◌∙◌, arith}
 use Rattle.std.proofs.lemmas.List.{get_or_append_left, get_or-map, length-map}
 use Rattle.std.proofs.lemmas.List.Sums.{count_by-le-length}
@@ -116,7 +117,7 @@ module _ (tokens : List TokenRecord) (lines : List ℕ) (are : AreLinesOf tokens
   upto k i d there lt within =
       let own = are.each i d within in
       own-upto (nat_lt k own.0) k own.0 (get_or tokens i d).dst_line refl there own.1 own.2
-          (λ more. counted-below (line (k + 1)) 0 i d tokens from (omega (arith, lt, start-is (k + 1) more)))
+      (λ more. counted-below (line (k + 1)) 0 i d tokens from (omega (arith, lt, start-is (k + 1) more)))
 
   reached : (k i : ℕ) (d : TokenRecord) → k < length lines → start k ≤ i → i < length tokens → line k ≤ (get_or tokens i d).dst_line
   reached k i d there le within = counted-above (line k) 0 i d tokens from (omega (arith, start-is k there, le)) within

@@ -15,13 +15,17 @@ use Rattle.oxc_sourcemap_lookup.specs.LineSpans.{count_before_line}
 use Rattle.oxc_sourcemap_lookup.specs.declared.bias.Bias.{Bias}
 use Rattle.oxc_sourcemap_compiled.specs.Compiled.{line_starts, field_number, AreBlocksOf}
 use Rattle.oxc_sourcemap_compiled.specs.Compiled.{group_bytes_of, no_block, rows_of, groups_of}
-use Rattle.oxc_sourcemap_compiled.specs.Compiled.{stored_count, text_offset, ignored_of, listed_table}
-use Rattle.oxc_sourcemap_compiled.specs.Compiled.{header_of_map, compiled_length, map_bytes, AreBytesOf}
+use Rattle.oxc_sourcemap_compiled.specs.Compiled.{stored_count, text_offset, ignored_of}
+use Rattle.oxc_sourcemap_compiled.specs.Compiled.{listed_table}
+use Rattle.oxc_sourcemap_compiled.specs.Compiled.{header_of_map, compiled_length, map_bytes}
+use Rattle.oxc_sourcemap_compiled.specs.Compiled.{AreBytesOf}
 use Rattle.oxc_sourcemap_compiled.specs.Numbers.{number_at}
 use Rattle.oxc_sourcemap_compiled.specs.Layout.{header_in, AreCounts, texts_base, compiled_fault}
-use Rattle.oxc_sourcemap_compiled.specs.Layout.{rows_base, groups_base, line_numbers_base, ignored_base}
+use Rattle.oxc_sourcemap_compiled.specs.Layout.{rows_base, groups_base, line_numbers_base}
+use Rattle.oxc_sourcemap_compiled.specs.Layout.{ignored_base}
 use Rattle.oxc_sourcemap_compiled.specs.Fields.{value_of, row_base}
-use Rattle.oxc_sourcemap_compiled.specs.Meaning.{start_in, line_in, ignored_in, ignore_list_in, map_in}
+use Rattle.oxc_sourcemap_compiled.specs.Meaning.{start_in, line_in, ignored_in, ignore_list_in}
+use Rattle.oxc_sourcemap_compiled.specs.Meaning.{map_in}
 use Rattle.oxc_sourcemap_compiled.specs.Meaning.{compiled_in, compiled_unless, compiled_meaning}
 use Rattle.oxc_sourcemap_compiled.specs.Order.{AreRowsExact, AreInOrder, IsInOrder, column_of}
 use Rattle.oxc_sourcemap_compiled.specs.Order.{least_column_of}
@@ -35,7 +39,8 @@ use Rattle.oxc_sourcemap_compiled.proofs.Rows.{rows-lie, least-read}
 use Rattle.oxc_sourcemap_compiled.proofs.Values.{value-read}
 use Rattle.oxc_sourcemap_compiled.proofs.LineStarts.{start-within, any_token}
 use Rattle.oxc_sourcemap_compiled.proofs.ReadTokens.{AreReadAs, in-order, tokens-read}
-use Rattle.oxc_sourcemap_compiled.proofs.ReadTexts.{sources-read, names-read, contents-read, file-read}
+use Rattle.oxc_sourcemap_compiled.proofs.ReadTexts.{sources-read, names-read, contents-read}
+use Rattle.oxc_sourcemap_compiled.proofs.ReadTexts.{file-read}
 use Rattle.oxc_sourcemap_compiled.proofs.ReadTexts.{root-read, debug_id-read}
 use Rattle.oxc_sourcemap_compiled.proofs.WrittenHeader.{HeaderRead, header-read}
 use Rattle.oxc_sourcemap_compiled.proofs.WrittenParts.{PartsLie, parts-lie}
@@ -75,13 +80,13 @@ module _ (tokens : List TokenRecord) (blocks : List Block) (bytes : List ℕ) (h
       let same : (64 * b + x) / 64 ≡ b = omega (arith, short) in
       let up = first (64 * b + x) (omega (arith, within, counted)) same in
       exact-by (least_column_of bytes h b) (column_of bytes h (64 * b)) (omega (arith, read, below, columns (64 * b) any_token begin))
-          (omega (arith, read, least, up, columns (64 * b + x) any_token within))
+      (omega (arith, read, least, up, columns (64 * b + x) any_token within))
 
 -- ---- parts of a map
 same-map : {f f' g g' e e' : Option Text} {n n' s s' : List Text} {c c' : List (Option Text)} {t t' : List TokenRecord} {i i' : Option (List ℕ)}
     → f ≡ f' → n ≡ n' → g ≡ g' → s ≡ s' → c ≡ c' → t ≡ t' → i ≡ i' → e ≡ e'
     → ◌≡◌ {A = MapRecord} (record { file = f; names = n; source_root = g; sources = s; source_contents = c; tokens = t; token_chunks = None; ignore_list = i; debug_id = e })
-      (record { file = f'; names = n'; source_root = g'; sources = s'; source_contents = c'; tokens = t'; token_chunks = None; ignore_list = i'; debug_id = e' })
+    (record { file = f'; names = n'; source_root = g'; sources = s'; source_contents = c'; tokens = t'; token_chunks = None; ignore_list = i'; debug_id = e' })
 same-map {f} {f'} {g} {g'} {e} {e'} {n} {n'} {s} {s'} {c} {c'} {t} {t'} {i} {i'} ef en eg es ec et ei ee =
     ap (λ x. record { file = x; names = n; source_root = g; sources = s; source_contents = c; tokens = t; token_chunks = None; ignore_list = i; debug_id = e }) ef
     ∙ ap (λ x. record { file = f'; names = x; source_root = g; sources = s; source_contents = c; tokens = t; token_chunks = None; ignore_list = i; debug_id = e }) en
@@ -149,8 +154,8 @@ module _ (r : MapRecord) (text_length : ℕ) (stamp bytes : List ℕ) (fits : Fi
   size-fits : size < 18446744073709551616
   size-fits =
       sum-fits (length are.lines) ((length r.tokens + 63) / 64) (length (ignored_of r)) (stored_count r) (if are.listed then length are.lines else 0) (group_bytes_of ((length r.tokens + 3) / 4) are.blocks)
-          (text_offset r (stored_count r)) are.few_lines (omega (arith, are.small.tokens)) are.small.ignored (omega (arith, are.small.sources, are.small.names)) (few-listed are.listed (length are.lines))
-          are.few_groups are.few_texts
+      (text_offset r (stored_count r)) are.few_lines (omega (arith, are.small.tokens)) are.small.ignored (omega (arith, are.small.sources, are.small.names)) (few-listed are.listed (length are.lines))
+      are.few_groups are.few_texts
 
   header : HeaderRead h size text_length stamp all
   header = header-read h size text_length stamp all lie.header counts size-fits fits.length_fits fits.stamp_size
@@ -198,8 +203,8 @@ module _ (r : MapRecord) (text_length : ℕ) (stamp bytes : List ℕ) (fits : Fi
   map-read : map_in all h ≡ stored_map r
   map-read =
       same-map (file-read r all h refl refl are.few_texts lie.offsets lie.texts) (names-read r all h refl refl are.few_texts lie.offsets lie.texts) (root-read r all h refl refl are.few_texts lie.offsets lie.texts)
-          (sources-read r all h refl refl are.few_texts lie.offsets lie.texts) (contents-read r all h refl refl are.few_texts lie.offsets lie.texts)
-          (tokens-read r.tokens are.lines all h are.lines_of are.sorted as-read) ignored-read (debug_id-read r all h refl refl are.few_texts lie.offsets lie.texts)
+      (sources-read r all h refl refl are.few_texts lie.offsets lie.texts) (contents-read r all h refl refl are.few_texts lie.offsets lie.texts)
+      (tokens-read r.tokens are.lines all h are.lines_of are.sorted as-read) ignored-read (debug_id-read r all h refl refl are.few_texts lie.offsets lie.texts)
 
   compiled-read : compiled_in all ≡ compiled_of r text_length stamp
   compiled-read =

@@ -1,7 +1,9 @@
 -- The texts of a map, read back.
 use Rattle.std.proofs.Common.{◌≡◌, ℕ, zero, suc, ◌+◌, ◌-◌, ◌*◌, ◌<◌, ◌≤◌, true, false, List, []}
-use Rattle.std.proofs.Common.{map, take, drop, length, get_or, slice_get, nat_lt, nat_le, ◌==◌, Option}
-use Rattle.std.proofs.Common.{Some, None, refl, sym, ap, ◌∙◌, arith, length-append, length-drop, drop-drop}
+use Rattle.std.proofs.Common.{map, take, drop, length, get_or, slice_get, nat_lt, nat_le, ◌==◌}
+use Rattle.std.proofs.Common.{Option}
+use Rattle.std.proofs.Common.{Some, None, refl, sym, ap, ◌∙◌, arith, length-append, length-drop}
+use Rattle.std.proofs.Common.{drop-drop}
 use Rattle.std.proofs.lemmas.List.FromFn.{length-map-range_with_len, get_or-map-range_with_len}
 use Rattle.std.proofs.lemmas.List.FromFn.{fill_by_all}
 use Rattle.std.proofs.lemmas.Option.{unwrap_or-slice_get}
@@ -15,7 +17,8 @@ use Rattle.oxc_sourcemap_compiled.specs.Meaning.{offset_in, part_between, text_i
 use Rattle.oxc_sourcemap_compiled.specs.Meaning.{optional_in, listed_in}
 use Rattle.oxc_sourcemap_compiled.specs.declared.layout.Header.{Header}
 use Rattle.oxc_sourcemap_compiled.proofs.Slices.{flat_map-more, offsets-grow, offset-next}
-use Rattle.oxc_sourcemap_compiled.proofs.Parts.{LiesAt, lies-same, lies-within, lies-take, lies-among}
+use Rattle.oxc_sourcemap_compiled.proofs.Parts.{LiesAt, lies-same, lies-within, lies-take}
+use Rattle.oxc_sourcemap_compiled.proofs.Parts.{lies-among}
 use Rattle.oxc_sourcemap_compiled.proofs.ReadNumbers.{entry-read}
 
 pub texts-length : (r : MapRecord) (n : ℕ) → length (flat_map (stored_text r) (range_with_len 0 n)) ≡ text_offset r n
@@ -141,7 +144,7 @@ module _ (r : MapRecord) (bytes : List ℕ) (h : Header) (sources : h.sources �
   names-read =
       ap (λ n. map (λ i. listed_in bytes h (2 * n + i)) (range_with_len 0 h.names)) sources ∙ ap (λ n. map (λ i. listed_in bytes h (2 * length r.sources + i)) (range_with_len 0 n)) names
       ∙ sym (fill_by_all (λ i. listed_in bytes h (2 * length r.sources + i)) r.names (length r.names) [] refl
-          (λ k lt. sym (listed-read (2 * length r.sources + k) (omega (arith, lt)) ∙ name-stored r k lt)))
+      (λ k lt. sym (listed-read (2 * length r.sources + k) (omega (arith, lt)) ∙ name-stored r k lt)))
 
   pub contents-read : map (λ i. optional_in bytes h (h.sources + i)) (range_with_len 0 h.sources) ≡ map (content_at r.source_contents) (range_with_len 0 (length r.sources))
   contents-read =
@@ -149,7 +152,7 @@ module _ (r : MapRecord) (bytes : List ℕ) (h : Header) (sources : h.sources �
       let f = content_at r.source_contents in
       ap (λ n. map (λ i. optional_in bytes h (n + i)) (range_with_len 0 n)) sources
       ∙ sym (fill_by_all (λ i. optional_in bytes h (n + i)) (map f (range_with_len 0 n)) n None (length-map-range_with_len f 0 n)
-          (λ k lt. get_or-map-range_with_len f 0 n k k None lt (omega arith) ∙ sym (optional-read (n + k) (f k) (omega (arith, lt)) (content-stored r k lt))))
+      (λ k lt. get_or-map-range_with_len f 0 n k k None lt (omega arith) ∙ sym (optional-read (n + k) (f k) (omega (arith, lt)) (content-stored r k lt))))
 
   abbrev listed : ℕ
   listed = 2 * length r.sources + length r.names

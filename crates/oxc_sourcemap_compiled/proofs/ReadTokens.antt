@@ -12,7 +12,8 @@ use Rattle.oxc_sourcemap_lookup.specs.Lookup.{on_line, no_column_goes_back}
 use Rattle.oxc_sourcemap_lookup.proofs.OwnTables.{line_goes_on}
 use Rattle.oxc_sourcemap_compiled.specs.Compiled.{AreLinesOf, line_starts, id_number, field_number}
 use Rattle.oxc_sourcemap_compiled.specs.Fields.{value_of}
-use Rattle.oxc_sourcemap_compiled.specs.Meaning.{stored_id, token_in, start_in, line_in, entry_begin}
+use Rattle.oxc_sourcemap_compiled.specs.Meaning.{stored_id, token_in, start_in, line_in}
+use Rattle.oxc_sourcemap_compiled.specs.Meaning.{entry_begin}
 use Rattle.oxc_sourcemap_compiled.specs.Meaning.{entry_end, entry_tokens, tokens_in}
 use Rattle.oxc_sourcemap_compiled.specs.Order.{AreRowsExact, AreInOrder}
 use Rattle.oxc_sourcemap_compiled.specs.declared.layout.Header.{Header}
@@ -31,7 +32,7 @@ id-read (Some n) =
 -- tokens with the same fields
 same-token : {l l' c c' m m' n n' : ℕ} {s s' t t' : Option ℕ} → l ≡ l' → c ≡ c' → m ≡ m' → n ≡ n' → s ≡ s' → t ≡ t'
     → ◌≡◌ {A = TokenRecord} (record { dst_line = l; dst_col = c; src_line = m; src_col = n; source_id = s; name_id = t })
-      (record { dst_line = l'; dst_col = c'; src_line = m'; src_col = n'; source_id = s'; name_id = t' })
+    (record { dst_line = l'; dst_col = c'; src_line = m'; src_col = n'; source_id = s'; name_id = t' })
 same-token {l} {l'} {c} {c'} {m} {m'} {n} {n'} {s} {s'} {t} {t'} el ec em en es et =
     ap (λ x. record { dst_line = x; dst_col = c; src_line = m; src_col = n; source_id = s; name_id = t }) el
     ∙ ap (λ x. record { dst_line = l'; dst_col = x; src_line = m; src_col = n; source_id = s; name_id = t }) ec
@@ -71,7 +72,7 @@ module _ (tokens : List TokenRecord) (lines bytes : List ℕ) (h : Header) (are 
       let within : i < length tokens = omega (arith, lt, start-within tokens lines are sorted (k + 1) (omega (arith, there))) in
       let line = read.numbers k there ∙ sym (on-entry tokens lines are sorted k i d there le lt) in
       same-token line (read.values 0 i d (omega arith) within) (read.values 2 i d (omega arith) within) (read.values 3 i d (omega arith) within)
-          (ap stored_id (read.values 1 i d (omega arith) within) ∙ id-read t.source_id) (ap stored_id (read.values 4 i d (omega arith) within) ∙ id-read t.name_id)
+      (ap stored_id (read.values 1 i d (omega arith) within) ∙ id-read t.source_id) (ap stored_id (read.values 4 i d (omega arith) within) ∙ id-read t.name_id)
 
   entry-read : (k : ℕ) → k < length lines → entry_tokens bytes h k ≡ on_line token_line (get_or lines k 0) tokens
   entry-read k there =
@@ -88,9 +89,9 @@ module _ (tokens : List TokenRecord) (lines bytes : List ℕ) (h : Header) (are 
       let all : length part ≡ n = omega (arith, length-take n (drop (start k) tokens), length-drop (start k) tokens, within, grow) in
       let same : map f (range_with_len (start k) n) ≡ part =
       same_lists (map f (range_with_len (start k) n)) part (size ∙ sym all) (λ i d lt.
-          let less : i < n = omega (arith, lt, size) in
-          get_or-map-range_with_len f (start k) n i (start k + i) d less refl ∙ token-read k (start k + i) d there (omega arith) (omega (arith, less))
-          ∙ sym (get_or-take n (drop (start k) tokens) i d less ∙ get_or-drop (start k) tokens i d)) in
+      let less : i < n = omega (arith, lt, size) in
+      get_or-map-range_with_len f (start k) n i (start k + i) d less refl ∙ token-read k (start k + i) d there (omega arith) (omega (arith, less))
+      ∙ sym (get_or-take n (drop (start k) tokens) i d less ∙ get_or-drop (start k) tokens i d)) in
       place ∙ same ∙ entry-is tokens lines are sorted k there
 
   pub in-order : AreInOrder bytes h
@@ -113,12 +114,12 @@ module _ (tokens : List TokenRecord) (lines bytes : List ℕ) (h : Header) (are 
   tokens-read =
       let size = tokens-length bytes h in-order in
       same_lists (tokens_in bytes h) tokens (size ∙ read.counted) (λ i d lt.
-          let less : i < h.tokens = omega (arith, lt, size) in
-          let entry = entry-of bytes h in-order i less in
-          let j = entry.0 in
-          let there : j < length lines = omega (arith, entry.1, read.lined) in
-          let t = token_in bytes h (line_in bytes h j) i in
-          let at = token-is bytes h in-order j i entry.1 entry.3 entry.4 in
-          let le : start j ≤ i = omega (arith, entry.3, read.starts j (omega (arith, there))) in
-          let before : i < start (j + 1) = omega (arith, entry.4, read.starts (j + 1) (omega (arith, there))) in
-          get_or_from_slice_get (tokens_in bytes h) i t d at ∙ token-read j i d there le before)
+      let less : i < h.tokens = omega (arith, lt, size) in
+      let entry = entry-of bytes h in-order i less in
+      let j = entry.0 in
+      let there : j < length lines = omega (arith, entry.1, read.lined) in
+      let t = token_in bytes h (line_in bytes h j) i in
+      let at = token-is bytes h in-order j i entry.1 entry.3 entry.4 in
+      let le : start j ≤ i = omega (arith, entry.3, read.starts j (omega (arith, there))) in
+      let before : i < start (j + 1) = omega (arith, entry.4, read.starts (j + 1) (omega (arith, there))) in
+      get_or_from_slice_get (tokens_in bytes h) i t d at ∙ token-read j i d there le before)

@@ -50,8 +50,8 @@ rows-length place groups (b ∷ bs) =
     let next = place + min groups 16 * stride_of b in
     length-append (row_of place b) (rows_of next (groups - 16) bs) ∙ ap (λ n. n + length (rows_of next (groups - 16) bs)) (row-length place b)
     ∙ ap (λ n. 29 + n) (rows-length next (groups - 16) bs) ∙ one-more (length bs) where
-  one-more : (n : ℕ) → 29 + 29 * n ≡ 29 * suc n
-  one-more n = omega arith
+      one-more : (n : ℕ) → 29 + 29 * n ≡ 29 * suc n
+      one-more n = omega arith
 
 pub rows-lie : (at place groups i : ℕ) (blocks : List Block) (all : List ℕ) → LiesAt at (rows_of place groups blocks) all → i < length blocks
     → LiesAt (at + 29 * i) (row_of (place + group_bytes_of groups (take i blocks)) (get_or blocks i no_block)) all
@@ -67,7 +67,7 @@ rows-lie at place groups (suc i) (b ∷ bs) all h lt =
     let more = group_bytes_of (groups - 16) (take i bs) in
     let far : at + 29 + 29 * i ≡ at + 29 * suc i = omega arith in
     subst (λ p. LiesAt (at + 29 * suc i) (row_of p (get_or bs i no_block)) all) (add_assoc place size more)
-        (lies-same (at + 29 + 29 * i) (at + 29 * suc i) (row_of (place + size + more) (get_or bs i no_block)) all far found)
+    (lies-same (at + 29 + 29 * i) (at + 29 * suc i) (row_of (place + size + more) (get_or bs i no_block)) all far found)
 
 -- ---- what is read of a row
 least-at : (k place : ℕ) (b : Block) → k < 5 → get_or (numbers_of place b) (k + 1) 0 ≡ (packing_at k b).least
@@ -114,5 +114,5 @@ field-read k i place b all h lt row small_place small narrow =
     let is = width-at k b lt in
     let width : min (get_or (widths_of b) k 0) 16 ≡ (packing_at k b).width = omega (arith, is, narrow) in
     same-field (least-read k (row_base h i) place b all lt row small)
-        (ap (λ n. groups_base h + n + sum (take k (widths_in all h i))) (place-read (row_base h i) place b all row small_place) ∙ ap (λ ws. groups_base h + place + sum (take k ws)) widths)
-        (ap sum widths) (ap (λ ws. min (get_or ws k 0) 16) widths ∙ width)
+    (ap (λ n. groups_base h + n + sum (take k (widths_in all h i))) (place-read (row_base h i) place b all row small_place) ∙ ap (λ ws. groups_base h + place + sum (take k ws)) widths)
+    (ap sum widths) (ap (λ ws. min (get_or ws k 0) 16) widths ∙ width)

@@ -1,5 +1,6 @@
 -- What a map means is kept in the map that is stored of it.
-use Rattle.std.proofs.Common.{◌≡◌, ℕ, zero, suc, ◌+◌, List, [], ◌∷◌, map, length, slice_get, Option, None}
+use Rattle.std.proofs.Common.{◌≡◌, ℕ, zero, suc, ◌+◌, List, [], ◌∷◌, map, length, slice_get, Option}
+use Rattle.std.proofs.Common.{None}
 use Rattle.std.proofs.Common.{refl, ap, ◌∙◌, arith}
 use Rattle.std.specs.List.{range_with_len}
 use Rattle.std.specs.Option.{option_and_then}
@@ -31,4 +32,4 @@ sources-kept (path ∷ paths) (c ∷ contents) =
 pub stored-means : (r : MapRecord) → decoded_map_of (stored_map r) ≡ decoded_map_of r
 stored-means r =
     ap (λ ss. record { file = r.file; source_root = r.source_root; debug_id = r.debug_id; ignore_list = r.ignore_list; sources = ss; mappings = map (mapping_of ss r.names) r.tokens })
-        (sources-kept r.sources r.source_contents)
+    (sources-kept r.sources r.source_contents)

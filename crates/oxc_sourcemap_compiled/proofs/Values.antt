@@ -1,6 +1,8 @@
 -- The fields of tokens, read back: what is read of a token's field is what was written.
-use Rattle.std.proofs.Common.{◌≡◌, ℕ, zero, suc, ◌+◌, ◌-◌, ◌*◌, ◌/◌, ◌%◌, ◌^◌, ◌<◌, ◌≤◌, Bool, true, false}
-use Rattle.std.proofs.Common.{List, length, take, drop, get_or, slice_get, Option, Some, None, IfSome}
+use Rattle.std.proofs.Common.{◌≡◌, ℕ, zero, suc, ◌+◌, ◌-◌, ◌*◌, ◌/◌, ◌%◌, ◌^◌, ◌<◌, ◌≤◌, Bool, true}
+use Rattle.std.proofs.Common.{false}
+use Rattle.std.proofs.Common.{List, length, take, drop, get_or, slice_get, Option, Some, None}
+use Rattle.std.proofs.Common.{IfSome}
 use Rattle.std.proofs.Common.{sum, nat_lt, nat_le, refl, sym, ap, ◌∙◌, arith, subst, length-take}
 use Rattle.std.proofs.Common.{length-drop}
 use Rattle.std.proofs.Math.Nat.{mod-eq_of_lt}
@@ -21,11 +23,13 @@ use Rattle.oxc_sourcemap_compiled.specs.declared.fields.Field.{Field}
 use Rattle.oxc_sourcemap_compiled.specs.declared.layout.Header.{Header}
 use Rattle.oxc_sourcemap_compiled.specs.declared.writing.blocks.Packing.{Packing}
 use Rattle.oxc_sourcemap_compiled.specs.declared.writing.blocks.Block.{Block}
-use Rattle.oxc_sourcemap_compiled.proofs.Parts.{LiesAt, lies-whole, lies-same, lies-within, lies-among}
+use Rattle.oxc_sourcemap_compiled.proofs.Parts.{LiesAt, lies-whole, lies-same, lies-within}
+use Rattle.oxc_sourcemap_compiled.proofs.Parts.{lies-among}
 use Rattle.oxc_sourcemap_compiled.proofs.ReadNumbers.{number-read, number-split}
 use Rattle.oxc_sourcemap_compiled.proofs.Digits.{digit_of, four-fit, four-read}
 use Rattle.oxc_sourcemap_compiled.proofs.Rows.{packing_at, packed-at, rows-lie, field-read}
-use Rattle.oxc_sourcemap_compiled.proofs.Groups.{bytes-below, bytes-before, bytes-within, field_bytes}
+use Rattle.oxc_sourcemap_compiled.proofs.Groups.{bytes-below, bytes-before, bytes-within}
+use Rattle.oxc_sourcemap_compiled.proofs.Groups.{field_bytes}
 use Rattle.oxc_sourcemap_compiled.proofs.Groups.{field-lies, group_at, groups-length}
 
 -- ---- parts of lists
@@ -197,20 +201,20 @@ module _ (tokens : List TokenRecord) (blocks : List Block) (bytes : List ℕ) (h
     lies : LiesAt at (field_bytes k block group) bytes
     lies =
         lies-same (groups_base h + before + sum (take k (widths_of block))) at (field_bytes k block group) bytes at-is
-            (field-lies k (groups_base h + before) block group bytes is_field (group-lies (groups_base h) bytes groups))
+        (field-lies k (groups_base h + before) block group bytes is_field (group-lies (groups_base h) bytes groups))
 
     within : at + 16 ≤ length bytes
     within =
         let inner = field-lies k (0 + before) block group (groups_of blocks tokens) is_field (group-lies 0 (groups_of blocks tokens) (lies-whole (groups_of blocks tokens))) in
         ends-within (groups_base h) before (sum (take k (widths_of block))) at (length (field_bytes k block group)) (length (groups_of blocks tokens)) (length bytes) at-is
-            (lies-within (0 + before + sum (take k (widths_of block))) (field_bytes k block group) (groups_of blocks tokens) inner) room
+        (lies-within (0 + before + sum (take k (widths_of block))) (field_bytes k block group) (groups_of blocks tokens) inner) room
 
     values-small : (n : ℕ) → n < 4 → above_in k packing (slice_get group n) < 2 ^ (2 * packing.width)
     values-small n lt =
         let s = 4 * (i / 4) in
         let same : i / 64 ≡ (s + n) / 64 = omega (arith, lt) in
         above-small-by (nat_lt (s + n) (length tokens)) k tokens packing s n refl lt
-            (λ less d. above-fits k tokens (s + n) packing (subst (λ b. IsPacked k (take 64 (drop (64 * b) tokens)) packing) same fields) d less) d
+        (λ less d. above-fits k tokens (s + n) packing (subst (λ b. IsPacked k (take 64 (drop (64 * b) tokens)) packing) same fields) d less) d
 
     token-is : slice_get group (i % 64 % 4) ≡ Some (get_or tokens i d)
     token-is =

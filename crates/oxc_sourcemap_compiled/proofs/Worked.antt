@@ -143,34 +143,34 @@ abbrev packing : ℕ → ℕ → Packing
 packing least width = record { least = least; width = width }
 
 two_lines-written : map_bytes (record {
-      file = Some (codes "o.js");
-      names = codes "f" ∷ [];
-      source_root = None;
-      sources = codes "a.js" ∷ [];
-      source_contents = Some [] ∷ [];
-      tokens = record { dst_line = 0; dst_col = 0; src_line = 0; src_col = 0; source_id = Some 0; name_id = Some 0 }
-          ∷ record { dst_line = 1; dst_col = 1; src_line = 2; src_col = 2; source_id = Some 0; name_id = None } ∷ [];
-      token_chunks = None;
-      ignore_list = Some (0 ∷ []);
-      debug_id = None;
-    }) (0 ∷ 1 ∷ []) false (record { column = packing 0 1; source = packing 1 0; src_line = packing 0 1; src_col = packing 0 1; name = packing 0 1 } ∷ []) 107 (take 32 (drop 24 two_lines))
+  file = Some (codes "o.js");
+  names = codes "f" ∷ [];
+  source_root = None;
+  sources = codes "a.js" ∷ [];
+  source_contents = Some [] ∷ [];
+  tokens = record { dst_line = 0; dst_col = 0; src_line = 0; src_col = 0; source_id = Some 0; name_id = Some 0 }
+      ∷ record { dst_line = 1; dst_col = 1; src_line = 2; src_col = 2; source_id = Some 0; name_id = None } ∷ [];
+  token_chunks = None;
+  ignore_list = Some (0 ∷ []);
+  debug_id = None;
+}) (0 ∷ 1 ∷ []) false (record { column = packing 0 1; source = packing 1 0; src_line = packing 0 1; src_col = packing 0 1; name = packing 0 1 } ∷ []) 107 (take 32 (drop 24 two_lines))
     ≡ two_lines
 unfolding bytes_of stored_text
 two_lines-written = refl
 
 far_lines-written : map_bytes (record {
-      file = None;
-      names = [];
-      source_root = Some (codes "r");
-      sources = codes "a" ∷ codes "b" ∷ [];
-      source_contents = None ∷ Some (codes "x") ∷ [];
-      tokens = record { dst_line = 0; dst_col = 5; src_line = 1; src_col = 300; source_id = Some 1; name_id = None }
-          ∷ record { dst_line = 0; dst_col = 9; src_line = 1; src_col = 2; source_id = Some 0; name_id = None }
-          ∷ record { dst_line = 7; dst_col = 3; src_line = 0; src_col = 0; source_id = None; name_id = None } ∷ [];
-      token_chunks = None;
-      ignore_list = None;
-      debug_id = Some [];
-    }) (0 ∷ 7 ∷ []) true (record { column = packing 3 2; source = packing 0 1; src_line = packing 0 1; src_col = packing 0 5; name = packing 0 0 } ∷ []) 0 (take 32 (drop 24 far_lines))
+  file = None;
+  names = [];
+  source_root = Some (codes "r");
+  sources = codes "a" ∷ codes "b" ∷ [];
+  source_contents = None ∷ Some (codes "x") ∷ [];
+  tokens = record { dst_line = 0; dst_col = 5; src_line = 1; src_col = 300; source_id = Some 1; name_id = None }
+      ∷ record { dst_line = 0; dst_col = 9; src_line = 1; src_col = 2; source_id = Some 0; name_id = None }
+      ∷ record { dst_line = 7; dst_col = 3; src_line = 0; src_col = 0; source_id = None; name_id = None } ∷ [];
+  token_chunks = None;
+  ignore_list = None;
+  debug_id = Some [];
+}) (0 ∷ 7 ∷ []) true (record { column = packing 3 2; source = packing 0 1; src_line = packing 0 1; src_col = packing 0 5; name = packing 0 0 } ∷ []) 0 (take 32 (drop 24 far_lines))
     ≡ far_lines
 unfolding bytes_of stored_text
 far_lines-written = refl

@@ -30,7 +30,7 @@ header-length h size text_length stamp long =
 -- headers with the same counts
 same-header : {t t' l l' s s' n n' i i' g g' : ℕ} {a a' b b' : Bool} → t ≡ t' → l ≡ l' → s ≡ s' → n ≡ n' → i ≡ i' → a ≡ a' → b ≡ b' → g ≡ g'
     → ◌≡◌ {A = Header} (record { tokens = t; lines = l; sources = s; names = n; ignored = i; has_ignore_list = a; has_line_numbers = b; group_bytes = g })
-      (record { tokens = t'; lines = l'; sources = s'; names = n'; ignored = i'; has_ignore_list = a'; has_line_numbers = b'; group_bytes = g' })
+    (record { tokens = t'; lines = l'; sources = s'; names = n'; ignored = i'; has_ignore_list = a'; has_line_numbers = b'; group_bytes = g' })
 same-header {t} {t'} {l} {l'} {s} {s'} {n} {n'} {i} {i'} {g} {g'} {a} {a'} {b} {b'} et el es en ei ea eb eg =
     ap (λ x. record { tokens = x; lines = l; sources = s; names = n; ignored = i; has_ignore_list = a; has_line_numbers = b; group_bytes = g }) et
     ∙ ap (λ x. record { tokens = t'; lines = x; sources = s; names = n; ignored = i; has_ignore_list = a; has_line_numbers = b; group_bytes = g }) el

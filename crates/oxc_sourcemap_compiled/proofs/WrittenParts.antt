@@ -7,9 +7,12 @@ use Rattle.std.proofs.lemmas.List.FromFn.{length-map-range_with_len}
 use Rattle.std.specs.List.{flat_map, range_with_len}
 use Rattle.oxc_sourcemap_parts.specs.Record.{MapRecord}
 use Rattle.oxc_sourcemap_lookup.specs.LineSpans.{count_before_line}
-use Rattle.oxc_sourcemap_compiled.specs.Compiled.{bytes_of, table, line_starts, AreBlocksOf, rows_of}
-use Rattle.oxc_sourcemap_compiled.specs.Compiled.{group_bytes_of, groups_of, stored_count, stored_text}
-use Rattle.oxc_sourcemap_compiled.specs.Compiled.{text_offset, ignored_of, header_bytes, listed_table}
+use Rattle.oxc_sourcemap_compiled.specs.Compiled.{bytes_of, table, line_starts, AreBlocksOf}
+use Rattle.oxc_sourcemap_compiled.specs.Compiled.{rows_of}
+use Rattle.oxc_sourcemap_compiled.specs.Compiled.{group_bytes_of, groups_of, stored_count}
+use Rattle.oxc_sourcemap_compiled.specs.Compiled.{stored_text}
+use Rattle.oxc_sourcemap_compiled.specs.Compiled.{text_offset, ignored_of, header_bytes}
+use Rattle.oxc_sourcemap_compiled.specs.Compiled.{listed_table}
 use Rattle.oxc_sourcemap_compiled.specs.Compiled.{header_of_map, compiled_length, map_bytes}
 use Rattle.oxc_sourcemap_compiled.specs.Layout.{rows_base, ignored_base, offsets_base}
 use Rattle.oxc_sourcemap_compiled.specs.Layout.{line_numbers_base, groups_base, texts_base}
@@ -30,8 +33,16 @@ listed-length false lines = refl
 parts-sum : (a b c d e f g z : List ℕ) → length (a ++ (b ++ (c ++ (d ++ (e ++ (f ++ (g ++ z)))))))
     ≡ length a + (length b + (length c + (length d + (length e + (length f + (length g + length z))))))
 parts-sum a b c d e f g z =
-    omega (arith, length-append a (b ++ (c ++ (d ++ (e ++ (f ++ (g ++ z)))))), length-append b (c ++ (d ++ (e ++ (f ++ (g ++ z))))), length-append c (d ++ (e ++ (f ++ (g ++ z)))),
-      length-append d (e ++ (f ++ (g ++ z))), length-append e (f ++ (g ++ z)), length-append f (g ++ z), length-append g z)
+    omega (
+      arith,
+      length-append a (b ++ (c ++ (d ++ (e ++ (f ++ (g ++ z)))))),
+      length-append b (c ++ (d ++ (e ++ (f ++ (g ++ z))))),
+      length-append c (d ++ (e ++ (f ++ (g ++ z)))),
+      length-append d (e ++ (f ++ (g ++ z))),
+      length-append e (f ++ (g ++ z)),
+      length-append f (g ++ z),
+      length-append g z,
+    )
 
 -- Where the parts lie.
 pub record PartsLie (r : MapRecord) (lines : List ℕ) (listed : Bool) (blocks : List Block) (text_length : ℕ) (stamp bytes : List ℕ) : Type 0 where
@@ -109,13 +120,13 @@ module _ (r : MapRecord) (lines : List ℕ) (listed : Bool) (blocks : List Block
   length-all : length bytes ≡ compiled_length r lines listed blocks
   length-all =
       sums (length header) (length p1) (length p2) (length p3) (length p4) (length p5) (length p6) (length p7) (length p8) (length bytes)
-          (4 * (length lines + 1)) (29 * ((length r.tokens + 63) / 64)) (4 * length (ignored_of r)) (4 * (stored_count r + 1)) (4 * (if listed then length lines else 0))
-          (group_bytes_of ((length r.tokens + 3) / 4) blocks) (text_offset r (stored_count r))
-          (length-append header (p1 ++ (p2 ++ (p3 ++ (p4 ++ (p5 ++ (p6 ++ (p7 ++ p8))))))) ∙ ap (λ n. length header + n) (parts-sum p1 p2 p3 p4 p5 p6 p7 p8))
-          length-0 length-1 length-2 length-3 length-4 length-5 length-6 length-7 (bytes-length 16 0) where
-    sums : (n0 n1 n2 n3 n4 n5 n6 n7 n8 all m1 m2 m3 m4 m5 m6 m7 : ℕ) → all ≡ n0 + (n1 + (n2 + (n3 + (n4 + (n5 + (n6 + (n7 + n8)))))))
-        → n0 ≡ 88 → n1 ≡ m1 → n2 ≡ m2 → n3 ≡ m3 → n4 ≡ m4 → n5 ≡ m5 → n6 ≡ m6 → n7 ≡ m7 → n8 ≡ 16 → all ≡ 88 + m1 + m2 + m3 + m4 + m5 + m6 + m7 + 16
-    sums n0 n1 n2 n3 n4 n5 n6 n7 n8 all m1 m2 m3 m4 m5 m6 m7 e e0 e1 e2 e3 e4 e5 e6 e7 e8 = omega (arith, e, e0, e1, e2, e3, e4, e5, e6, e7, e8)
+      (4 * (length lines + 1)) (29 * ((length r.tokens + 63) / 64)) (4 * length (ignored_of r)) (4 * (stored_count r + 1)) (4 * (if listed then length lines else 0))
+      (group_bytes_of ((length r.tokens + 3) / 4) blocks) (text_offset r (stored_count r))
+      (length-append header (p1 ++ (p2 ++ (p3 ++ (p4 ++ (p5 ++ (p6 ++ (p7 ++ p8))))))) ∙ ap (λ n. length header + n) (parts-sum p1 p2 p3 p4 p5 p6 p7 p8))
+      length-0 length-1 length-2 length-3 length-4 length-5 length-6 length-7 (bytes-length 16 0) where
+        sums : (n0 n1 n2 n3 n4 n5 n6 n7 n8 all m1 m2 m3 m4 m5 m6 m7 : ℕ) → all ≡ n0 + (n1 + (n2 + (n3 + (n4 + (n5 + (n6 + (n7 + n8)))))))
+            → n0 ≡ 88 → n1 ≡ m1 → n2 ≡ m2 → n3 ≡ m3 → n4 ≡ m4 → n5 ≡ m5 → n6 ≡ m6 → n7 ≡ m7 → n8 ≡ 16 → all ≡ 88 + m1 + m2 + m3 + m4 + m5 + m6 + m7 + 16
+        sums n0 n1 n2 n3 n4 n5 n6 n7 n8 all m1 m2 m3 m4 m5 m6 m7 e e0 e1 e2 e3 e4 e5 e6 e7 e8 = omega (arith, e, e0, e1, e2, e3, e4, e5, e6, e7, e8)
 
   pub parts-lie : PartsLie r lines listed blocks text_length stamp bytes
   parts-lie =

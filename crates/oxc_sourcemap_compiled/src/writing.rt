@@ -90,8 +90,7 @@ fn has_large_counts(parts: &SourceMapParts<'_>) -> bool
 /// Numbers of 32 bits are at most 4294967295.
 fn have_32_bits(numbers: &[u32])
     ensures { All (λ n. n ≤ 4294967295) numbers.now }
-{
-}
+{}
 
 /// Numbers have the bits that the format gives them, since these types have no more.
 fn numbers_fit(parts: &SourceMapParts<'_>, text_length: u64, stamp: &[u8; 32])

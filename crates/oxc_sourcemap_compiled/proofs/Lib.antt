@@ -17,6 +17,7 @@ mod Rows
 mod Searches
 mod Slices
 mod StoredMaps
+mod Taken
 mod Values
 mod Worked
 mod WrittenHeader

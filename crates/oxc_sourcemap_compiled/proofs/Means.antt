@@ -42,6 +42,7 @@ use Rattle.oxc_sourcemap_compiled.proofs.ReadTokens.{AreReadAs, in-order, tokens
 use Rattle.oxc_sourcemap_compiled.proofs.ReadTexts.{sources-read, names-read, contents-read}
 use Rattle.oxc_sourcemap_compiled.proofs.ReadTexts.{file-read}
 use Rattle.oxc_sourcemap_compiled.proofs.ReadTexts.{root-read, debug_id-read}
+use Rattle.oxc_sourcemap_compiled.proofs.Taken.{same-map}
 use Rattle.oxc_sourcemap_compiled.proofs.WrittenHeader.{HeaderRead, header-read}
 use Rattle.oxc_sourcemap_compiled.proofs.WrittenParts.{PartsLie, parts-lie}
 
@@ -83,20 +84,6 @@ module _ (tokens : List TokenRecord) (blocks : List Block) (bytes : List ℕ) (h
       (omega (arith, read, least, up, columns (64 * b + x) any_token within))
 
 -- ---- parts of a map
-same-map : {f f' g g' e e' : Option Text} {n n' s s' : List Text} {c c' : List (Option Text)} {t t' : List TokenRecord} {i i' : Option (List ℕ)}
-    → f ≡ f' → n ≡ n' → g ≡ g' → s ≡ s' → c ≡ c' → t ≡ t' → i ≡ i' → e ≡ e'
-    → ◌≡◌ {A = MapRecord} (record { file = f; names = n; source_root = g; sources = s; source_contents = c; tokens = t; token_chunks = None; ignore_list = i; debug_id = e })
-    (record { file = f'; names = n'; source_root = g'; sources = s'; source_contents = c'; tokens = t'; token_chunks = None; ignore_list = i'; debug_id = e' })
-same-map {f} {f'} {g} {g'} {e} {e'} {n} {n'} {s} {s'} {c} {c'} {t} {t'} {i} {i'} ef en eg es ec et ei ee =
-    ap (λ x. record { file = x; names = n; source_root = g; sources = s; source_contents = c; tokens = t; token_chunks = None; ignore_list = i; debug_id = e }) ef
-    ∙ ap (λ x. record { file = f'; names = x; source_root = g; sources = s; source_contents = c; tokens = t; token_chunks = None; ignore_list = i; debug_id = e }) en
-    ∙ ap (λ x. record { file = f'; names = n'; source_root = x; sources = s; source_contents = c; tokens = t; token_chunks = None; ignore_list = i; debug_id = e }) eg
-    ∙ ap (λ x. record { file = f'; names = n'; source_root = g'; sources = x; source_contents = c; tokens = t; token_chunks = None; ignore_list = i; debug_id = e }) es
-    ∙ ap (λ x. record { file = f'; names = n'; source_root = g'; sources = s'; source_contents = x; tokens = t; token_chunks = None; ignore_list = i; debug_id = e }) ec
-    ∙ ap (λ x. record { file = f'; names = n'; source_root = g'; sources = s'; source_contents = c'; tokens = x; token_chunks = None; ignore_list = i; debug_id = e }) et
-    ∙ ap (λ x. record { file = f'; names = n'; source_root = g'; sources = s'; source_contents = c'; tokens = t'; token_chunks = None; ignore_list = x; debug_id = e }) ei
-    ∙ ap (λ x. record { file = f'; names = n'; source_root = g'; sources = s'; source_contents = c'; tokens = t'; token_chunks = None; ignore_list = i'; debug_id = x }) ee
-
 -- an ignore list, by its entries
 list-is : (list : Option (List ℕ)) (f : ℕ → ℕ) → ((k : ℕ) → k < length (unwrap_or list []) → f k ≡ get_or (unwrap_or list []) k 0)
     → (if is_some list then Some (map f (range_with_len 0 (length (unwrap_or list [])))) else None) ≡ list

@@ -1,5 +1,6 @@
 pub mod Compiled
 pub mod Cuts
+pub mod Decompiled
 pub mod Fields
 pub mod Layout
 pub mod Meaning

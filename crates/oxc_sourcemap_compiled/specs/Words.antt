@@ -12,6 +12,8 @@ pub use Rattle.oxc_sourcemap_compiled.specs.Compiled.{parts_bytes, header_of_map
 pub use Rattle.oxc_sourcemap_compiled.specs.Compiled.{listed_table, content_at, compiled_length}
 pub use Rattle.oxc_sourcemap_compiled.specs.Stored.{stored_bytes}
 pub use Rattle.oxc_sourcemap_compiled.specs.Cuts.{IsCut, DoNotFall}
+pub use Rattle.oxc_sourcemap_compiled.specs.Decompiled.{checked_texts, checked_contents}
+pub use Rattle.oxc_sourcemap_compiled.specs.Decompiled.{checked_text, checked_map}
 pub use Rattle.oxc_sourcemap_compiled.specs.Fields.{IsField, value_in, field_in, value_of}
 pub use Rattle.oxc_sourcemap_compiled.specs.Layout.{header_in, layout_in, AreCounts, HasParts}
 pub use Rattle.oxc_sourcemap_compiled.specs.Layout.{block_count, text_count, compiled_fault}
@@ -21,7 +23,7 @@ pub use Rattle.oxc_sourcemap_compiled.specs.Meaning.{line_in, entry_begin, entry
 pub use Rattle.oxc_sourcemap_compiled.specs.Meaning.{tokens_in, offset_in, part_between, text_in}
 pub use Rattle.oxc_sourcemap_compiled.specs.Meaning.{optional_in, ignored_in, compiled_meaning}
 pub use Rattle.oxc_sourcemap_compiled.specs.Meaning.{compiled_in, listed_in, utf8_text, listed_text}
-pub use Rattle.oxc_sourcemap_compiled.specs.Meaning.{optional_text, ignore_list_in}
+pub use Rattle.oxc_sourcemap_compiled.specs.Meaning.{optional_text, ignore_list_in, map_in}
 pub use Rattle.oxc_sourcemap_compiled.specs.Means.{stored_map, compiled_of, FitsFormat}
 pub use Rattle.oxc_sourcemap_compiled.specs.Means.{CompiledMeansMap, CompiledIsInOrder}
 pub use Rattle.oxc_sourcemap_compiled.specs.Means.{CompiledLooksUp, StoredMeansMap}

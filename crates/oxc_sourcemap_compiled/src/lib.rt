@@ -2,6 +2,7 @@
 //! `oxc_sourcemap`.
 #![tactic(auto)]
 
+mod decompiling;
 mod errors;
 mod fields;
 mod laws;

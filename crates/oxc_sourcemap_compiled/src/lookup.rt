@@ -19,15 +19,15 @@ use oxc_sourcemap_tokens::Token;
 
 /// The tokens from one index to before another.
 #[derive(Clone, Copy)]
-struct Span {
-    start: usize,
-    end: usize,
+pub(crate) struct Span {
+    pub(crate) start: usize,
+    pub(crate) end: usize,
 }
 
 impl<'a> Opened<'a> {
     /// Where the tokens of an entry of lines lie.
     #[inline(always)]
-    fn span(&self, k: usize) -> Span
+    pub(crate) fn span(&self, k: usize) -> Span
         requires opened { IsOpened self.now }
         requires there { k < self.now.header.lines }
         ensures start { result.start ≡ entry_begin self.now.bytes.now self.now.header k }

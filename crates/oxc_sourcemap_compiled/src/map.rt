@@ -11,11 +11,15 @@ ghost use Rattle.oxc_sourcemap_compiled.specs.Words.{header_in, IsOnLine, IsToke
 ghost use Rattle.oxc_sourcemap_lookup.specs.Words.{token_for, clamped_token_for};
 ghost use Rattle.oxc_sourcemap_lookup.specs.Lookup.{token_after};
 ghost use Rattle.oxc_sourcemap_compiled.specs.Words.{optional_text, listed_text, utf8_text};
+ghost use Rattle.oxc_sourcemap_compiled.specs.Words.{checked_map};
+ghost use Rattle.oxc_sourcemap_parts.specs.Words.{record_of_parts};
 
 use crate::errors::CompiledError;
 use crate::numbers::u64_at;
 use crate::opened::Opened;
-use oxc_sourcemap_tokens::Token;
+use oxc_sourcemap_parts::SourceMapParts;
+use oxc_sourcemap_tokens::{Memory, Token};
+use std::alloc::Global;
 use std::marker::Model;
 
 /// A compiled map, in the bytes that it lies in. It holds no memory of its own: what it answers is read from the bytes.
@@ -50,7 +54,7 @@ pub struct CompiledOriginal<'a> {
 }
 
 /// Bytes as a text; None if they are not UTF-8.
-fn utf8(bytes: &[u8]) -> Option<&str>
+pub(crate) fn utf8(bytes: &[u8]) -> Option<&str>
     ensures { lent_item result ≡ utf8_text bytes.now }
 {
     match std::str::from_utf8(bytes) {
@@ -275,6 +279,14 @@ impl<'a> CompiledMap<'a> {
     {
         let bytes = self.opened.bytes;
         &bytes[24..56]
+    }
+
+    /// The parts of the map, which borrow their texts from the bytes; None if a text is not UTF-8. Fails only for want of memory.
+    pub fn decompile(&self, alloc: Global) -> Memory<Option<SourceMapParts<'a>>>
+        ensures { IfOk result (λ parts. option_map record_of_parts parts
+            ≡ checked_map (compiled_in self.now).content) }
+    {
+        self.opened.parts(alloc)
     }
 
     /// How many entries the ignore list has; None where there is no list.

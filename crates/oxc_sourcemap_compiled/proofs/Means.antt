@@ -29,6 +29,7 @@ use Rattle.oxc_sourcemap_compiled.specs.Meaning.{map_in}
 use Rattle.oxc_sourcemap_compiled.specs.Meaning.{compiled_in, compiled_unless, compiled_meaning}
 use Rattle.oxc_sourcemap_compiled.specs.Order.{AreRowsExact, AreInOrder, IsInOrder, column_of}
 use Rattle.oxc_sourcemap_compiled.specs.Order.{least_column_of}
+use Rattle.oxc_sourcemap_compiled.specs.Decompiled.{has_utf8_texts, checked_map}
 use Rattle.oxc_sourcemap_compiled.specs.Means.{stored_map, compiled_of, FitsFormat}
 use Rattle.oxc_sourcemap_compiled.specs.declared.layout.Header.{Header}
 use Rattle.oxc_sourcemap_compiled.specs.declared.writing.blocks.Block.{Block}
@@ -42,6 +43,7 @@ use Rattle.oxc_sourcemap_compiled.proofs.ReadTokens.{AreReadAs, in-order, tokens
 use Rattle.oxc_sourcemap_compiled.proofs.ReadTexts.{sources-read, names-read, contents-read}
 use Rattle.oxc_sourcemap_compiled.proofs.ReadTexts.{file-read}
 use Rattle.oxc_sourcemap_compiled.proofs.ReadTexts.{root-read, debug_id-read}
+use Rattle.oxc_sourcemap_compiled.proofs.StoredMaps.{stored-utf8}
 use Rattle.oxc_sourcemap_compiled.proofs.Taken.{same-map}
 use Rattle.oxc_sourcemap_compiled.proofs.WrittenHeader.{HeaderRead, header-read}
 use Rattle.oxc_sourcemap_compiled.proofs.WrittenParts.{PartsLie, parts-lie}
@@ -207,8 +209,14 @@ module _ (r : MapRecord) (text_length : ℕ) (stamp bytes : List ℕ) (fits : Fi
       let order : AreInOrder all (header_in all) = subst (AreInOrder all) (sym header.header) (in-order r.tokens are.lines all h are.lines_of are.sorted as-read) in
       subst IsInOrder (sym are.are) order
 
+  content-read : (compiled_in bytes).content ≡ stored_map r
+  content-read = ap (λ bytes. (compiled_in bytes).content) are.are ∙ ap (λ c. c.content) compiled-read
+
   pub compiled-looks-up : (bias : Bias) (line col : ℕ) → (index_by bias (compiled_in bytes).content.tokens line col ≡ index_by bias r.tokens line col)
       × (token_by bias (compiled_in bytes).content.tokens line col ≡ token_by bias r.tokens line col)
   compiled-looks-up bias line col =
-      let same : (compiled_in bytes).content.tokens ≡ r.tokens = ap (λ bytes. (compiled_in bytes).content.tokens) are.are ∙ ap (λ c. c.content.tokens) compiled-read in
+      let same : (compiled_in bytes).content.tokens ≡ r.tokens = ap (λ m. m.tokens) content-read in
       (ap (λ ts. index_by bias ts line col) same, ap (λ ts. token_by bias ts line col) same)
+
+  pub compiled-taken-apart : has_utf8_texts r ≡ true → checked_map (compiled_in bytes).content ≡ Some (stored_map r)
+  compiled-taken-apart utf8 = ap checked_map content-read ∙ ap (λ b. if b then Some (stored_map r) else None) (stored-utf8 r utf8)

@@ -1,5 +1,5 @@
 -- What the bytes of a map mean: the map, as far as it is stored.
-use Rattle.std.specs.Prelude.{◌≡◌, ℕ, ◌<◌, ◌≤◌, List, length, map, None, Ok}
+use Rattle.std.specs.Prelude.{◌≡◌, ℕ, ◌<◌, ◌≤◌, true, List, length, map, Some, None, Ok}
 use Rattle.std.specs.List.{All, range_with_len}
 use Rattle.oxc_sourcemap_tokens.specs.Token.{AreInBounds}
 use Rattle.oxc_sourcemap_parts.specs.Record.{MapRecord}
@@ -7,6 +7,7 @@ use Rattle.oxc_sourcemap_parts.specs.DecodedMap.{decoded_map_of}
 use Rattle.oxc_sourcemap_lookup.specs.Biased.{index_by, token_by}
 use Rattle.oxc_sourcemap_lookup.specs.declared.bias.Bias.{Bias}
 use Rattle.oxc_sourcemap_compiled.specs.Compiled.{content_at, ignored_of, AreBytesOf}
+use Rattle.oxc_sourcemap_compiled.specs.Decompiled.{has_utf8_texts, checked_map}
 use Rattle.oxc_sourcemap_compiled.specs.Meaning.{CompiledRecord, compiled_in, compiled_meaning}
 use Rattle.oxc_sourcemap_compiled.specs.Order.{IsInOrder}
 
@@ -48,3 +49,9 @@ CompiledLooksUp = (r : MapRecord) (text_length : ℕ) (stamp bytes : List ℕ) �
 -- nothing of what a map means is lost
 abbrev pub StoredMeansMap : Type 0
 StoredMeansMap = (r : MapRecord) → decoded_map_of (stored_map r) ≡ decoded_map_of r
+
+-- what is taken apart of them is the map that is stored, if its texts are UTF-8, as those of parts of maps are
+abbrev pub CompiledIsTakenApart : Type 0
+CompiledIsTakenApart = (r : MapRecord) (text_length : ℕ) (stamp bytes : List ℕ) → FitsFormat r text_length stamp
+    → AreBytesOf r text_length stamp bytes → has_utf8_texts r ≡ true
+    → checked_map (compiled_in bytes).content ≡ Some (stored_map r)

@@ -1,6 +1,7 @@
 //! The law on what compiled maps mean.
 ghost use Rattle.oxc_sourcemap_compiled.specs.Words.{CompiledMeansMap, CompiledIsInOrder};
 ghost use Rattle.oxc_sourcemap_compiled.specs.Words.{CompiledLooksUp, StoredMeansMap};
+ghost use Rattle.oxc_sourcemap_compiled.specs.Words.{CompiledIsTakenApart};
 
 /// The bytes that `compile` makes of a map mean the map (`means`), and they are in order (`in_order`), so lookups in them find at
 /// every position what lookups in the map's tokens find (`looks_up`). What is left out, as chunks and contents past the last source,
@@ -22,4 +23,5 @@ pub fn compiled_means_map()
     ensures in_order { CompiledIsInOrder }
     ensures looks_up { CompiledLooksUp }
     ensures stored { StoredMeansMap }
+    ensures taken_apart { CompiledIsTakenApart }
 {}

@@ -1,5 +1,6 @@
 use Rattle.oxc_sourcemap_compiled.proofs.Means.{compiled-means, compiled-in-order}
 use Rattle.oxc_sourcemap_compiled.proofs.Means.{compiled-looks-up}
+use Rattle.oxc_sourcemap_compiled.proofs.Means.{compiled-taken-apart}
 use Rattle.oxc_sourcemap_compiled.proofs.StoredMaps.{stored-means}
 use Rattle.oxc_sourcemap_compiled.proofs.laws.compiled_means_map.Goals as goal
 
@@ -14,3 +15,6 @@ returns-clause-looks_up c = compiled-looks-up
 
 pub returns-clause-stored : goal.returns-clause-stored
 returns-clause-stored c = stored-means
+
+pub returns-clause-taken_apart : goal.returns-clause-taken_apart
+returns-clause-taken_apart c = compiled-taken-apart

@@ -29,7 +29,7 @@ use Rattle.oxc_sourcemap_compiled.specs.Meaning.{map_in}
 use Rattle.oxc_sourcemap_compiled.specs.Meaning.{compiled_in, compiled_unless, compiled_meaning}
 use Rattle.oxc_sourcemap_compiled.specs.Order.{AreRowsExact, AreInOrder, IsInOrder, column_of}
 use Rattle.oxc_sourcemap_compiled.specs.Order.{least_column_of}
-use Rattle.oxc_sourcemap_compiled.specs.Decompiled.{has_utf8_texts, checked_map}
+use Rattle.oxc_sourcemap_compiled.specs.Decompiled.{checked_map}
 use Rattle.oxc_sourcemap_compiled.specs.Means.{stored_map, compiled_of, FitsFormat}
 use Rattle.oxc_sourcemap_compiled.specs.declared.layout.Header.{Header}
 use Rattle.oxc_sourcemap_compiled.specs.declared.writing.blocks.Block.{Block}
@@ -218,5 +218,5 @@ module _ (r : MapRecord) (text_length : ℕ) (stamp bytes : List ℕ) (fits : Fi
       let same : (compiled_in bytes).content.tokens ≡ r.tokens = ap (λ m. m.tokens) content-read in
       (ap (λ ts. index_by bias ts line col) same, ap (λ ts. token_by bias ts line col) same)
 
-  pub compiled-taken-apart : has_utf8_texts r ≡ true → checked_map (compiled_in bytes).content ≡ Some (stored_map r)
-  compiled-taken-apart utf8 = ap checked_map content-read ∙ ap (λ b. if b then Some (stored_map r) else None) (stored-utf8 r utf8)
+  pub compiled-taken-apart : checked_map (compiled_in bytes).content ≡ Some (stored_map r)
+  compiled-taken-apart = ap checked_map content-read ∙ ap (λ b. if b then Some (stored_map r) else None) (stored-utf8 r fits.texts)

@@ -22,12 +22,13 @@ stored_map r = record r {
 abbrev pub compiled_of : MapRecord → ℕ → List ℕ → CompiledRecord
 compiled_of r text_length stamp = record { content = stored_map r; text_length = text_length; stamp = stamp }
 
--- Numbers have the bits that the format gives them, as those of each call of `compile` do.
+-- Numbers have the bits that the format gives them, and texts are UTF-8, as in each call of `compile`.
 pub record FitsFormat (r : MapRecord) (text_length : ℕ) (stamp : List ℕ) : Type 0 where
   pub tokens : AreInBounds r.tokens
   pub ignored : All (λ id. id ≤ 4294967295) (ignored_of r)
   pub length_fits : text_length < 18446744073709551616
   pub stamp_size : length stamp ≡ 32
+  pub texts : has_utf8_texts r ≡ true
 
 -- the bytes of a map mean the map
 abbrev pub CompiledMeansMap : Type 0
@@ -50,8 +51,7 @@ CompiledLooksUp = (r : MapRecord) (text_length : ℕ) (stamp bytes : List ℕ) �
 abbrev pub StoredMeansMap : Type 0
 StoredMeansMap = (r : MapRecord) → decoded_map_of (stored_map r) ≡ decoded_map_of r
 
--- what is taken apart of them is the map that is stored, if its texts are UTF-8, as those of parts of maps are
+-- what is taken apart of them is the map that is stored
 abbrev pub CompiledIsTakenApart : Type 0
 CompiledIsTakenApart = (r : MapRecord) (text_length : ℕ) (stamp bytes : List ℕ) → FitsFormat r text_length stamp
-    → AreBytesOf r text_length stamp bytes → has_utf8_texts r ≡ true
-    → checked_map (compiled_in bytes).content ≡ Some (stored_map r)
+    → AreBytesOf r text_length stamp bytes → checked_map (compiled_in bytes).content ≡ Some (stored_map r)

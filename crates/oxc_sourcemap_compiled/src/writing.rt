@@ -15,26 +15,27 @@ ghost use Rattle.oxc_sourcemap_compiled.specs.Words.{group_bytes_of};
 ghost use Rattle.oxc_sourcemap_compiled.specs.Compiled.{map_bytes};
 ghost use Rattle.oxc_sourcemap_compiled.specs.Words.{compiled_meaning, compiled_of, FitsFormat};
 ghost use Rattle.oxc_sourcemap_compiled.specs.Words.{IsInOrder};
-ghost use Rattle.std.specs.List.{All};
 ghost use Rattle.std.specs.Prelude.{◌+◌, ◌/◌, Ok};
 ghost use Rattle.oxc_sourcemap_compiled.specs.Compiled.{flag_of, listed_table};
 
 mod blocks;
+mod fitting;
 mod lines;
 mod pushing;
 mod texts;
 
 use crate::layout::{Header, layout_of};
 use crate::writing::blocks::{Block, blocks_of, group_bytes, push_groups, push_rows};
+use crate::writing::fitting::{have_32_bits, parts_fit};
 use crate::writing::lines::{all_lines, filled_lines, line_count, push_starts};
 use crate::writing::pushing::{push_number, push_table, push_u32};
 use crate::writing::texts::{push_offsets, push_texts, text_bytes};
 use oxc_sourcemap_parts::{SourceMapParts, are_sorted};
-use oxc_sourcemap_tokens::{Error, Memory, PlanError, Token, tokens_in_bounds};
+use oxc_sourcemap_tokens::{Error, Memory, PlanError, Token};
 use std::alloc::Global;
 
 /// The entries of the ignore list; none where there is no list.
-fn ignored_ids<'p>(parts: &'p SourceMapParts<'_>) -> &'p [u32]
+pub(crate) fn ignored_ids<'p>(parts: &'p SourceMapParts<'_>) -> &'p [u32]
     ensures { result.now ≡ ignored_of (record_of_parts parts.now) }
 {
     match &parts.ignore_list {
@@ -85,19 +86,6 @@ fn has_large_counts(parts: &SourceMapParts<'_>) -> bool
         || parts.sources.len() > 4294967295
         || parts.names.len() > 4294967295
         || ignored_ids(parts).len() > 4294967295
-}
-
-/// Numbers of 32 bits are at most 4294967295.
-fn have_32_bits(numbers: &[u32])
-    ensures { All (λ n. n ≤ 4294967295) numbers.now }
-{}
-
-/// Numbers have the bits that the format gives them, since these types have no more.
-fn numbers_fit(parts: &SourceMapParts<'_>, text_length: u64, stamp: &[u8; 32])
-    ensures { FitsFormat (record_of_parts parts.now) text_length stamp.now }
-{
-    tokens_in_bounds(parts.tokens.as_slice());
-    have_32_bits(ignored_ids(parts));
 }
 
 /// The lines that have an entry, and whether their numbers are listed: all lines, where there are at most four for each that
@@ -237,6 +225,8 @@ pub fn compile(
 ) -> Result<Vec<u8>, PlanError>
     ensures bytes { IfOk result (λ bytes. AreBytesOf (record_of_parts parts.now) text_length
         stamp.now bytes.items) }
+    ensures fits { IfOk result (λ bytes. FitsFormat (record_of_parts parts.now) text_length
+        stamp.now) }
     ensures meaning { IfOk result (λ bytes. compiled_meaning bytes.items
         ≡ Ok (compiled_of (record_of_parts parts.now) text_length stamp.now)) }
     ensures order { IfOk result (λ bytes. IsInOrder bytes.items) }
@@ -274,7 +264,7 @@ pub fn compile(
         text_length,
         stamp,
     )?;
-    numbers_fit(parts, text_length, stamp);
+    parts_fit(parts, text_length, stamp);
     have_32_bits(lines.as_slice());
     Ok(made)
 }

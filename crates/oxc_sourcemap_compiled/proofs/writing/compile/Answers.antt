@@ -36,7 +36,10 @@ returns-clause-bytes c =
     }
 
 pub returns-clause-meaning : goal.returns-clause-meaning
-returns-clause-meaning c = compiled-means (record_of_parts c.args.parts.now) c.args.text_length c.args.stamp.now c.in_ok-made.made.items c.numbers_fit.ensures (returns-clause-bytes c)
+returns-clause-meaning c = compiled-means (record_of_parts c.args.parts.now) c.args.text_length c.args.stamp.now c.in_ok-made.made.items c.parts_fit.ensures (returns-clause-bytes c)
 
 pub returns-clause-order : goal.returns-clause-order
-returns-clause-order c = compiled-in-order (record_of_parts c.args.parts.now) c.args.text_length c.args.stamp.now c.in_ok-made.made.items c.numbers_fit.ensures (returns-clause-bytes c)
+returns-clause-order c = compiled-in-order (record_of_parts c.args.parts.now) c.args.text_length c.args.stamp.now c.in_ok-made.made.items c.parts_fit.ensures (returns-clause-bytes c)
+
+pub returns-clause-fits : goal.returns-clause-fits
+returns-clause-fits c = c.parts_fit.ensures

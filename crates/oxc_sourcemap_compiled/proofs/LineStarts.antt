@@ -1,7 +1,7 @@
 -- The lines of sorted tokens, and where the tokens of each begin: the tokens from one start to the next are those of the line.
 use Rattle.std.proofs.Common.{◌≡◌, ℕ, zero, suc, ◌+◌, ◌-◌, ◌<◌, ◌≤◌, Bool, true, false, List, []}
-use Rattle.std.proofs.Common.{◌∷◌}
-use Rattle.std.proofs.Common.{map, take, drop, length, get_or, nat_lt, None, refl, ap, ◌∙◌, arith}
+use Rattle.std.proofs.Common.{◌∷◌, map, take, drop, length, get_or, nat_lt, None, refl, ap, ◌∙◌}
+use Rattle.std.proofs.Common.{arith}
 use Rattle.std.proofs.lemmas.List.{get_or_append_left, get_or-map, length-map}
 use Rattle.std.proofs.lemmas.List.Sums.{count_by-le-length}
 use Rattle.oxc_sourcemap_tokens.specs.Token.{TokenRecord}

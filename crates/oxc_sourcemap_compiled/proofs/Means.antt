@@ -1,32 +1,31 @@
 -- The bytes of a map mean the map, and are in order.
-use Rattle.std.proofs.Common.{◌≡◌, ℕ, ◌+◌, ◌*◌, ◌/◌, ◌<◌, ◌≤◌, Bool, true, false, ◌==◌}
-use Rattle.std.proofs.Common.{List, map, length, get_or, take, drop, nat_lt, Option, Some, None, Ok}
-use Rattle.std.proofs.Common.{is_some, refl, sym, ap, ◌∙◌, arith, subst, [], length-take}
-use Rattle.std.proofs.Common.{length-drop, if◌then◌else◌}
+use Rattle.std.proofs.Common.{◌≡◌, ℕ, ◌+◌, ◌*◌, ◌/◌, ◌<◌, ◌≤◌, Bool, true, false, ◌==◌, List, map}
+use Rattle.std.proofs.Common.{length, get_or, take, drop, nat_lt, Option, Some, None, Ok, is_some}
+use Rattle.std.proofs.Common.{refl, sym, ap, ◌∙◌, arith, subst, [], length-take, length-drop}
+use Rattle.std.proofs.Common.{if◌then◌else◌}
 use Rattle.std.proofs.lemmas.List.{get_or-take, get_or-drop, length-map, length_push}
 use Rattle.std.proofs.lemmas.List.Elements.{All-get_or}
 use Rattle.std.proofs.lemmas.List.FromFn.{fill_by_all}
 use Rattle.std.specs.List.{range_with_len}
 use Rattle.std.specs.Option.{unwrap_or}
 use Rattle.oxc_sourcemap_tokens.specs.Token.{TokenRecord, IsInBounds}
-use Rattle.oxc_sourcemap_parts.specs.Record.{MapRecord, Text}
+use Rattle.oxc_sourcemap_parts.specs.Record.{MapRecord}
 use Rattle.oxc_sourcemap_lookup.specs.Biased.{index_by, token_by}
 use Rattle.oxc_sourcemap_lookup.specs.LineSpans.{count_before_line}
 use Rattle.oxc_sourcemap_lookup.specs.declared.bias.Bias.{Bias}
 use Rattle.oxc_sourcemap_compiled.specs.Compiled.{line_starts, field_number, AreBlocksOf}
 use Rattle.oxc_sourcemap_compiled.specs.Compiled.{group_bytes_of, no_block, rows_of, groups_of}
 use Rattle.oxc_sourcemap_compiled.specs.Compiled.{stored_count, text_offset, ignored_of}
-use Rattle.oxc_sourcemap_compiled.specs.Compiled.{listed_table}
-use Rattle.oxc_sourcemap_compiled.specs.Compiled.{header_of_map, compiled_length, map_bytes}
-use Rattle.oxc_sourcemap_compiled.specs.Compiled.{AreBytesOf}
+use Rattle.oxc_sourcemap_compiled.specs.Compiled.{listed_table, header_of_map, compiled_length}
+use Rattle.oxc_sourcemap_compiled.specs.Compiled.{map_bytes, AreBytesOf}
 use Rattle.oxc_sourcemap_compiled.specs.Numbers.{number_at}
 use Rattle.oxc_sourcemap_compiled.specs.Layout.{header_in, AreCounts, texts_base, compiled_fault}
 use Rattle.oxc_sourcemap_compiled.specs.Layout.{rows_base, groups_base, line_numbers_base}
 use Rattle.oxc_sourcemap_compiled.specs.Layout.{ignored_base}
 use Rattle.oxc_sourcemap_compiled.specs.Fields.{value_of, row_base}
 use Rattle.oxc_sourcemap_compiled.specs.Meaning.{start_in, line_in, ignored_in, ignore_list_in}
-use Rattle.oxc_sourcemap_compiled.specs.Meaning.{map_in}
-use Rattle.oxc_sourcemap_compiled.specs.Meaning.{compiled_in, compiled_unless, compiled_meaning}
+use Rattle.oxc_sourcemap_compiled.specs.Meaning.{map_in, compiled_in, compiled_unless}
+use Rattle.oxc_sourcemap_compiled.specs.Meaning.{compiled_meaning}
 use Rattle.oxc_sourcemap_compiled.specs.Order.{AreRowsExact, AreInOrder, IsInOrder, column_of}
 use Rattle.oxc_sourcemap_compiled.specs.Order.{least_column_of}
 use Rattle.oxc_sourcemap_compiled.specs.Decompiled.{checked_map}
@@ -41,8 +40,7 @@ use Rattle.oxc_sourcemap_compiled.proofs.Values.{value-read}
 use Rattle.oxc_sourcemap_compiled.proofs.LineStarts.{start-within, any_token}
 use Rattle.oxc_sourcemap_compiled.proofs.ReadTokens.{AreReadAs, in-order, tokens-read}
 use Rattle.oxc_sourcemap_compiled.proofs.ReadTexts.{sources-read, names-read, contents-read}
-use Rattle.oxc_sourcemap_compiled.proofs.ReadTexts.{file-read}
-use Rattle.oxc_sourcemap_compiled.proofs.ReadTexts.{root-read, debug_id-read}
+use Rattle.oxc_sourcemap_compiled.proofs.ReadTexts.{file-read, root-read, debug_id-read}
 use Rattle.oxc_sourcemap_compiled.proofs.StoredMaps.{stored-utf8}
 use Rattle.oxc_sourcemap_compiled.proofs.Taken.{same-map}
 use Rattle.oxc_sourcemap_compiled.proofs.WrittenHeader.{HeaderRead, header-read}

@@ -1,6 +1,6 @@
 -- The tokens of a map, read back: bytes whose numbers are those of sorted tokens have these tokens, and are in order.
-use Rattle.std.proofs.Common.{◌≡◌, ℕ, ◌+◌, ◌-◌, ◌<◌, ◌≤◌, true, List, map, take, drop}
-use Rattle.std.proofs.Common.{length, get_or, nat_lt, Option, Some, None, refl, sym, ap, ◌∙◌, arith}
+use Rattle.std.proofs.Common.{◌≡◌, ℕ, ◌+◌, ◌-◌, ◌<◌, ◌≤◌, true, List, map, take, drop, length}
+use Rattle.std.proofs.Common.{get_or, nat_lt, Option, Some, None, refl, sym, ap, ◌∙◌, arith}
 use Rattle.std.proofs.Common.{length-take, length-drop}
 use Rattle.std.proofs.lemmas.List.{same_lists, get_or-take, get_or-drop}
 use Rattle.std.proofs.lemmas.List.FromFn.{length-map-range_with_len, get_or-map-range_with_len}
@@ -13,8 +13,7 @@ use Rattle.oxc_sourcemap_lookup.proofs.OwnTables.{line_goes_on}
 use Rattle.oxc_sourcemap_compiled.specs.Compiled.{AreLinesOf, line_starts, id_number, field_number}
 use Rattle.oxc_sourcemap_compiled.specs.Fields.{value_of}
 use Rattle.oxc_sourcemap_compiled.specs.Meaning.{stored_id, token_in, start_in, line_in}
-use Rattle.oxc_sourcemap_compiled.specs.Meaning.{entry_begin}
-use Rattle.oxc_sourcemap_compiled.specs.Meaning.{entry_end, entry_tokens, tokens_in}
+use Rattle.oxc_sourcemap_compiled.specs.Meaning.{entry_begin, entry_end, entry_tokens, tokens_in}
 use Rattle.oxc_sourcemap_compiled.specs.Order.{AreRowsExact, AreInOrder}
 use Rattle.oxc_sourcemap_compiled.specs.declared.layout.Header.{Header}
 use Rattle.oxc_sourcemap_compiled.proofs.Entries.{tokens-length, token-is, entry-of}

@@ -1,14 +1,10 @@
 -- What a map means is kept in the map that is stored of it.
-use Rattle.std.proofs.Common.{Bool, true, false, ◌&&◌, sym, true≢false}
-use Rattle.std.proofs.Common.{◌≡◌, ℕ, zero, suc, ◌+◌, List, [], ◌∷◌, map, length, slice_get, Option}
-use Rattle.std.proofs.Common.{None}
-use Rattle.std.proofs.Common.{refl, ap, ◌∙◌, arith}
+use Rattle.std.proofs.Common.{Bool, true, false, ◌&&◌, sym, true≢false, ◌≡◌, ℕ, zero, suc, ◌+◌}
+use Rattle.std.proofs.Common.{List, [], ◌∷◌, map, length, Option, None, refl, ap, ◌∙◌, arith}
 use Rattle.std.specs.List.{range_with_len, list_all}
 use Rattle.std.specs.Str.{is_utf8}
-use Rattle.std.specs.Option.{option_and_then}
 use Rattle.oxc_sourcemap_parts.specs.Record.{MapRecord, Text}
-use Rattle.oxc_sourcemap_parts.specs.DecodedMap.{DecodedSource, DecodedMap, sources_of, mapping_of}
-use Rattle.oxc_sourcemap_parts.specs.DecodedMap.{decoded_map_of}
+use Rattle.oxc_sourcemap_parts.specs.DecodedMap.{sources_of, mapping_of, decoded_map_of}
 use Rattle.oxc_sourcemap_compiled.specs.Compiled.{content_at}
 use Rattle.oxc_sourcemap_compiled.specs.Decompiled.{is_optional_utf8, has_utf8_texts}
 use Rattle.oxc_sourcemap_compiled.specs.Means.{stored_map}
@@ -66,4 +62,3 @@ stored-utf8 r e =
     let last = and-second names (old && rest) behind in
     let contents = contents-pass r.source_contents 0 (length r.sources) (and-first old rest last) in
     rw (and-first sources (names && (old && rest)) e, and-first names (old && rest) behind, contents) (and-second old rest last)
-

@@ -1,10 +1,8 @@
 -- The fields of tokens, read back: what is read of a token's field is what was written.
 use Rattle.std.proofs.Common.{◌≡◌, ℕ, zero, suc, ◌+◌, ◌-◌, ◌*◌, ◌/◌, ◌%◌, ◌^◌, ◌<◌, ◌≤◌, Bool, true}
-use Rattle.std.proofs.Common.{false}
-use Rattle.std.proofs.Common.{List, length, take, drop, get_or, slice_get, Option, Some, None}
-use Rattle.std.proofs.Common.{IfSome}
-use Rattle.std.proofs.Common.{sum, nat_lt, nat_le, refl, sym, ap, ◌∙◌, arith, subst, length-take}
-use Rattle.std.proofs.Common.{length-drop}
+use Rattle.std.proofs.Common.{false, List, length, take, drop, get_or, slice_get, Option, Some}
+use Rattle.std.proofs.Common.{None, IfSome, sum, nat_lt, nat_le, refl, sym, ap, ◌∙◌, arith, subst}
+use Rattle.std.proofs.Common.{length-take, length-drop}
 use Rattle.std.proofs.Math.Nat.{mod-eq_of_lt}
 use Rattle.std.proofs.lemmas.List.{get_or-take, get_or-drop}
 use Rattle.std.proofs.lemmas.List.Elements.{All-get_or}
@@ -12,10 +10,10 @@ use Rattle.std.proofs.lemmas.Nat.{pow_pos}
 use Rattle.std.proofs.lemmas.Option.{slice_get-get_or, slice_get_past}
 use Rattle.std.specs.List.{flat_map, range_with_len}
 use Rattle.oxc_sourcemap_tokens.specs.Token.{TokenRecord, IsInBounds, AreInBounds}
-use Rattle.oxc_sourcemap_compiled.specs.Compiled.{id_number, field_number, IsPacked}
-use Rattle.oxc_sourcemap_compiled.specs.Compiled.{AreBlocksOf, group_bytes_of, stride_of, widths_of}
-use Rattle.oxc_sourcemap_compiled.specs.Compiled.{no_block, above_in, rows_of, groups_of}
-use Rattle.oxc_sourcemap_compiled.specs.Compiled.{bytes_of, group_of, four_in}
+use Rattle.oxc_sourcemap_compiled.specs.Compiled.{id_number, field_number, IsPacked, AreBlocksOf}
+use Rattle.oxc_sourcemap_compiled.specs.Compiled.{group_bytes_of, stride_of, widths_of, no_block}
+use Rattle.oxc_sourcemap_compiled.specs.Compiled.{above_in, rows_of, groups_of, bytes_of, group_of}
+use Rattle.oxc_sourcemap_compiled.specs.Compiled.{four_in}
 use Rattle.oxc_sourcemap_compiled.specs.Numbers.{number_at}
 use Rattle.oxc_sourcemap_compiled.specs.Layout.{rows_base, groups_base}
 use Rattle.oxc_sourcemap_compiled.specs.Fields.{value_in, value_of, field_in}
@@ -29,8 +27,7 @@ use Rattle.oxc_sourcemap_compiled.proofs.ReadNumbers.{number-read, number-split}
 use Rattle.oxc_sourcemap_compiled.proofs.Digits.{digit_of, four-fit, four-read}
 use Rattle.oxc_sourcemap_compiled.proofs.Rows.{packing_at, packed-at, rows-lie, field-read}
 use Rattle.oxc_sourcemap_compiled.proofs.Groups.{bytes-below, bytes-before, bytes-within}
-use Rattle.oxc_sourcemap_compiled.proofs.Groups.{field_bytes}
-use Rattle.oxc_sourcemap_compiled.proofs.Groups.{field-lies, group_at, groups-length}
+use Rattle.oxc_sourcemap_compiled.proofs.Groups.{field_bytes, field-lies, group_at, groups-length}
 
 -- ---- parts of lists
 part-get : {A : Type 0} (xs : List A) (n s i : ℕ) (d : A) → i < n → s + i < length xs → slice_get (take n (drop s xs)) i ≡ Some (get_or xs (s + i) d)

@@ -1,19 +1,16 @@
 -- Where the parts of a compiled map lie in the bytes that are written, and how many bytes there are.
-use Rattle.std.proofs.Common.{◌≡◌, ℕ, ◌+◌, ◌*◌, ◌/◌, Bool, true, false, List}
-use Rattle.std.proofs.Common.{◌++◌, length, map, refl, ap, ◌∙◌, arith, length-append}
-use Rattle.std.proofs.Common.{if◌then◌else◌}
+use Rattle.std.proofs.Common.{◌≡◌, ℕ, ◌+◌, ◌*◌, ◌/◌, Bool, true, false, List, ◌++◌, length, map}
+use Rattle.std.proofs.Common.{refl, ap, ◌∙◌, arith, length-append, if◌then◌else◌}
 use Rattle.std.proofs.lemmas.List.{length-map, length_push}
 use Rattle.std.proofs.lemmas.List.FromFn.{length-map-range_with_len}
 use Rattle.std.specs.List.{flat_map, range_with_len}
 use Rattle.oxc_sourcemap_parts.specs.Record.{MapRecord}
 use Rattle.oxc_sourcemap_lookup.specs.LineSpans.{count_before_line}
 use Rattle.oxc_sourcemap_compiled.specs.Compiled.{bytes_of, table, line_starts, AreBlocksOf}
-use Rattle.oxc_sourcemap_compiled.specs.Compiled.{rows_of}
-use Rattle.oxc_sourcemap_compiled.specs.Compiled.{group_bytes_of, groups_of, stored_count}
-use Rattle.oxc_sourcemap_compiled.specs.Compiled.{stored_text}
-use Rattle.oxc_sourcemap_compiled.specs.Compiled.{text_offset, ignored_of, header_bytes}
-use Rattle.oxc_sourcemap_compiled.specs.Compiled.{listed_table}
-use Rattle.oxc_sourcemap_compiled.specs.Compiled.{header_of_map, compiled_length, map_bytes}
+use Rattle.oxc_sourcemap_compiled.specs.Compiled.{rows_of, group_bytes_of, groups_of, stored_count}
+use Rattle.oxc_sourcemap_compiled.specs.Compiled.{stored_text, text_offset, ignored_of}
+use Rattle.oxc_sourcemap_compiled.specs.Compiled.{header_bytes, listed_table, header_of_map}
+use Rattle.oxc_sourcemap_compiled.specs.Compiled.{compiled_length, map_bytes}
 use Rattle.oxc_sourcemap_compiled.specs.Layout.{rows_base, ignored_base, offsets_base}
 use Rattle.oxc_sourcemap_compiled.specs.Layout.{line_numbers_base, groups_base, texts_base}
 use Rattle.oxc_sourcemap_compiled.specs.declared.layout.Header.{Header}

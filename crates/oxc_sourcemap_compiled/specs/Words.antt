@@ -26,7 +26,8 @@ pub use Rattle.oxc_sourcemap_compiled.specs.Meaning.{compiled_in, listed_in, utf
 pub use Rattle.oxc_sourcemap_compiled.specs.Meaning.{optional_text, ignore_list_in, map_in}
 pub use Rattle.oxc_sourcemap_compiled.specs.Means.{stored_map, compiled_of, FitsFormat}
 pub use Rattle.oxc_sourcemap_compiled.specs.Means.{CompiledMeansMap, CompiledIsInOrder}
-pub use Rattle.oxc_sourcemap_compiled.specs.Means.{CompiledLooksUp, StoredMeansMap, CompiledIsTakenApart}
+pub use Rattle.oxc_sourcemap_compiled.specs.Means.{CompiledLooksUp, StoredMeansMap}
+pub use Rattle.oxc_sourcemap_compiled.specs.Means.{CompiledIsTakenApart}
 pub use Rattle.oxc_sourcemap_compiled.specs.Messages.{compiled_error_text}
 pub use Rattle.oxc_sourcemap_compiled.specs.Numbers.{number_at}
 pub use Rattle.oxc_sourcemap_compiled.specs.Opened.{IsOpened}

@@ -3,9 +3,9 @@ ghost use Rattle.oxc_sourcemap_compiled.specs.Words.{CompiledMeansMap, CompiledI
 ghost use Rattle.oxc_sourcemap_compiled.specs.Words.{CompiledLooksUp, StoredMeansMap};
 ghost use Rattle.oxc_sourcemap_compiled.specs.Words.{CompiledIsTakenApart};
 
-/// The bytes that `compile` makes of a map mean the map (`means`), and they are in order (`in_order`), so lookups in them find at
-/// every position what lookups in the map's tokens find (`looks_up`). What is left out, as chunks and contents past the last source,
-/// is no part of what the map means (`stored`). Each call of `compile` meets the premises, as its own contract says.
+/// The bytes that `compile` makes of a map mean the map (`means`) and are in order (`in_order`): lookups in them find at every
+/// position what lookups in the tokens of the map find (`looks_up`), and `decompile` gives it back (`taken_apart`), but for chunks and
+/// contents past the last source, which are no part of what it means (`stored`). The premises are those that `compile` promises.
 ///
 /// ```rust
 /// use oxc_sourcemap::{SourceMapParts, Token};

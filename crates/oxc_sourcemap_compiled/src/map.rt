@@ -282,6 +282,17 @@ impl<'a> CompiledMap<'a> {
     }
 
     /// The parts of the map, which borrow their texts from the bytes; None if a text is not UTF-8. Fails only for want of memory.
+    ///
+    /// ```rust
+    /// use oxc_sourcemap::{SourceMapParts, Token};
+    /// use oxc_sourcemap_compiled::{CompiledMap, compile};
+    ///
+    /// let mut parts = SourceMapParts::empty(alloc)?;
+    /// parts.tokens = vec![in alloc; Token::new(0, 4, 2, 1, None, None)]?.into_boxed_slice();
+    /// let bytes = compile(alloc, &parts, 0, &[0; 32])?;
+    /// let back = CompiledMap::open(&bytes)?.decompile(alloc)?;
+    /// assert!(rt; back.is_some_and(|back| back.tokens.as_slice() == parts.tokens.as_slice()));
+    /// ```
     pub fn decompile(&self, alloc: Global) -> Memory<Option<SourceMapParts<'a>>>
         ensures { IfOk result (λ parts. option_map record_of_parts parts
             ≡ checked_map (compiled_in self.now).content) }

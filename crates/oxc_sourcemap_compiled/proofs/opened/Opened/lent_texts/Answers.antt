@@ -1,4 +1,4 @@
-use Rattle.std.proofs.Common.{◌≡◌, ℕ, ◌+◌, ◌++◌, ◌∷◌, [], map, Some, None, sym, ap, ◌∙◌, if◌then◌else◌}
+use Rattle.std.proofs.Common.{ℕ, ◌+◌, map, Some, None, sym, ap, ◌∙◌, if◌then◌else◌}
 use Rattle.std.proofs.lemmas.List.{map_push}
 use Rattle.std.specs.Cow.{cow_str_bytes}
 use Rattle.std.specs.List.{range_with_len}

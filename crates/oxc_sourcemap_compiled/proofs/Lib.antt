@@ -1,5 +1,6 @@
 mod Blocks
 mod Bytes
+mod Comparisons
 mod Digits
 mod Entries
 mod Found

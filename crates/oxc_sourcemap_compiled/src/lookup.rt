@@ -1,4 +1,4 @@
-//! Lookups of generated positions.
+//! Lookups of generated positions. `steps` counts the numbers of lines and the columns that are compared.
 ghost use Rattle.std.specs.Prelude.{◌≡◌, ◌+◌, ◌-◌, ◌*◌, ◌≤◌, ◌<◌, ℕ, List, true, map, option_map};
 ghost use Rattle.std.specs.Prelude.{IfSome};
 ghost use Rattle.std.specs.Prelude.{nat_lt, Some, None, if◌then◌else◌};
@@ -6,7 +6,7 @@ ghost use Rattle.std.specs.List.{range_with_len};
 ghost use Rattle.oxc_sourcemap_lookup.specs.Words.{TokenRecord, token_column, no_column_goes_back};
 ghost use Rattle.oxc_sourcemap_lookup.specs.Words.{index_at, clamped_index_at, index_at_or_after};
 ghost use Rattle.oxc_sourcemap_lookup.specs.Words.{index_before, index_for, clamped_index_for};
-ghost use Rattle.oxc_sourcemap_lookup.specs.Words.{index_after};
+ghost use Rattle.oxc_sourcemap_lookup.specs.Words.{index_after, binary_digits};
 ghost use Rattle.oxc_sourcemap_compiled.specs.Words.{IsOpened, AreRowsExact, AreInOrder, column_of};
 ghost use Rattle.oxc_sourcemap_compiled.specs.Words.{entry_begin, entry_end, entry_tokens};
 ghost use Rattle.oxc_sourcemap_compiled.specs.Words.{tokens_in};
@@ -42,10 +42,12 @@ impl<'a> Opened<'a> {
 
     /// The index behind the token that a lookup finds among these, which are all on one line; that of the first if it finds none.
     #[inline(always)]
-    fn end_of_found(&self, span: Span, col: u32) -> usize
+    fn end_of_found(&self, span: Span, col: u32, steps: &mut u64) -> usize
         requires opened { IsOpened self.now }
+        requires few { steps.old ≤ 256 }
         requires order { span.start ≤ span.end }
         requires there { span.end ≤ self.now.header.tokens }
+        ensures counted { steps.new ≤ steps.old + binary_digits (span.end - span.start) + 3 }
         ensures reached { span.start ≤ result }
         ensures within { result ≤ span.end }
         ensures index { (line : List TokenRecord)
@@ -57,16 +59,19 @@ impl<'a> Opened<'a> {
         if span.start == span.end {
             return span.start;
         }
-        let before = self.column_cut(span.start, span.end - 1, u64::from(col));
+        let before = self.column_cut(span.start, span.end - 1, u64::from(col), steps);
+        *steps += 1;
         before + usize::from(self.value(0, before) <= col)
     }
 
     /// The index of the token that a lookup from `col` on finds among these, which are all on one line; the end if it finds none.
     #[inline(always)]
-    fn found_after(&self, span: Span, col: u32) -> usize
+    fn found_after(&self, span: Span, col: u32, steps: &mut u64) -> usize
         requires opened { IsOpened self.now }
+        requires few { steps.old ≤ 256 }
         requires order { span.start ≤ span.end }
         requires there { span.end ≤ self.now.header.tokens }
+        ensures counted { steps.new ≤ steps.old + binary_digits (span.end - span.start) + 3 }
         ensures reached { span.start ≤ result }
         ensures within { result ≤ span.end }
         ensures index { (line : List TokenRecord)
@@ -79,15 +84,18 @@ impl<'a> Opened<'a> {
         if span.start == span.end {
             return span.start;
         }
-        let last = self.column_cut(span.start + 1, span.end, u64::from(col) + 1) - 1;
+        let last = self.column_cut(span.start + 1, span.end, u64::from(col) + 1, steps) - 1;
+        *steps += 1;
         last + usize::from(self.value(0, last) < col)
     }
 
     /// The index of the token that a lookup finds among those of an entry of lines.
     #[inline(always)]
-    fn index_in(&self, k: usize, col: u32) -> Option<usize>
+    fn index_in(&self, k: usize, col: u32, steps: &mut u64) -> Option<usize>
         requires opened { IsOpened self.now }
         requires there { k < self.now.header.lines }
+        requires few { steps.old ≤ 256 }
+        ensures counted { steps.new ≤ steps.old + binary_digits self.now.header.tokens + 3 }
         ensures reached { IfSome result
             (λ i. entry_begin self.now.bytes.now self.now.header k ≤ i) }
         ensures within { IfSome result
@@ -97,7 +105,7 @@ impl<'a> Opened<'a> {
             (index_at (entry_tokens self.now.bytes.now self.now.header k) col) }
     {
         let span = self.span(k);
-        let end = self.end_of_found(span, col);
+        let end = self.end_of_found(span, col, steps);
         if end > span.start {
             Some(end - 1)
         } else {
@@ -107,9 +115,11 @@ impl<'a> Opened<'a> {
 
     /// The index of the token that a clamped lookup finds among those of an entry of lines.
     #[inline(always)]
-    fn index_in_clamped(&self, k: usize, col: u32) -> Option<usize>
+    fn index_in_clamped(&self, k: usize, col: u32, steps: &mut u64) -> Option<usize>
         requires opened { IsOpened self.now }
         requires there { k < self.now.header.lines }
+        requires few { steps.old ≤ 256 }
+        ensures counted { steps.new ≤ steps.old + binary_digits self.now.header.tokens + 3 }
         ensures reached { IfSome result
             (λ i. entry_begin self.now.bytes.now self.now.header k ≤ i) }
         ensures within { IfSome result
@@ -122,15 +132,17 @@ impl<'a> Opened<'a> {
         if span.start == span.end {
             return None;
         }
-        let end = self.end_of_found(span, col);
+        let end = self.end_of_found(span, col, steps);
         Some(end.max(span.start + 1) - 1)
     }
 
     /// The index of the token that a lookup from `col` on finds among those of an entry of lines.
     #[inline(always)]
-    fn index_in_after(&self, k: usize, col: u32) -> Option<usize>
+    fn index_in_after(&self, k: usize, col: u32, steps: &mut u64) -> Option<usize>
         requires opened { IsOpened self.now }
         requires there { k < self.now.header.lines }
+        requires few { steps.old ≤ 256 }
+        ensures counted { steps.new ≤ steps.old + binary_digits self.now.header.tokens + 3 }
         ensures reached { IfSome result
             (λ i. entry_begin self.now.bytes.now self.now.header k ≤ i) }
         ensures within { IfSome result
@@ -140,45 +152,51 @@ impl<'a> Opened<'a> {
             (index_at_or_after (entry_tokens self.now.bytes.now self.now.header k) col) }
     {
         let span = self.span(k);
-        let found = self.found_after(span, col);
+        let found = self.found_after(span, col, steps);
         if found < span.end { Some(found) } else { None }
     }
 
     /// The index of the token that a lookup finds.
-    pub(crate) fn lookup_index(&self, line: u32, col: u32) -> Option<usize>
+    pub(crate) fn lookup_index(&self, line: u32, col: u32, steps: &mut u64) -> Option<usize>
         requires opened { IsOpened self.now }
+        ensures counted { steps.new ≤ binary_digits self.now.header.lines
+            + binary_digits self.now.header.tokens + 4 }
         ensures found { AreInOrder self.now.bytes.now self.now.header
             → result ≡ index_for (tokens_in self.now.bytes.now self.now.header) line col }
         ensures among { IfSome result (IsOnLine self.now.bytes.now self.now.header line) }
     {
-        match self.entry(line) {
-            Some(k) => self.index_in(k, col),
+        match self.entry(line, steps) {
+            Some(k) => self.index_in(k, col, steps),
             None => None,
         }
     }
 
     /// The index of the token that a clamped lookup finds.
-    pub(crate) fn lookup_index_clamped(&self, line: u32, col: u32) -> Option<usize>
+    pub(crate) fn lookup_index_clamped(&self, line: u32, col: u32, steps: &mut u64) -> Option<usize>
         requires opened { IsOpened self.now }
+        ensures counted { steps.new ≤ binary_digits self.now.header.lines
+            + binary_digits self.now.header.tokens + 4 }
         ensures found { AreInOrder self.now.bytes.now self.now.header
             → result ≡ clamped_index_for (tokens_in self.now.bytes.now self.now.header) line col }
         ensures among { IfSome result (IsOnLine self.now.bytes.now self.now.header line) }
     {
-        match self.entry(line) {
-            Some(k) => self.index_in_clamped(k, col),
+        match self.entry(line, steps) {
+            Some(k) => self.index_in_clamped(k, col, steps),
             None => None,
         }
     }
 
     /// The index of the token that a lookup from a position on finds.
-    pub(crate) fn lookup_index_after(&self, line: u32, col: u32) -> Option<usize>
+    pub(crate) fn lookup_index_after(&self, line: u32, col: u32, steps: &mut u64) -> Option<usize>
         requires opened { IsOpened self.now }
+        ensures counted { steps.new ≤ binary_digits self.now.header.lines
+            + binary_digits self.now.header.tokens + 4 }
         ensures found { AreInOrder self.now.bytes.now self.now.header
             → result ≡ index_after (tokens_in self.now.bytes.now self.now.header) line col }
         ensures among { IfSome result (IsOnLine self.now.bytes.now self.now.header line) }
     {
-        match self.entry(line) {
-            Some(k) => self.index_in_after(k, col),
+        match self.entry(line, steps) {
+            Some(k) => self.index_in_after(k, col, steps),
             None => None,
         }
     }
@@ -190,7 +208,7 @@ impl<'a> Opened<'a> {
             → result ≡ token_for (tokens_in self.now.bytes.now self.now.header) line col }
         ensures among { IfSome result (IsTokenOn self.now.bytes.now self.now.header line) }
     {
-        match self.lookup_index(line, col) {
+        match self.lookup_index(line, col, &mut 0) {
             Some(i) => Some(self.token_on(line, i)),
             None => None,
         }
@@ -203,7 +221,7 @@ impl<'a> Opened<'a> {
             → result ≡ clamped_token_for (tokens_in self.now.bytes.now self.now.header) line col }
         ensures among { IfSome result (IsTokenOn self.now.bytes.now self.now.header line) }
     {
-        match self.lookup_index_clamped(line, col) {
+        match self.lookup_index_clamped(line, col, &mut 0) {
             Some(i) => Some(self.token_on(line, i)),
             None => None,
         }
@@ -216,7 +234,7 @@ impl<'a> Opened<'a> {
             → result ≡ token_after (tokens_in self.now.bytes.now self.now.header) line col }
         ensures among { IfSome result (IsTokenOn self.now.bytes.now self.now.header line) }
     {
-        match self.lookup_index_after(line, col) {
+        match self.lookup_index_after(line, col, &mut 0) {
             Some(i) => Some(self.token_on(line, i)),
             None => None,
         }

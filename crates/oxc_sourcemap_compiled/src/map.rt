@@ -1,11 +1,12 @@
 //! Compiled maps that are opened.
-ghost use Rattle.std.specs.Prelude.{◌≡◌, ◌+◌, ◌*◌, ◌<◌, IfSome, IfOk, IsTrue, ◌↔◌, length};
+ghost use Rattle.std.specs.Prelude.{◌≡◌, ◌+◌, ◌*◌, ◌<◌, ◌≤◌, IfSome, IfOk, IsTrue, ◌↔◌, length};
 ghost use Rattle.std.specs.Prelude.{option_map, [], is_some};
 ghost use Rattle.std.specs.List.{Contains};
 ghost use Rattle.std.specs.Option.{option_and_then, unwrap_or};
 ghost use Rattle.std.specs.Prelude.{slice_get, Some};
 ghost use Rattle.oxc_sourcemap_tokens.specs.Results.{Gives, lent_item};
 ghost use Rattle.oxc_sourcemap_lookup.specs.Words.{index_for, clamped_index_for, index_after};
+ghost use Rattle.oxc_sourcemap_lookup.specs.Words.{binary_digits};
 ghost use Rattle.oxc_sourcemap_compiled.specs.Words.{compiled_meaning, compiled_in, IsInOrder};
 ghost use Rattle.oxc_sourcemap_compiled.specs.Words.{header_in, IsOnLine, IsTokenAt, IsTokenOn};
 ghost use Rattle.oxc_sourcemap_lookup.specs.Words.{token_for, clamped_token_for};
@@ -94,7 +95,18 @@ impl<'a> CompiledMap<'a> {
             → result ≡ index_for (compiled_in self.now).content.tokens line col }
         ensures among { IfSome result (IsOnLine self.now (header_in self.now) line) }
     {
-        self.opened.lookup_index(line, col)
+        self.opened.lookup_index(line, col, &mut 0)
+    }
+
+    /// As `lookup_token_index`. `steps` is set to how many columns and numbers of lines were compared: at most as many as the number
+    /// of lines and that of tokens have binary digits, and four more, whatever the bytes are. Other lookups take no more.
+    pub fn lookup_token_index_counted(&self, line: u32, col: u32, steps: &mut u64) -> Option<usize>
+        ensures found { IsInOrder self.now
+            → result ≡ index_for (compiled_in self.now).content.tokens line col }
+        ensures counted { steps.new ≤ binary_digits (header_in self.now).lines
+            + binary_digits (header_in self.now).tokens + 4 }
+    {
+        self.opened.lookup_index(line, col, steps)
     }
 
     /// As `lookup_token_index`, but a position before the first token of its line gives that token.
@@ -103,7 +115,7 @@ impl<'a> CompiledMap<'a> {
             → result ≡ clamped_index_for (compiled_in self.now).content.tokens line col }
         ensures among { IfSome result (IsOnLine self.now (header_in self.now) line) }
     {
-        self.opened.lookup_index_clamped(line, col)
+        self.opened.lookup_index_clamped(line, col, &mut 0)
     }
 
     /// The index of the first token of the least column from `col` on, of several at `col` of the last; None if the line has
@@ -113,7 +125,7 @@ impl<'a> CompiledMap<'a> {
             → result ≡ index_after (compiled_in self.now).content.tokens line col }
         ensures among { IfSome result (IsOnLine self.now (header_in self.now) line) }
     {
-        self.opened.lookup_index_after(line, col)
+        self.opened.lookup_index_after(line, col, &mut 0)
     }
 
     /// The token of the index that `lookup_token_index` finds.

@@ -1,9 +1,26 @@
 use Rattle.std.proofs.Common.{◌≡◌, ◌+◌, ◌-◌, ◌*◌, ◌/◌, ◌<◌, ◌≤◌, ℕ, min, max, arith}
+use Rattle.oxc_sourcemap_lookup.proofs.Halving.{fewer-digits}
 use Rattle.oxc_sourcemap_compiled.specs.Words.{column_of, least_column_of}
+use Rattle.oxc_sourcemap_compiled.proofs.Comparisons.{two-halvings}
 use Rattle.oxc_sourcemap_compiled.proofs.Searches.{inner-cut, past-cut}
 use Rattle.oxc_sourcemap_compiled.proofs.opened.Opened.block_with_cut.Goals.{else-block-last-via-then-block-last+else-from-limit}
 use Rattle.oxc_sourcemap_compiled.proofs.opened.Opened.block_with_cut.Goals.{else-block-last-via-else-block-last}
 use Rattle.oxc_sourcemap_compiled.proofs.opened.Opened.block_with_cut.Goals as goal
+
+pub returns-then-front-last-clause-counted : goal.returns-then-front-last-clause-counted
+returns-then-front-last-clause-counted c = λ count few le. omega (arith, fewer-digits count (c.args.end - c.args.first) le)
+
+pub returns-then-from-limit-clause-counted : goal.returns-then-from-limit-clause-counted
+returns-then-from-limit-clause-counted c = λ count few le.
+    let blocks = (c.args.end - 1) / 64 - c.args.first / 64 - 1 in
+    let many : 64 * blocks ≤ c.args.end - c.args.first = omega arith in
+    omega (arith, c.block_cut-block.ensures.counted, two-halvings blocks count (c.args.end - c.args.first) few le many)
+
+pub returns-else-block-last-clause-counted : goal.returns-else-block-last-clause-counted
+returns-else-block-last-clause-counted c = λ count few le.
+    let blocks = (c.args.end - 1) / 64 - c.args.first / 64 - 1 in
+    let many : 64 * blocks ≤ c.args.end - c.args.first = omega arith in
+    omega (arith, c.block_cut-block.ensures.counted, two-halvings blocks count (c.args.end - c.args.first) few le many)
 
 pub returns-else-block-last-clause-cut : goal.returns-else-block-last-clause-cut
 returns-else-block-last-clause-cut c = λ exact rise cut is.

@@ -3,7 +3,7 @@ use Rattle.std.proofs.Common.{refl, length-take, if◌then◌else◌}
 use Rattle.std.proofs.lemmas.Grind.{common_steps}
 use Rattle.std.proofs.lemmas.List.FromFn.{get_or-map-range_with_len}
 use Rattle.oxc_sourcemap_lookup.specs.Lookup.{index_before}
-use Rattle.oxc_sourcemap_lookup.proofs.Halving.{before, before-all, front-goes_on}
+use Rattle.oxc_sourcemap_lookup.proofs.Halving.{before, before-all, front-goes_on, fewer-digits}
 use Rattle.oxc_sourcemap_lookup.proofs.ColumnSearches.{index-through}
 use Rattle.oxc_sourcemap_compiled.specs.Words.{column_of, columns_in}
 use Rattle.oxc_sourcemap_compiled.proofs.Lines.{columns-length, columns-from, columns-take}
@@ -41,3 +41,9 @@ returns-clause-index c = λ line is g exact.
     let more : c.from-2.result ≡ (if nat_lt (get_or cs n 0) (col + 1) then 1 else 0) = grind (arith, common_steps, read) in
     let counted : c.column_cut-before.result + c.from-2.result - start ≡ n + c.from-2.result = omega (arith, found) in
     ap index_before counted ∙ ap (λ k. index_before (n + k)) more ∙ index-through col n cs line is g within refl
+
+pub returns-clause-counted : goal.returns-clause-counted
+returns-clause-counted c =
+    let start = c.args.span.start in
+    let end = c.args.span.end in
+    omega (arith, c.column_cut-before.ensures.counted, fewer-digits (end - 1 - start) (end - start) (omega arith))

@@ -2,7 +2,7 @@ use Rattle.std.proofs.Common.{◌≡◌, ◌+◌, ◌-◌, ◌<◌, drop, length
 use Rattle.std.proofs.Common.{refl, false, length-drop, if◌then◌else◌, Some, None}
 use Rattle.std.proofs.lemmas.Grind.{common_steps}
 use Rattle.std.proofs.lemmas.List.FromFn.{get_or-map-range_with_len}
-use Rattle.oxc_sourcemap_lookup.proofs.Halving.{before, before-all, drop-goes_on}
+use Rattle.oxc_sourcemap_lookup.proofs.Halving.{before, before-all, drop-goes_on, fewer-digits}
 use Rattle.oxc_sourcemap_lookup.proofs.Indices.{index_within}
 use Rattle.oxc_sourcemap_lookup.proofs.ColumnSearches.{after-through}
 use Rattle.oxc_sourcemap_compiled.specs.Words.{column_of, columns_in}
@@ -44,3 +44,9 @@ returns-clause-index c = λ line is g exact.
     let counted : c.column_cut-last.result - 1 + k ≡ start + (n + k) = omega (arith, at) in
     ap (λ i. if nat_lt i end then Some (i - start) else None) counted ∙ shifted-within start (n + k) (length line) end (omega (arith, size, c.requires.order))
     ∙ ap (λ k. index_within line (n + k)) more ∙ after-through col n cs line is g within refl
+
+pub returns-clause-counted : goal.returns-clause-counted
+returns-clause-counted c =
+    let start = c.args.span.start in
+    let end = c.args.span.end in
+    omega (arith, c.column_cut-last.ensures.counted, fewer-digits (end - (start + 1)) (end - start) (omega arith))

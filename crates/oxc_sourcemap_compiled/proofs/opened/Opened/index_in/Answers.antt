@@ -1,4 +1,5 @@
-use Rattle.std.proofs.Common.{◌+◌, ◌-◌, ap, ◌∙◌, option_map}
+use Rattle.std.proofs.Common.{arith, ◌+◌, ◌-◌, ap, ◌∙◌, option_map}
+use Rattle.oxc_sourcemap_lookup.proofs.Halving.{fewer-digits}
 use Rattle.oxc_sourcemap_compiled.specs.Words.{entry_begin, entry_end, entry_tokens, line_in}
 use Rattle.oxc_sourcemap_compiled.specs.Words.{columns_in}
 use Rattle.oxc_sourcemap_compiled.proofs.Lines.{token-columns, last-of-some, last-of-none}
@@ -25,3 +26,13 @@ returns-else-end-span-clause-found c = λ order.
     ∙ token-columns bytes h (line_in bytes h k) begin (entry_end bytes h k - begin) in
     let found = c.end_of_found-end.ensures.index (entry_tokens bytes h k) is (order.columns k c.requires.there) order.rows in
     last-of-none begin c.span-span.result.start c.end_of_found-end.result c.if-end-span.false ∙ ap (option_map (λ i. begin + i)) found
+
+pub returns-then-end-span-clause-counted : goal.returns-then-end-span-clause-counted
+returns-then-end-span-clause-counted c =
+    let size = c.span-span.result.end - c.span-span.result.start in
+    omega (arith, c.end_of_found-end.ensures.counted, fewer-digits size c.args.self.now.header.tokens (omega (arith, c.span-span.ensures.within)))
+
+pub returns-else-end-span-clause-counted : goal.returns-else-end-span-clause-counted
+returns-else-end-span-clause-counted c =
+    let size = c.span-span.result.end - c.span-span.result.start in
+    omega (arith, c.end_of_found-end.ensures.counted, fewer-digits size c.args.self.now.header.tokens (omega (arith, c.span-span.ensures.within)))

@@ -1,5 +1,6 @@
 use Rattle.std.proofs.Common.{◌≡◌, ◌+◌, ◌-◌, ap, ◌∙◌, sym, option_map, arith, nat_lt, true, false}
 use Rattle.std.proofs.Common.{Some, None, if◌then◌else◌}
+use Rattle.oxc_sourcemap_lookup.proofs.Halving.{fewer-digits}
 use Rattle.oxc_sourcemap_compiled.specs.Words.{entry_begin, entry_end, entry_tokens, line_in}
 use Rattle.oxc_sourcemap_compiled.specs.Words.{columns_in}
 use Rattle.oxc_sourcemap_compiled.proofs.Lines.{token-columns}
@@ -33,3 +34,13 @@ returns-else-found-span-clause-found c = λ order.
     let le : nat_lt i c.span-span.result.end ≡ false = grind (arith, c.if-found-span.false) in
     let one = sym (ap (λ b. if b then Some (i - c.span-span.result.start) else None) le) ∙ found in
     ap (option_map (λ j. begin + j)) one
+
+pub returns-then-found-span-clause-counted : goal.returns-then-found-span-clause-counted
+returns-then-found-span-clause-counted c =
+    let size = c.span-span.result.end - c.span-span.result.start in
+    omega (arith, c.found_after-found.ensures.counted, fewer-digits size c.args.self.now.header.tokens (omega (arith, c.span-span.ensures.within)))
+
+pub returns-else-found-span-clause-counted : goal.returns-else-found-span-clause-counted
+returns-else-found-span-clause-counted c =
+    let size = c.span-span.result.end - c.span-span.result.start in
+    omega (arith, c.found_after-found.ensures.counted, fewer-digits size c.args.self.now.header.tokens (omega (arith, c.span-span.ensures.within)))

@@ -2,6 +2,7 @@ use Rattle.std.proofs.Common.{◌≡◌, ◌+◌, ◌-◌, ◌<◌, ap, ◌∙�
 use Rattle.std.proofs.Common.{length, Some, None, if◌then◌else◌}
 use Rattle.std.specs.Option.{option_or}
 use Rattle.oxc_sourcemap_lookup.proofs.Indices.{index-clamped, index_within, clamped-through}
+use Rattle.oxc_sourcemap_lookup.proofs.Halving.{fewer-digits}
 use Rattle.oxc_sourcemap_compiled.specs.Words.{column_of, entry_begin, entry_end, entry_tokens}
 use Rattle.oxc_sourcemap_compiled.specs.Words.{line_in, columns_in}
 use Rattle.oxc_sourcemap_compiled.proofs.Lines.{token-columns, columns-length}
@@ -27,3 +28,8 @@ returns-clause-found c = λ order.
     let one : Some (n - 1) ≡ index_within ts (n - 1) = sym (ap (λ b. if b then Some (n - 1) else None) lt) in
     let same : c.max.result - 1 ≡ begin + (n - 1) = omega (arith, c.max.ensures, c.span-span.ensures.start, c.end_of_found-end.ensures.reached) in
     ap Some same ∙ ap (option_map (λ i. begin + i)) (one ∙ through)
+
+pub returns-clause-counted : goal.returns-clause-counted
+returns-clause-counted c =
+    let size = c.span-span.result.end - c.span-span.result.start in
+    omega (arith, c.end_of_found-end.ensures.counted, fewer-digits size c.args.self.now.header.tokens (omega (arith, c.span-span.ensures.within)))

@@ -1,5 +1,11 @@
 -- Worked examples of compiled maps, computed by the definitions themselves. The bytes were written by hand after the rules.
 use Rattle.std.specs.Prelude.{◌≡◌, refl, ℕ, List, [], ◌∷◌, codes, Err, Some, None, take, drop, ◌++◌}
+use Rattle.std.specs.Prelude.{Ok}
+use Rattle.std.specs.Str.{is_utf8, chars}
+use lib.Utf8.{encode}
+use Rattle.oxc_sourcemap_parts.specs.Record.{MapRecord}
+use Rattle.oxc_sourcemap_compiled.specs.Decompiled.{checked_map}
+use Rattle.oxc_sourcemap_compiled.specs.Means.{stored_map, compiled_of}
 use Rattle.std.specs.Prelude.{true, false}
 use Rattle.oxc_sourcemap_compiled.specs.Compiled.{map_bytes, bytes_of, stored_text}
 use Rattle.oxc_sourcemap_compiled.specs.declared.writing.blocks.Packing.{Packing}
@@ -142,7 +148,9 @@ sizes-mean = refl
 abbrev packing : ℕ → ℕ → Packing
 packing least width = record { least = least; width = width }
 
-two_lines-written : map_bytes (record {
+-- the map with two lines
+abbrev two_lines_map : MapRecord
+two_lines_map = record {
   file = Some (codes "o.js");
   names = codes "f" ∷ [];
   source_root = None;
@@ -153,7 +161,9 @@ two_lines-written : map_bytes (record {
   token_chunks = None;
   ignore_list = Some (0 ∷ []);
   debug_id = None;
-}) (0 ∷ 1 ∷ []) false (record { column = packing 0 1; source = packing 1 0; src_line = packing 0 1; src_col = packing 0 1; name = packing 0 1 } ∷ []) 107 (take 32 (drop 24 two_lines))
+}
+
+two_lines-written : map_bytes two_lines_map (0 ∷ 1 ∷ []) false (record { column = packing 0 1; source = packing 1 0; src_line = packing 0 1; src_col = packing 0 1; name = packing 0 1 } ∷ []) 107 (take 32 (drop 24 two_lines))
     ≡ two_lines
 unfolding bytes_of stored_text
 two_lines-written = refl
@@ -174,3 +184,25 @@ far_lines-written : map_bytes (record {
     ≡ far_lines
 unfolding bytes_of stored_text
 far_lines-written = refl
+
+-- ---- what these bytes mean, as a whole
+two_lines-mean : compiled_meaning two_lines ≡ Ok (compiled_of two_lines_map 107 (take 32 (drop 24 two_lines)))
+unfolding header_in compiled_fault part_between token_in value_in field_in number_at
+two_lines-mean = refl
+
+-- Contents are stored for each source, and for no more: one is missing here, and two have no source there.
+contents-missing : (stored_map (record two_lines_map { source_contents = [] })).source_contents ≡ None ∷ []
+contents-missing = refl
+
+contents-past : (stored_map (record two_lines_map { source_contents = Some (codes "x") ∷ None ∷ Some (codes "y") ∷ [] })).source_contents ≡ Some (codes "x") ∷ []
+contents-past = refl
+
+-- ---- what is taken apart
+all-utf8 : checked_map two_lines_map ≡ Some two_lines_map
+unfolding is_utf8 chars encode
+all-utf8 = refl
+
+-- no text has the byte 255
+one-not-utf8 : checked_map (record two_lines_map { debug_id = Some (97 ∷ 255 ∷ []) }) ≡ None
+unfolding is_utf8 chars encode
+one-not-utf8 = refl

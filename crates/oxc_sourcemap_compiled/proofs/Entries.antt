@@ -21,7 +21,7 @@ use Rattle.oxc_sourcemap_lookup.proofs.LineIndices.{from_line, index_for-own, cl
 use Rattle.oxc_sourcemap_lookup.proofs.LineIndices.{index_after-own}
 use Rattle.oxc_sourcemap_compiled.specs.Meaning.{joined, token_in, start_in, line_in, entry_begin}
 use Rattle.oxc_sourcemap_compiled.specs.Meaning.{entry_end, entry_tokens, tokens_in}
-use Rattle.oxc_sourcemap_compiled.specs.Order.{AreInOrder}
+use Rattle.oxc_sourcemap_compiled.specs.Order.{AreInOrder, IsOnLine}
 use Rattle.oxc_sourcemap_compiled.specs.declared.layout.Header.{Header}
 use Rattle.oxc_sourcemap_compiled.proofs.Searches.{rises, has-cut}
 use Rattle.oxc_sourcemap_compiled.specs.Cuts.{IsCut}
@@ -286,3 +286,12 @@ module _ (bytes : List ℕ) (h : Header) (order : AreInOrder bytes h) where
       let is = found.1 in
       let there = entry-there (nat_lt j h.lines) i j refl lt is in
       (j, there, is, entry-reached i j j is (omega arith), omega (arith, is.after j (omega arith) there))
+
+  -- a token on a line stands at its index
+  pub stands-on : (line i : ℕ) → IsOnLine bytes h line i → slice_get (tokens_in bytes h) i ≡ Some (token_in bytes h line i)
+  stands-on line i on =
+      let k = on.0 in
+      let is = on.1 in
+      let low : start_in bytes k ≤ i = omega (arith, begin-is k is.there, is.reached) in
+      let high : i < start_in bytes (k + 1) = omega (arith, end-is k is.there, is.within) in
+      token-is k i is.there low high ∙ ap (λ n. Some (token_in bytes h n i)) is.line_is

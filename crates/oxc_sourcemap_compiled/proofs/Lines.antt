@@ -16,8 +16,10 @@ use Rattle.oxc_sourcemap_lookup.specs.Lookup.{clamped_index_at, index_at_or_afte
 use Rattle.oxc_sourcemap_lookup.proofs.Halving.{before, before-later, before-earlier, before-all}
 use Rattle.oxc_sourcemap_lookup.proofs.Lookups.{goes_on, not_before, not_before-at}
 use Rattle.oxc_sourcemap_compiled.specs.Cuts.{IsCut, DoNotFall}
-use Rattle.oxc_sourcemap_compiled.specs.Order.{columns_in, column_of}
-use Rattle.oxc_sourcemap_compiled.specs.Meaning.{token_in}
+use Rattle.oxc_sourcemap_compiled.specs.Order.{columns_in, column_of, AreColumnsOf, AreInOrder}
+use Rattle.oxc_sourcemap_compiled.specs.declared.lookup.Span.{Span}
+use Rattle.oxc_sourcemap_compiled.specs.Meaning.{token_in, line_in, entry_begin, entry_end}
+use Rattle.oxc_sourcemap_compiled.specs.Meaning.{entry_tokens}
 use Rattle.oxc_sourcemap_compiled.specs.declared.layout.Header.{Header}
 
 -- a function gives the columns of a line's tokens, from this number on
@@ -101,6 +103,18 @@ pub token-columns : (bytes : List ℕ) (h : Header) (line start n : ℕ) → col
 unfolding token_in
 token-columns bytes h line start zero = refl
 token-columns bytes h line start (suc n) = ap (λ cs. column_of bytes h start ∷ cs) (token-columns bytes h line (start + 1) n)
+
+-- the tokens of an entry have the columns of its span
+pub entry-columns : (bytes : List ℕ) (h : Header) (k : ℕ) (span : Span) → span.start ≡ entry_begin bytes h k → span.end ≡ entry_end bytes h k → AreInOrder bytes h → k < h.lines
+    → AreColumnsOf bytes h span (entry_tokens bytes h k)
+entry-columns bytes h k span begin end order there =
+    let first = entry_begin bytes h k in
+    let line = line_in bytes h k in
+    record {
+      are = ap (λ s. columns_in bytes h s (span.end - s)) begin ∙ ap (λ e. columns_in bytes h first (e - first)) end ∙ token-columns bytes h line first (entry_end bytes h k - first);
+      up = order.columns k there;
+      rows = order.rows;
+    }
 
 -- ---- nothing is found on a line without tokens
 none-by : (b : Bool) → (if b then first {A = ℕ × TokenRecord} [] else last []) ≡ None

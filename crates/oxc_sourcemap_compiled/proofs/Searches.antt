@@ -35,6 +35,36 @@ halved-cut false f limit first end cut start step half is some near reached with
     let less = past-cut f limit first end cut (start + step - 1) c (omega (arith, some, reached)) le in
     (omega (arith, low), omega (arith, less, near, some))
 
+-- A search by halving of so many numbers: their cut lies among this many of them, from a start on.
+pub record IsHalved (f : ℕ → ℕ) (limit first count start size : ℕ) : Type 0 where
+  pub reached : first ≤ start
+  pub within : start + size ≤ first + count
+  pub cut : (cut : ℕ) → IsCut f limit first (first + count) cut → (start ≤ cut) × (cut ≤ start + size)
+
+pub halved-none : (f : ℕ → ℕ) (limit first count : ℕ) → IsHalved f limit first count first count
+halved-none f limit first count = record { reached = omega arith; within = omega arith; cut = λ cut is. (is.reached, is.within) }
+
+pub halved-all : (f : ℕ → ℕ) (limit first count start size cut : ℕ) → IsHalved f limit first count start size → size ≡ 0 → IsCut f limit first (first + count) cut → start ≡ cut
+halved-all f limit first count start size cut h none is = omega (arith, (h.cut cut is).0, (h.cut cut is).1, none)
+
+most : (b : Bool) (step : ℕ) → (if b then step else 0) ≤ step
+most true step = omega arith
+most false step = omega arith
+
+-- one step more, by whether the number in the middle is below the limit
+pub halved-more : (b : Bool) (f : ℕ → ℕ) (limit first count start size next : ℕ) → nat_lt (f (start + (size - size / 2) - 1)) limit ≡ b → 0 < size
+    → next ≡ start + (if b then size - size / 2 else 0) → IsHalved f limit first count start size → IsHalved f limit first count next (size / 2)
+halved-more b f limit first count start size next is some e h =
+    let step = size - size / 2 in
+    let few = most b step in record {
+      reached = omega (arith, e, h.reached);
+      within = omega (arith, e, few, h.within);
+      cut = λ cut c.
+          let kept = h.cut cut c in
+          let more = halved-cut b f limit first (first + count) cut start step (size / 2) is (omega (arith, some)) (omega arith) h.reached (omega (arith, h.within)) c kept.0 (omega (arith, kept.1)) in
+          (omega (arith, more.0, e), omega (arith, more.1, e));
+    }
+
 -- Blocks strictly between those of the first and of the last number, by a number that stands for each: the cut of these.
 pub inner-cut : (f g : ℕ → ℕ) (limit first end cut : ℕ) → first / 64 < (end - 1) / 64 → IsCut f limit first end cut
     → ((b : ℕ) → first / 64 < b → b < (end - 1) / 64 → g b ≡ f (64 * b))

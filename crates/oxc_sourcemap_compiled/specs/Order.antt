@@ -1,5 +1,5 @@
 -- Compiled maps in which lookups by halving are exact: the lines and columns in their bytes are in order.
-use Rattle.std.specs.Prelude.{◌≡◌, ℕ, ◌+◌, ◌*◌, ◌/◌, ◌<◌, ◌≤◌, true, List, map}
+use Rattle.std.specs.Prelude.{◌≡◌, ℕ, ◌+◌, ◌-◌, ◌*◌, ◌/◌, ◌<◌, ◌≤◌, true, List, map}
 use Rattle.std.specs.List.{range_with_len}
 use Rattle.oxc_sourcemap_tokens.specs.Token.{TokenRecord}
 use Rattle.oxc_sourcemap_parts.specs.Sorted.{token_column}
@@ -10,6 +10,7 @@ use Rattle.oxc_sourcemap_compiled.specs.Fields.{value_of, row_base}
 use Rattle.oxc_sourcemap_compiled.specs.Meaning.{token_in, start_in, line_in, entry_tokens}
 use Rattle.oxc_sourcemap_compiled.specs.Meaning.{entry_begin, entry_end}
 use Rattle.oxc_sourcemap_compiled.specs.declared.layout.Header.{Header}
+use Rattle.oxc_sourcemap_compiled.specs.declared.lookup.Span.{Span}
 
 -- the generated column of a token
 abbrev pub column_of : List ℕ → Header → ℕ → ℕ
@@ -41,6 +42,27 @@ pub record AreInOrder (bytes : List ℕ) (h : Header) : Type 0 where
 
 abbrev pub IsInOrder : List ℕ → Type 0
 IsInOrder bytes = AreInOrder bytes (header_in bytes)
+
+-- an index is one of those of an entry's tokens
+pub record IsInEntry (bytes : List ℕ) (h : Header) (k i : ℕ) : Type 0 where
+  pub reached : entry_begin bytes h k ≤ i
+  pub within : i < entry_end bytes h k
+
+-- a span lies among the tokens
+pub record IsSpan (span : Span) (h : Header) : Type 0 where
+  pub order : span.start ≤ span.end
+  pub there : span.end ≤ h.tokens
+
+-- an index is one of a span, or its end
+pub record IsUpToEnd (span : Span) (i : ℕ) : Type 0 where
+  pub reached : span.start ≤ i
+  pub within : i ≤ span.end
+
+-- A line has the columns of the tokens of a span; none of them goes back, and the rows of blocks are exact.
+pub record AreColumnsOf (bytes : List ℕ) (h : Header) (span : Span) (line : List TokenRecord) : Type 0 where
+  pub are : columns_in bytes h span.start (span.end - span.start) ≡ map token_column line
+  pub up : no_column_goes_back token_column line ≡ true
+  pub rows : AreRowsExact bytes h
 
 -- a token is one of those of a line's entry
 pub record IsOn (bytes : List ℕ) (h : Header) (line i k : ℕ) : Type 0 where

@@ -33,5 +33,6 @@ pub use Rattle.oxc_sourcemap_compiled.specs.Numbers.{number_at}
 pub use Rattle.oxc_sourcemap_compiled.specs.Opened.{IsOpened}
 pub use Rattle.oxc_sourcemap_compiled.specs.Order.{columns_in, column_of, least_column_of}
 pub use Rattle.oxc_sourcemap_compiled.specs.Order.{AreRowsExact}
+pub use Rattle.oxc_sourcemap_compiled.specs.Order.{IsInEntry, IsSpan, IsUpToEnd, AreColumnsOf}
 pub use Rattle.oxc_sourcemap_compiled.specs.Order.{AreInOrder, IsInOrder, IsOn, IsOnLine}
 pub use Rattle.oxc_sourcemap_compiled.specs.Order.{IsTokenAt, IsTokenOn}

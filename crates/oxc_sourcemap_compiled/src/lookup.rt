@@ -3,14 +3,15 @@ ghost use Rattle.std.specs.Prelude.{◌≡◌, ◌+◌, ◌-◌, ◌*◌, ◌≤
 ghost use Rattle.std.specs.Prelude.{IfSome};
 ghost use Rattle.std.specs.Prelude.{nat_lt, Some, None, if◌then◌else◌};
 ghost use Rattle.std.specs.List.{range_with_len};
-ghost use Rattle.oxc_sourcemap_lookup.specs.Words.{TokenRecord, token_column, no_column_goes_back};
+ghost use Rattle.oxc_sourcemap_lookup.specs.Words.{TokenRecord};
 ghost use Rattle.oxc_sourcemap_lookup.specs.Words.{index_at, clamped_index_at, index_at_or_after};
 ghost use Rattle.oxc_sourcemap_lookup.specs.Words.{index_before, index_for, clamped_index_for};
 ghost use Rattle.oxc_sourcemap_lookup.specs.Words.{index_after, binary_digits};
-ghost use Rattle.oxc_sourcemap_compiled.specs.Words.{IsOpened, AreRowsExact, AreInOrder, column_of};
+ghost use Rattle.oxc_sourcemap_compiled.specs.Words.{IsOpened, AreInOrder};
 ghost use Rattle.oxc_sourcemap_compiled.specs.Words.{entry_begin, entry_end, entry_tokens};
 ghost use Rattle.oxc_sourcemap_compiled.specs.Words.{tokens_in};
-ghost use Rattle.oxc_sourcemap_compiled.specs.Words.{IsOnLine, IsTokenOn, columns_in};
+ghost use Rattle.oxc_sourcemap_compiled.specs.Words.{IsOnLine, IsTokenOn, IsInEntry, IsSpan};
+ghost use Rattle.oxc_sourcemap_compiled.specs.Words.{IsUpToEnd, AreColumnsOf};
 ghost use Rattle.oxc_sourcemap_lookup.specs.Words.{token_for, clamped_token_for};
 ghost use Rattle.oxc_sourcemap_lookup.specs.Lookup.{token_after};
 
@@ -32,8 +33,7 @@ impl<'a> Opened<'a> {
         requires there { k < self.now.header.lines }
         ensures start { result.start ≡ entry_begin self.now.bytes.now self.now.header k }
         ensures end { result.end ≡ entry_end self.now.bytes.now self.now.header k }
-        ensures order { result.start ≤ result.end }
-        ensures within { result.end ≤ self.now.header.tokens }
+        ensures span { IsSpan result self.now.header }
     {
         let end = self.line_start(k + 1).min(self.header.tokens);
         let start = self.line_start(k).min(end);
@@ -45,15 +45,11 @@ impl<'a> Opened<'a> {
     fn end_of_found(&self, span: Span, col: u32, steps: &mut u64) -> usize
         requires opened { IsOpened self.now }
         requires few { steps.old ≤ 256 }
-        requires order { span.start ≤ span.end }
-        requires there { span.end ≤ self.now.header.tokens }
+        requires span { IsSpan span self.now.header }
         ensures counted { steps.new ≤ steps.old + binary_digits (span.end - span.start) + 3 }
-        ensures reached { span.start ≤ result }
-        ensures within { result ≤ span.end }
+        ensures within { IsUpToEnd span result }
         ensures index { (line : List TokenRecord)
-            → columns_in self.now.bytes.now self.now.header span.start (span.end - span.start)
-            ≡ map token_column line → no_column_goes_back token_column line ≡ true
-            → AreRowsExact self.now.bytes.now self.now.header
+            → AreColumnsOf self.now.bytes.now self.now.header span line
             → index_before (result - span.start) ≡ index_at line col }
     {
         if span.start == span.end {
@@ -69,15 +65,11 @@ impl<'a> Opened<'a> {
     fn found_after(&self, span: Span, col: u32, steps: &mut u64) -> usize
         requires opened { IsOpened self.now }
         requires few { steps.old ≤ 256 }
-        requires order { span.start ≤ span.end }
-        requires there { span.end ≤ self.now.header.tokens }
+        requires span { IsSpan span self.now.header }
         ensures counted { steps.new ≤ steps.old + binary_digits (span.end - span.start) + 3 }
-        ensures reached { span.start ≤ result }
-        ensures within { result ≤ span.end }
+        ensures within { IsUpToEnd span result }
         ensures index { (line : List TokenRecord)
-            → columns_in self.now.bytes.now self.now.header span.start (span.end - span.start)
-            ≡ map token_column line → no_column_goes_back token_column line ≡ true
-            → AreRowsExact self.now.bytes.now self.now.header
+            → AreColumnsOf self.now.bytes.now self.now.header span line
             → (if nat_lt result span.end then Some (result - span.start) else None)
             ≡ index_at_or_after line col }
     {
@@ -96,10 +88,7 @@ impl<'a> Opened<'a> {
         requires there { k < self.now.header.lines }
         requires few { steps.old ≤ 256 }
         ensures counted { steps.new ≤ steps.old + binary_digits self.now.header.tokens + 3 }
-        ensures reached { IfSome result
-            (λ i. entry_begin self.now.bytes.now self.now.header k ≤ i) }
-        ensures within { IfSome result
-            (λ i. i < entry_end self.now.bytes.now self.now.header k) }
+        ensures among { IfSome result (IsInEntry self.now.bytes.now self.now.header k) }
         ensures found { AreInOrder self.now.bytes.now self.now.header
             → result ≡ option_map (λ i. entry_begin self.now.bytes.now self.now.header k + i)
             (index_at (entry_tokens self.now.bytes.now self.now.header k) col) }
@@ -120,10 +109,7 @@ impl<'a> Opened<'a> {
         requires there { k < self.now.header.lines }
         requires few { steps.old ≤ 256 }
         ensures counted { steps.new ≤ steps.old + binary_digits self.now.header.tokens + 3 }
-        ensures reached { IfSome result
-            (λ i. entry_begin self.now.bytes.now self.now.header k ≤ i) }
-        ensures within { IfSome result
-            (λ i. i < entry_end self.now.bytes.now self.now.header k) }
+        ensures among { IfSome result (IsInEntry self.now.bytes.now self.now.header k) }
         ensures found { AreInOrder self.now.bytes.now self.now.header
             → result ≡ option_map (λ i. entry_begin self.now.bytes.now self.now.header k + i)
             (clamped_index_at (entry_tokens self.now.bytes.now self.now.header k) col) }
@@ -143,10 +129,7 @@ impl<'a> Opened<'a> {
         requires there { k < self.now.header.lines }
         requires few { steps.old ≤ 256 }
         ensures counted { steps.new ≤ steps.old + binary_digits self.now.header.tokens + 3 }
-        ensures reached { IfSome result
-            (λ i. entry_begin self.now.bytes.now self.now.header k ≤ i) }
-        ensures within { IfSome result
-            (λ i. i < entry_end self.now.bytes.now self.now.header k) }
+        ensures among { IfSome result (IsInEntry self.now.bytes.now self.now.header k) }
         ensures found { AreInOrder self.now.bytes.now self.now.header
             → result ≡ option_map (λ i. entry_begin self.now.bytes.now self.now.header k + i)
             (index_at_or_after (entry_tokens self.now.bytes.now self.now.header k) col) }

@@ -3,9 +3,8 @@ use Rattle.std.proofs.Common.{length, Some, None, if◌then◌else◌}
 use Rattle.std.specs.Option.{option_or}
 use Rattle.oxc_sourcemap_lookup.proofs.Indices.{index-clamped, index_within, clamped-through}
 use Rattle.oxc_sourcemap_lookup.proofs.Halving.{fewer-digits}
-use Rattle.oxc_sourcemap_compiled.specs.Words.{column_of, entry_begin, entry_end, entry_tokens}
-use Rattle.oxc_sourcemap_compiled.specs.Words.{line_in, columns_in}
-use Rattle.oxc_sourcemap_compiled.proofs.Lines.{token-columns, columns-length}
+use Rattle.oxc_sourcemap_compiled.specs.Words.{column_of, entry_begin, entry_tokens}
+use Rattle.oxc_sourcemap_compiled.proofs.Lines.{entry-columns, columns-length}
 use Rattle.oxc_sourcemap_compiled.proofs.opened.Opened.index_in_clamped.Goals as goal
 
 pub returns-clause-found : goal.returns-clause-found
@@ -18,18 +17,17 @@ returns-clause-found c = λ order.
     let start = c.span-span.result.start in
     let n = c.end_of_found-end.result - start in
     let ts = entry_tokens bytes h k in
-    let is = ap (λ s. columns_in bytes h s (c.span-span.result.end - s)) c.span-span.ensures.start ∙ ap (λ e. columns_in bytes h begin (e - begin)) c.span-span.ensures.end
-    ∙ token-columns bytes h (line_in bytes h k) begin (entry_end bytes h k - begin) in
-    let found = c.end_of_found-end.ensures.index ts is (order.columns k c.requires.there) order.rows in
-    let size : length ts ≡ c.span-span.result.end - start = columns-length (column_of bytes h) start (c.span-span.result.end - start) ts is in
-    let through = clamped-through ts n (omega (arith, size, c.end_of_found-end.ensures.within)) ∙ ap (λ o. option_or o (index_within ts 0)) found ∙ sym (index-clamped col ts) in
-    let within : n - 1 < length ts = omega (arith, size, c.end_of_found-end.ensures.within, c.if-span.false, c.span-span.ensures.order) in
+    let is = entry-columns bytes h k c.span-span.result c.span-span.ensures.start c.span-span.ensures.end order c.requires.there in
+    let found = c.end_of_found-end.ensures.index ts is in
+    let size : length ts ≡ c.span-span.result.end - start = columns-length (column_of bytes h) start (c.span-span.result.end - start) ts is.are in
+    let through = clamped-through ts n (omega (arith, size, c.end_of_found-end.ensures.within.within)) ∙ ap (λ o. option_or o (index_within ts 0)) found ∙ sym (index-clamped col ts) in
+    let within : n - 1 < length ts = omega (arith, size, c.end_of_found-end.ensures.within.within, c.if-span.false, c.span-span.ensures.span.order) in
     let lt : nat_lt (n - 1) (length ts) ≡ true = grind (arith, within) in
     let one : Some (n - 1) ≡ index_within ts (n - 1) = sym (ap (λ b. if b then Some (n - 1) else None) lt) in
-    let same : c.max.result - 1 ≡ begin + (n - 1) = omega (arith, c.max.ensures, c.span-span.ensures.start, c.end_of_found-end.ensures.reached) in
+    let same : c.max.result - 1 ≡ begin + (n - 1) = omega (arith, c.max.ensures, c.span-span.ensures.start, c.end_of_found-end.ensures.within.reached) in
     ap Some same ∙ ap (option_map (λ i. begin + i)) (one ∙ through)
 
 pub returns-clause-counted : goal.returns-clause-counted
 returns-clause-counted c =
     let size = c.span-span.result.end - c.span-span.result.start in
-    omega (arith, c.end_of_found-end.ensures.counted, fewer-digits size c.args.self.now.header.tokens (omega (arith, c.span-span.ensures.within)))
+    omega (arith, c.end_of_found-end.ensures.counted, fewer-digits size c.args.self.now.header.tokens (omega (arith, c.span-span.ensures.span.there)))

@@ -5,6 +5,7 @@
 mod accessors;
 mod bench;
 mod builder;
+mod compiled;
 mod composition;
 mod differences;
 // The examples of docstrings: `./check tests` writes this module.

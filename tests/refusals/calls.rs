@@ -6,9 +6,10 @@ use super::fixtures::{
 };
 use super::memory::{nothing, refuse_each};
 use oxc_sourcemap::{
-    ConcatSourceMapBuilder, DataUrlError, Error, FaultPlace, FaultReason, FaultSpot, Field, JSONSourceMap, OwnedSourceMap, Plan, Result,
-    SegmentPlace, SegmentReason, SourceIndex, SourceMap, SourcemapVisualizer, TextPositions, Token,
+    ConcatSourceMapBuilder, DataUrlError, Error, FaultPlace, FaultReason, FaultSpot, Field, JSONSourceMap, OwnedSourceMap, Plan, PlanError,
+    Result, SegmentPlace, SegmentReason, SourceIndex, SourceMap, SourceMapParts, SourcemapVisualizer, TextPositions, Token,
 };
+use oxc_sourcemap_compiled::CompiledMap;
 use serde_json::Value;
 use std::alloc::Global;
 use std::process::Abort;
@@ -463,4 +464,45 @@ fn twice(alloc: Global) -> Result<Vec<(SourceMap<'static>, u32)>> {
 #[test]
 fn concat_source_map_builder_from_owned_sourcemaps(rt: HostRuntime) {
     refuse_each(&rt, twice, |alloc, maps| ConcatSourceMapBuilder::from_owned_sourcemaps(alloc, maps), |builder| is_joined(&rt, builder, TWICE));
+}
+
+/// The parts of the map with every field but chunks, and the same, compiled.
+fn full_parts(alloc: Global) -> Result<SourceMapParts<'static>> {
+    Ok(full_map(alloc)?.into_parts())
+}
+
+fn compiled(alloc: Global, parts: &SourceMapParts<'_>) -> std::result::Result<Vec<u8>, PlanError> {
+    oxc_sourcemap_compiled::compile(alloc, parts, 0, &[0; 32])
+}
+
+/// The map in these bytes, owned.
+fn taken_apart(alloc: Global, bytes: &[u8]) -> Result<Option<SourceMap<'static>>> {
+    let Ok(map) = CompiledMap::open(bytes) else {
+        return Ok(None);
+    };
+    match map.decompile(alloc)? {
+        Some(parts) => Ok(Some(SourceMap::from_parts(parts).into_owned(alloc)?)),
+        None => Ok(None),
+    }
+}
+
+fn is_taken_apart(rt: &(impl Abort + AllocGlobal), map: Option<SourceMap<'_>>) {
+    let map = map.expect(rt, "a map whose texts are UTF-8");
+    is_map(rt, &map, TEXT);
+}
+
+#[test]
+fn compile(rt: HostRuntime) {
+    refuse_each(
+        &rt,
+        full_parts,
+        |alloc, parts| compiled(alloc, &parts),
+        |bytes| is_taken_apart(&rt, taken_apart(rt.alloc(), &bytes).expect(&rt, "a map")),
+    );
+}
+
+#[test]
+fn compiled_map_decompile(rt: HostRuntime) {
+    let bytes = compiled(rt.alloc(), &full_parts(rt.alloc()).expect(&rt, "parts")).expect(&rt, "bytes");
+    refuse_each(&rt, nothing, |alloc, ()| taken_apart(alloc, &bytes), |map| is_taken_apart(&rt, map));
 }

@@ -1,0 +1,26 @@
+use Rattle.std.proofs.Common.{◌*◌, ◌/◌, ◌++◌, ℕ, get_or, take, drop, ap, ◌∙◌, sym, arith}
+use Rattle.std.proofs.Common.{append_assoc}
+use Rattle.std.specs.List.{flat_map, range_with_len}
+use Rattle.oxc_sourcemap_compiled.specs.Compiled.{group_of, no_block}
+use Rattle.oxc_sourcemap_compiled.proofs.Slices.{part-is, flat_map-more}
+use Rattle.oxc_sourcemap_compiled.proofs.writing.blocks.push_groups.Goals as goal
+
+pub push_group-requires : goal.push_group-requires
+push_group-requires c =
+    let fits = c.requires.blocks.each (c.loop-g.g / 16) no_block (omega (arith, c.loop-g-test.true, c.requires.blocks.count)) in record {
+      column = fits.column.width;
+      source = fits.source.width;
+      src_line = fits.src_line.width;
+      src_col = fits.src_col.width;
+      name = fits.name.width;
+    }
+
+pub loop-g-preserved : goal.loop-g-preserved
+loop-g-preserved c =
+    let tokens = c.args.tokens.now in
+    let blocks = c.args.blocks.now in
+    let g = c.loop-g.g in
+    let f = λ (g : ℕ). group_of (get_or blocks (g / 16) no_block) (take 4 (drop (4 * g) tokens)) in
+    let part = part-is tokens (4 * g) 4 c.min-end.result c.min-end.ensures in
+    c.in_ok-push_group.ensures ∙ ap (λ ts. c.loop-g.out.items ++ group_of (get_or blocks (g / 16) no_block) ts) part ∙ ap (λ xs. xs ++ f g) c.loop-g.invariant
+    ∙ append_assoc c.args.out.now.items (flat_map f (range_with_len 0 g)) (f g) ∙ ap (λ xs. c.args.out.now.items ++ xs) (sym (flat_map-more f g))

@@ -1,0 +1,44 @@
+-- The values of fields of tokens. Tokens stand in blocks of 64 and in groups of four. A group has the fields one after the other;
+-- four values of a field take a whole number of bytes, its width, and are numbers of twice as many bits, the first token's lowest.
+use Rattle.std.specs.Prelude.{ℕ, ◌+◌, ◌*◌, ◌/◌, ◌%◌, ◌^◌, ◌≤◌, List, length, take, drop, get_or}
+use Rattle.std.specs.Prelude.{min, sum, nat_le, if◌then◌else◌}
+use Rattle.oxc_sourcemap_compiled.specs.Numbers.{number_at}
+use Rattle.oxc_sourcemap_compiled.specs.Layout.{rows_base, groups_base}
+use Rattle.oxc_sourcemap_compiled.specs.declared.fields.Field.{Field}
+use Rattle.oxc_sourcemap_compiled.specs.declared.layout.Header.{Header}
+
+-- a field whose values have at most 32 bits
+pub record IsField (f : Field) : Type 0 where
+  pub width : f.width ≤ 16
+  pub stride : f.stride ≤ 1275
+  pub at : f.at ≤ 1099511627776
+
+-- the value of a field in a token, by the number of the token in its block; the least one where the group lies past the end
+unfoldable pub value_in : List ℕ → Field → ℕ → ℕ
+value_in bytes f j =
+    let at = f.at + j / 4 * f.stride in
+    let bits = 2 * f.width in
+    if nat_le (at + 16) (length bytes) then (f.least + number_at 16 bytes at / 2 ^ (bits * (j % 4)) % 2 ^ bits) % 2 ^ 32 else f.least
+
+-- where the row of a block lies: 4 bytes for where its groups begin, 4 for the least value of each field, 1 for each width
+abbrev pub row_base : Header → ℕ → ℕ
+row_base h b = rows_base h + 29 * b
+
+-- the widths of the five fields in a block
+abbrev pub widths_in : List ℕ → Header → ℕ → List ℕ
+widths_in bytes h b = take 5 (drop (row_base h b + 24) bytes)
+
+-- the field of this number in a block: 0 for columns, then sources, source lines, source columns and names
+unfoldable pub field_in : List ℕ → Header → ℕ → ℕ → Field
+field_in bytes h b k =
+    let widths = widths_in bytes h b in
+    record {
+      least = number_at 4 bytes (row_base h b + 4 + 4 * k);
+      at = groups_base h + number_at 4 bytes (row_base h b) + sum (take k widths);
+      stride = sum widths;
+      width = min (get_or widths k 0) 16;
+    }
+
+-- the value of a field of a token, by the number of the field and the index of the token
+abbrev pub value_of : List ℕ → Header → ℕ → ℕ → ℕ
+value_of bytes h k i = value_in bytes (field_in bytes h (i / 64) k) (i % 64)

@@ -1,0 +1,13 @@
+pub mod Compiled
+pub mod Cuts
+pub mod Decompiled
+pub mod Fields
+pub mod Layout
+pub mod Meaning
+pub mod Means
+pub mod Messages
+pub mod Numbers
+pub mod Opened
+pub mod Order
+pub mod Words
+pub mod Stored

@@ -1,0 +1,38 @@
+-- The words of this crate's clauses, from one place.
+pub use Rattle.oxc_sourcemap_compiled.specs.Compiled.{bytes_of, table, AreLinesOf, line_starts}
+pub use Rattle.oxc_sourcemap_compiled.specs.Compiled.{id_number, field_number, IsPacked, ArePacked}
+pub use Rattle.oxc_sourcemap_compiled.specs.Compiled.{AreBlocksOf, stride_of, group_bytes_of}
+pub use Rattle.oxc_sourcemap_compiled.specs.Compiled.{row_of}
+pub use Rattle.oxc_sourcemap_compiled.specs.Compiled.{rows_of, packed, group_of, above_in}
+pub use Rattle.oxc_sourcemap_compiled.specs.Compiled.{AreNarrow}
+pub use Rattle.oxc_sourcemap_compiled.specs.Compiled.{groups_of, ignored_of, AreCountsOf}
+pub use Rattle.oxc_sourcemap_compiled.specs.Compiled.{stored_text}
+pub use Rattle.oxc_sourcemap_compiled.specs.Compiled.{stored_count, text_offset, header_bytes}
+pub use Rattle.oxc_sourcemap_compiled.specs.Compiled.{parts_bytes, header_of_map, AreBytesOf}
+pub use Rattle.oxc_sourcemap_compiled.specs.Compiled.{listed_table, content_at, compiled_length}
+pub use Rattle.oxc_sourcemap_compiled.specs.Stored.{stored_bytes}
+pub use Rattle.oxc_sourcemap_compiled.specs.Cuts.{IsCut, DoNotFall}
+pub use Rattle.oxc_sourcemap_compiled.specs.Decompiled.{checked_texts, checked_contents}
+pub use Rattle.oxc_sourcemap_compiled.specs.Decompiled.{checked_text, checked_map, is_optional_utf8}
+pub use Rattle.oxc_sourcemap_compiled.specs.Fields.{IsField, value_in, field_in, value_of}
+pub use Rattle.oxc_sourcemap_compiled.specs.Layout.{header_in, layout_in, AreCounts, HasParts}
+pub use Rattle.oxc_sourcemap_compiled.specs.Layout.{block_count, text_count, compiled_fault}
+pub use Rattle.oxc_sourcemap_compiled.specs.Layout.{listed_count}
+pub use Rattle.oxc_sourcemap_compiled.specs.Meaning.{stored_id, token_in, start_in, number_in_list}
+pub use Rattle.oxc_sourcemap_compiled.specs.Meaning.{line_in, entry_begin, entry_end, entry_tokens}
+pub use Rattle.oxc_sourcemap_compiled.specs.Meaning.{tokens_in, offset_in, part_between, text_in}
+pub use Rattle.oxc_sourcemap_compiled.specs.Meaning.{optional_in, ignored_in, compiled_meaning}
+pub use Rattle.oxc_sourcemap_compiled.specs.Meaning.{compiled_in, listed_in, utf8_text, listed_text}
+pub use Rattle.oxc_sourcemap_compiled.specs.Meaning.{optional_text, ignore_list_in, map_in}
+pub use Rattle.oxc_sourcemap_compiled.specs.Means.{stored_map, compiled_of, FitsFormat}
+pub use Rattle.oxc_sourcemap_compiled.specs.Means.{CompiledMeansMap, CompiledIsInOrder}
+pub use Rattle.oxc_sourcemap_compiled.specs.Means.{CompiledLooksUp, StoredMeansMap}
+pub use Rattle.oxc_sourcemap_compiled.specs.Means.{CompiledIsTakenApart}
+pub use Rattle.oxc_sourcemap_compiled.specs.Messages.{compiled_error_text}
+pub use Rattle.oxc_sourcemap_compiled.specs.Numbers.{number_at}
+pub use Rattle.oxc_sourcemap_compiled.specs.Opened.{IsOpened}
+pub use Rattle.oxc_sourcemap_compiled.specs.Order.{columns_in, column_of, least_column_of}
+pub use Rattle.oxc_sourcemap_compiled.specs.Order.{AreRowsExact}
+pub use Rattle.oxc_sourcemap_compiled.specs.Order.{IsInEntry, IsSpan, IsUpToEnd, AreColumnsOf}
+pub use Rattle.oxc_sourcemap_compiled.specs.Order.{AreInOrder, IsInOrder, IsOn, IsOnLine}
+pub use Rattle.oxc_sourcemap_compiled.specs.Order.{IsTokenAt, IsTokenOn}

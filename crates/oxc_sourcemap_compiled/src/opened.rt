@@ -1,0 +1,246 @@
+//! What is opened: bytes, and where the parts of the map lie in them.
+ghost use Rattle.std.specs.Prelude.{◌≡◌, ◌+◌, ◌*◌, ◌≤◌, ◌<◌, length, sum, take, IfOk, IfErr, None};
+ghost use Rattle.std.specs.Prelude.{true};
+ghost use Rattle.std.specs.Prelude.{Some};
+ghost use Rattle.oxc_sourcemap_tokens.specs.Results.{lent_item};
+ghost use Rattle.oxc_sourcemap_compiled.specs.Words.{IsOpened, IsField, block_count, text_count};
+ghost use Rattle.oxc_sourcemap_compiled.specs.Words.{field_in, value_of, token_in, start_in};
+ghost use Rattle.oxc_sourcemap_compiled.specs.Words.{ignored_in, text_in, optional_in, offset_in};
+ghost use Rattle.oxc_sourcemap_compiled.specs.Words.{part_between, stored_id, compiled_fault};
+ghost use Rattle.oxc_sourcemap_compiled.specs.Words.{number_in_list, listed_in};
+ghost use Rattle.std.specs.List.{range_with_len, Contains};
+ghost use Rattle.std.specs.Prelude.{map, IsTrue, ◌↔◌};
+
+use crate::errors::CompiledError;
+use crate::fields::Field;
+use crate::layout::{Header, Layout, checked_header, layout_of};
+use crate::numbers::u32_at;
+use oxc_sourcemap_tokens::Token;
+
+/// Bytes, and where the parts of the map lie in them.
+#[derive(Clone, Copy)]
+pub(crate) struct Opened<'a> {
+    pub(crate) bytes: &'a [u8],
+    pub(crate) header: Header,
+    pub(crate) layout: Layout,
+}
+
+/// The sum of the first of five widths.
+fn width_before(widths: &[u8], k: usize) -> usize
+    requires five { length widths.now ≡ 5 }
+    requires few { k < 5 }
+    ensures value { result ≡ sum (take k widths.now) }
+    ensures small { result ≤ 1020 }
+{
+    let one = usize::from(widths[0]);
+    let two = one + usize::from(widths[1]);
+    let three = two + usize::from(widths[2]);
+    match k {
+        0 => 0,
+        1 => one,
+        2 => two,
+        3 => three,
+        _ => three + usize::from(widths[3]),
+    }
+}
+
+/// The sum of five widths.
+fn width_of_all(widths: &[u8]) -> usize
+    requires five { length widths.now ≡ 5 }
+    ensures value { result ≡ sum widths.now }
+    ensures small { result ≤ 1275 }
+{
+    let front = usize::from(widths[0]) + usize::from(widths[1]) + usize::from(widths[2]);
+    front + usize::from(widths[3]) + usize::from(widths[4])
+}
+
+/// The id that a stored number stands for: it is one more, and 0 for none.
+fn id_from(stored: u32) -> Option<u32>
+    ensures { result ≡ stored_id stored }
+{
+    stored.checked_sub(1)
+}
+
+/// The part of bytes from one index to another; None where they have none.
+#[tactic(auto, unfolding(crate::specs::Meaning::part_between))]
+fn part_between(all: &[u8], start: usize, end: usize) -> Option<&[u8]>
+    ensures { lent_item result ≡ part_between all.now start end }
+{
+    if start <= end && end <= all.len() {
+        Some(&all[start..end])
+    } else {
+        None
+    }
+}
+
+impl<'a> Opened<'a> {
+    pub(crate) fn open(bytes: &'a [u8]) -> Result<Opened<'a>, CompiledError>
+        ensures error { IfErr result (λ e. compiled_fault bytes.now ≡ Some e) }
+        ensures fine { IfOk result (λ o. compiled_fault bytes.now ≡ None) }
+        ensures opened { IfOk result IsOpened }
+        ensures bytes { IfOk result (λ o. o.bytes.now ≡ bytes.now) }
+    {
+        match checked_header(bytes) {
+            Ok(header) => {
+                let layout = layout_of(&header);
+                Ok(Opened {
+                    bytes,
+                    header,
+                    layout,
+                })
+            }
+            Err(error) => Err(error),
+        }
+    }
+
+    /// Where the tokens of an entry of lines begin, or those of the last one end.
+    #[inline(always)]
+    pub(crate) fn line_start(&self, k: usize) -> usize
+        requires opened { IsOpened self.now }
+        requires there { k ≤ self.now.header.lines }
+        ensures value { result ≡ start_in self.now.bytes.now k }
+        ensures small { result ≤ 4294967295 }
+    {
+        u32_at(self.bytes, 88 + 4 * k) as usize
+    }
+
+    /// The number of the line of an entry, where these are listed.
+    #[inline(always)]
+    pub(crate) fn line_number(&self, k: usize) -> u32
+        requires opened { IsOpened self.now }
+        requires listed { self.now.header.has_line_numbers ≡ true }
+        requires there { k < self.now.header.lines }
+        ensures { result ≡ number_in_list self.now.bytes.now self.now.header k }
+    {
+        u32_at(self.bytes, self.layout.line_numbers + 4 * k)
+    }
+
+    /// A field of a block, by its number.
+    #[inline(always)]
+    #[tactic(auto, unfolding(crate::specs::Fields::field_in))]
+    pub(crate) fn field(&self, b: usize, k: usize) -> Field
+        requires opened { IsOpened self.now }
+        requires there { b < block_count self.now.header }
+        requires few { k < 5 }
+        ensures field { IsField result }
+        ensures value { result ≡ field_in self.now.bytes.now self.now.header b k }
+    {
+        let bytes = self.bytes;
+        let row = self.layout.rows + 29 * b;
+        let widths = &bytes[row + 24..row + 29];
+        Field {
+            least: u32_at(bytes, row + 4 + 4 * k),
+            at: self.layout.groups + u32_at(bytes, row) as usize + width_before(widths, k),
+            stride: width_of_all(widths),
+            width: usize::from(widths[k]).min(16),
+        }
+    }
+
+    /// The value of a field of a token, by the number of the field.
+    #[inline(always)]
+    pub(crate) fn value(&self, k: usize, i: usize) -> u32
+        requires opened { IsOpened self.now }
+        requires few { k < 5 }
+        requires there { i < self.now.header.tokens }
+        ensures { result ≡ value_of self.now.bytes.now self.now.header k i }
+    {
+        self.field(i / 64, k).value(self.bytes, i % 64)
+    }
+
+    /// The token at an index, on this line.
+    #[tactic(auto, unfolding(crate::specs::Meaning::token_in))]
+    pub(crate) fn token_on(&self, line: u32, i: usize) -> Token
+        requires opened { IsOpened self.now }
+        requires there { i < self.now.header.tokens }
+        ensures { result ≡ token_in self.now.bytes.now self.now.header line i }
+    {
+        let source_id = id_from(self.value(1, i));
+        let name_id = id_from(self.value(4, i));
+        Token::new(
+            line,
+            self.value(0, i),
+            self.value(2, i),
+            self.value(3, i),
+            source_id,
+            name_id,
+        )
+    }
+
+    /// An entry of the ignore list.
+    pub(crate) fn ignored_at(&self, i: usize) -> u32
+        requires opened { IsOpened self.now }
+        requires there { i < self.now.header.ignored }
+        ensures { result ≡ ignored_in self.now.bytes.now self.now.header i }
+    {
+        u32_at(self.bytes, self.layout.ignored + 4 * i)
+    }
+
+    /// Whether the ignore list has this id of a source.
+    pub(crate) fn has_ignored(&self, id: u32) -> bool
+        requires opened { IsOpened self.now }
+        ensures { IsTrue result ↔ Contains (map (ignored_in self.now.bytes.now self.now.header)
+            (range_with_len 0 self.now.header.ignored)) id }
+    {
+        for i in 0..self.header.ignored {
+            if self.ignored_at(i) == id {
+                return true;
+            }
+        }
+        false
+    }
+
+    /// Where a text begins in the last part, or the last one ends.
+    #[inline(always)]
+    fn offset(&self, t: usize) -> usize
+        requires opened { IsOpened self.now }
+        requires there { t ≤ text_count self.now.header }
+        ensures value { result ≡ offset_in self.now.bytes.now self.now.header t }
+        ensures small { result ≤ 4294967295 }
+    {
+        u32_at(self.bytes, self.layout.offsets + 4 * t) as usize
+    }
+
+    /// A text by its number among all.
+    pub(crate) fn text(&self, t: usize) -> Option<&'a [u8]>
+        requires opened { IsOpened self.now }
+        requires there { t < text_count self.now.header }
+        ensures { lent_item result ≡ text_in self.now.bytes.now self.now.header t }
+    {
+        let bytes = self.bytes;
+        part_between(
+            &bytes[self.layout.texts..],
+            self.offset(t),
+            self.offset(t + 1),
+        )
+    }
+
+    /// The text of a source or a name, by its number among all; empty where the bytes have none.
+    pub(crate) fn listed_text(&self, t: usize) -> &'a [u8]
+        requires opened { IsOpened self.now }
+        requires there { t < text_count self.now.header }
+        ensures { result.now ≡ listed_in self.now.bytes.now self.now.header t }
+    {
+        match self.text(t) {
+            Some(text) => text,
+            None => &[],
+        }
+    }
+
+    /// A text that may be absent, by its number among all.
+    pub(crate) fn optional_text(&self, t: usize) -> Option<&'a [u8]>
+        requires opened { IsOpened self.now }
+        requires there { t < text_count self.now.header }
+        ensures { lent_item result ≡ optional_in self.now.bytes.now self.now.header t }
+    {
+        match self.text(t) {
+            Some(text) => {
+                if text.is_empty() {
+                    None
+                } else {
+                    Some(&text[1..])
+                }
+            }
+            None => None,
+        }
+    }
+}

@@ -1,0 +1,265 @@
+//! Searches by halving: of a line, of a block, and of a token in a block. `steps` counts the numbers that are compared.
+ghost use Rattle.std.specs.Prelude.{◌≡◌, ◌+◌, ◌*◌, ◌/◌, ◌≤◌, ◌<◌, ℕ, true, nat_lt, if◌then◌else◌};
+ghost use Rattle.std.specs.Prelude.{IfSome, IsNone, ◌≢◌, slice_get};
+ghost use Rattle.oxc_sourcemap_compiled.specs.Words.{IsOpened, IsField, IsCut, DoNotFall};
+ghost use Rattle.oxc_sourcemap_compiled.specs.Words.{AreRowsExact};
+ghost use Rattle.oxc_sourcemap_compiled.specs.Words.{value_in, column_of, least_column_of};
+ghost use Rattle.oxc_sourcemap_compiled.specs.Words.{block_count};
+ghost use Rattle.oxc_sourcemap_compiled.specs.Words.{number_in_list, line_in, AreInOrder, start_in};
+ghost use Rattle.oxc_sourcemap_compiled.specs.Words.{tokens_in, IsTokenAt};
+ghost use Rattle.oxc_sourcemap_lookup.specs.Words.{binary_digits};
+ghost use Rattle.std.specs.Prelude.{◌-◌};
+
+use crate::fields::Field;
+use crate::opened::Opened;
+use oxc_sourcemap_tokens::Token;
+
+/// All binary digits set if x is less than y, else 0.
+fn mask_if_less(x: u32, y: u64) -> usize
+    ensures { result ≡ (if nat_lt x y then 18446744073709551615 else 0) }
+{
+    (u128::from(x).wrapping_sub(u128::from(y)) >> 64) as usize
+}
+
+/// `count` if x is less than y, else 0; without a branch, which would often be mispredicted. One call is one step of a search.
+fn count_if_less(x: u32, y: u64, count: usize, steps: &mut u64) -> usize
+    requires { steps.old ≤ 4294967295 }
+    ensures value { result ≡ (if nat_lt x y then count else 0) }
+    ensures counted { steps.new ≡ steps.old + 1 }
+{
+    *steps += 1;
+    count & mask_if_less(x, y)
+}
+
+impl Field {
+    /// Where the values of the field stop being below `limit`, among `count` tokens of the block from `first` on.
+    #[inline(always)]
+    fn cut(&self, bytes: &[u8], first: usize, count: usize, limit: u64, steps: &mut u64) -> usize
+        requires field { IsField self.now }
+        requires there { first + count ≤ 64 }
+        requires few { steps.old ≤ 65535 }
+        ensures counted { steps.new ≡ steps.old + binary_digits count }
+        ensures few { steps.new ≤ steps.old + 7 }
+        ensures reached { first ≤ result }
+        ensures within { result ≤ first + count }
+        ensures cut { (cut : ℕ)
+            → IsCut (value_in bytes.now self.now) limit first (first + count) cut
+            → result ≡ cut }
+    {
+        let mut start = first;
+        let mut size = count;
+        while size > 0 {
+            let half = size / 2;
+            let step = size - half;
+            start += count_if_less(self.value(bytes, start + step - 1), limit, step, steps);
+            size = half;
+        }
+        start
+    }
+}
+
+impl<'a> Opened<'a> {
+    /// The least column of a block.
+    #[inline(always)]
+    fn least_column(&self, b: usize) -> u32
+        requires opened { IsOpened self.now }
+        requires there { b < block_count self.now.header }
+        ensures { result ≡ least_column_of self.now.bytes.now self.now.header b }
+    {
+        crate::numbers::u32_at(self.bytes, self.layout.rows + 29 * b + 4)
+    }
+
+    /// Where the least columns of blocks stop being below `limit`, among `count` blocks from `first` on.
+    #[inline(always)]
+    fn block_cut(&self, first: usize, count: usize, limit: u64, steps: &mut u64) -> usize
+        requires opened { IsOpened self.now }
+        requires there { first + count ≤ block_count self.now.header }
+        requires few { steps.old ≤ 65535 }
+        ensures counted { steps.new ≡ steps.old + binary_digits count }
+        ensures few { steps.new ≤ steps.old + 32 }
+        ensures reached { first ≤ result }
+        ensures within { result ≤ first + count }
+        ensures cut { (cut : ℕ) → IsCut (least_column_of self.now.bytes.now self.now.header)
+            limit first (first + count) cut → result ≡ cut }
+    {
+        let mut start = first;
+        let mut size = count;
+        while size > 0 {
+            let half = size / 2;
+            let step = size - half;
+            start += count_if_less(self.least_column(start + step - 1), limit, step, steps);
+            size = half;
+        }
+        start
+    }
+
+    /// The block in which the columns of tokens stop being below `limit`, or whose last token is the last below it, among the
+    /// tokens from `first` to before `end`. With the halving of some tokens of the block, few more steps are taken than there are
+    /// binary digits in the number of tokens.
+    #[inline(always)]
+    fn block_with_cut(&self, first: usize, end: usize, limit: u64, steps: &mut u64) -> usize
+        requires opened { IsOpened self.now }
+        requires some { first < end }
+        requires there { end ≤ self.now.header.tokens }
+        requires few { steps.old ≤ 256 }
+        ensures few { steps.new ≤ steps.old + 33 }
+        ensures counted { (count : ℕ) → count ≤ 64 → count ≤ end - first
+            → steps.new + binary_digits count ≤ steps.old + binary_digits (end - first) + 2 }
+        ensures reached { first / 64 ≤ result }
+        ensures within { 64 * result < end }
+        ensures cut { AreRowsExact self.now.bytes.now self.now.header
+            → DoNotFall (column_of self.now.bytes.now self.now.header) first end → (cut : ℕ)
+            → IsCut (column_of self.now.bytes.now self.now.header) limit first end cut
+            → (64 * result ≤ cut) × (cut ≤ 64 * result + 64) }
+    {
+        let front = first / 64;
+        let last = (end - 1) / 64;
+        if front == last {
+            return front;
+        }
+        let block = self.block_cut(front + 1, last - front - 1, limit, steps) - 1;
+        *steps += 1;
+        if block + 1 == last && u64::from(self.value(0, 64 * last)) < limit {
+            last
+        } else {
+            block
+        }
+    }
+
+    /// Where the columns of tokens stop being below `limit`, among the tokens from `first` to before `end`.
+    #[inline(always)]
+    pub(crate) fn column_cut(&self, first: usize, end: usize, limit: u64, steps: &mut u64) -> usize
+        requires opened { IsOpened self.now }
+        requires order { first ≤ end }
+        requires there { end ≤ self.now.header.tokens }
+        requires few { steps.old ≤ 256 }
+        ensures counted { steps.new ≤ steps.old + binary_digits (end - first) + 2 }
+        ensures few { steps.new ≤ steps.old + 40 }
+        ensures reached { first ≤ result }
+        ensures within { result ≤ end }
+        ensures cut { AreRowsExact self.now.bytes.now self.now.header
+            → DoNotFall (column_of self.now.bytes.now self.now.header) first end → (cut : ℕ)
+            → IsCut (column_of self.now.bytes.now self.now.header) limit first end cut
+            → result ≡ cut }
+    {
+        if first == end {
+            return first;
+        }
+        let block = self.block_with_cut(first, end, limit, steps);
+        let base = 64 * block;
+        let start = base.max(first) - base;
+        let stop = (base + 64).min(end) - base;
+        base + self
+            .field(block, 0)
+            .cut(self.bytes, start, stop - start, limit, steps)
+    }
+
+    /// Where the numbers of lines stop being below `line`.
+    #[inline(always)]
+    fn line_cut(&self, line: u32, steps: &mut u64) -> usize
+        requires opened { IsOpened self.now }
+        requires listed { self.now.header.has_line_numbers ≡ true }
+        requires few { steps.old ≡ 0 }
+        ensures counted { steps.new ≡ binary_digits self.now.header.lines }
+        ensures few { steps.new ≤ 32 }
+        ensures within { result ≤ self.now.header.lines }
+        ensures cut { (cut : ℕ) → IsCut (number_in_list self.now.bytes.now self.now.header) line 0
+            self.now.header.lines cut → result ≡ cut }
+    {
+        let mut start = 0;
+        let mut size = self.header.lines;
+        while size > 0 {
+            let half = size / 2;
+            let step = size - half;
+            start += count_if_less(
+                self.line_number(start + step - 1),
+                u64::from(line),
+                step,
+                steps,
+            );
+            size = half;
+        }
+        start
+    }
+
+    /// The entry of a line; None if there is none, or where numbers of lines are not in order. `steps` is set.
+    #[inline(always)]
+    pub(crate) fn entry(&self, line: u32, steps: &mut u64) -> Option<usize>
+        requires opened { IsOpened self.now }
+        ensures counted { steps.new ≤ binary_digits self.now.header.lines + 1 }
+        ensures few { steps.new ≤ 33 }
+        ensures there { IfSome result (λ k. k < self.now.header.lines) }
+        ensures line_is { IfSome result (λ k. line_in self.now.bytes.now self.now.header k ≡ line) }
+        ensures none { IsNone result → AreInOrder self.now.bytes.now self.now.header → (k : ℕ)
+            → k < self.now.header.lines → line_in self.now.bytes.now self.now.header k ≢ line }
+    {
+        *steps = 0;
+        let lines = self.header.lines;
+        if !self.header.has_line_numbers {
+            let k = line as usize;
+            return if k < lines { Some(k) } else { None };
+        }
+        let k = self.line_cut(line, steps);
+        *steps += 1;
+        if k < lines && self.line_number(k) == line {
+            Some(k)
+        } else {
+            None
+        }
+    }
+}
+
+impl<'a> Opened<'a> {
+    /// How many entries of lines end up to this token, found by halving.
+    #[inline(always)]
+    fn entry_cut(&self, i: usize) -> usize
+        requires opened { IsOpened self.now }
+        ensures within { result ≤ self.now.header.lines }
+        ensures cut { (cut : ℕ) → IsCut (λ k. start_in self.now.bytes.now (k + 1)) (i + 1) 0
+            self.now.header.lines cut → result ≡ cut }
+    {
+        let mut start = 0;
+        let mut size = self.header.lines;
+        while size > 0 {
+            let half = size / 2;
+            let step = size - half;
+            if self.line_start(start + step) <= i {
+                start += step;
+            }
+            size = half;
+        }
+        start
+    }
+
+    /// The line of an entry.
+    #[inline(always)]
+    pub(crate) fn line_of(&self, k: usize) -> u32
+        requires opened { IsOpened self.now }
+        requires there { k < self.now.header.lines }
+        ensures { result ≡ line_in self.now.bytes.now self.now.header k }
+    {
+        if self.header.has_line_numbers {
+            self.line_number(k)
+        } else {
+            k as u32
+        }
+    }
+
+    /// The token at an index; None past the last one, or where lines are not in order and no line has it.
+    pub(crate) fn token(&self, i: usize) -> Option<Token>
+        requires opened { IsOpened self.now }
+        ensures found { AreInOrder self.now.bytes.now self.now.header
+            → result ≡ slice_get (tokens_in self.now.bytes.now self.now.header) i }
+        ensures among { IfSome result (IsTokenAt self.now.bytes.now self.now.header i) }
+    {
+        if i >= self.header.tokens {
+            return None;
+        }
+        let k = self.entry_cut(i);
+        if k < self.header.lines {
+            Some(self.token_on(self.line_of(k), i))
+        } else {
+            None
+        }
+    }
+}

@@ -1,0 +1,280 @@
+//! Blocks of 64 tokens: their rows, and their groups of four.
+ghost use Rattle.std.specs.Prelude.{◌≡◌, ◌≤◌, ◌<◌, ◌+◌, ◌-◌, ◌*◌, ◌/◌, ◌^◌, ℕ, IfOk, OnOk, length};
+ghost use Rattle.std.specs.Prelude.{get_or};
+ghost use Rattle.std.specs.Prelude.{◌++◌, take, drop};
+ghost use Rattle.oxc_sourcemap_compiled.specs.Words.{field_number, IsPacked, ArePacked};
+ghost use Rattle.oxc_sourcemap_compiled.specs.Words.{AreBlocksOf};
+ghost use Rattle.oxc_sourcemap_compiled.specs.Words.{bytes_of, stride_of, rows_of, packed};
+ghost use Rattle.oxc_sourcemap_compiled.specs.Words.{group_of};
+ghost use Rattle.oxc_sourcemap_compiled.specs.Words.{group_bytes_of, id_number, row_of, above_in};
+ghost use Rattle.oxc_sourcemap_compiled.specs.Words.{AreNarrow};
+ghost use Rattle.oxc_sourcemap_compiled.specs.Words.{groups_of};
+ghost use Rattle.oxc_sourcemap_tokens.specs.Results.{lent_item};
+ghost use Rattle.std.specs.Prelude.{IfSome};
+ghost use Rattle.std.specs.List.{All};
+
+use crate::writing::pushing::{push_number, push_u32};
+use oxc_sourcemap_tokens::{Memory, Token};
+use std::alloc::Global;
+
+/// How a field of the tokens of a block is written: what is taken from each value, and how many bytes four of them take.
+#[derive(Clone, Copy)]
+pub(crate) struct Packing {
+    least: u32,
+    width: u8,
+}
+
+/// How the five fields of the tokens of a block are written.
+#[derive(Clone, Copy)]
+pub(crate) struct Block {
+    column: Packing,
+    source: Packing,
+    src_line: Packing,
+    src_col: Packing,
+    name: Packing,
+}
+
+/// An id as it is stored: one more, and 0 for none.
+fn stored_id(id: Option<u32>) -> u32
+    requires { IfSome id (λ n. n < 4294967295) }
+    ensures { result ≡ id_number id }
+{
+    match id {
+        Some(id) => id + 1,
+        None => 0,
+    }
+}
+
+/// A field of a token, by its number.
+fn field_of(token: &Token, k: usize) -> u32
+    requires { k < 5 }
+    ensures { result ≡ field_number k token.now }
+{
+    match k {
+        0 => token.get_dst_col(),
+        1 => stored_id(token.get_source_id()),
+        2 => token.get_src_line(),
+        3 => token.get_src_col(),
+        _ => stored_id(token.get_name_id()),
+    }
+}
+
+/// How many bytes four numbers take that are at most this one.
+fn width_of(most: u32) -> u8
+    ensures fits { most < 2 ^ (2 * result) }
+    ensures small { result ≤ 16 }
+{
+    match most {
+        0 => 0,
+        1..=3 => 1,
+        4..=15 => 2,
+        16..=63 => 3,
+        64..=255 => 4,
+        256..=1023 => 5,
+        1024..=4095 => 6,
+        4096..=16383 => 7,
+        16384..=65535 => 8,
+        65536..=262143 => 9,
+        262144..=1048575 => 10,
+        1048576..=4194303 => 11,
+        4194304..=16777215 => 12,
+        16777216..=67108863 => 13,
+        67108864..=268435455 => 14,
+        268435456..=1073741823 => 15,
+        _ => 16,
+    }
+}
+
+/// How a field of these tokens is written.
+fn packing_of(tokens: &[Token], k: usize) -> Packing
+    requires field { k < 5 }
+    requires some { 0 < length tokens.now }
+    ensures { IsPacked k tokens.now result }
+{
+    let mut least = field_of(&tokens[0], k);
+    let mut most = least;
+    for token in tokens {
+        let value = field_of(token, k);
+        least = least.min(value);
+        most = most.max(value);
+    }
+    Packing {
+        least,
+        width: width_of(most - least),
+    }
+}
+
+/// How the fields of these tokens are written.
+fn block_of(tokens: &[Token]) -> Block
+    requires { 0 < length tokens.now }
+    ensures { ArePacked tokens.now result }
+{
+    Block {
+        column: packing_of(tokens, 0),
+        source: packing_of(tokens, 1),
+        src_line: packing_of(tokens, 2),
+        src_col: packing_of(tokens, 3),
+        name: packing_of(tokens, 4),
+    }
+}
+
+/// The blocks of these tokens.
+pub(crate) fn blocks_of(alloc: Global, tokens: &[Token]) -> Memory<Vec<Block>>
+    requires { length tokens.now ≤ 4294967295 }
+    ensures { IfOk result (λ blocks. AreBlocksOf tokens.now blocks.items) }
+{
+    let count = (tokens.len() + 63) / 64;
+    let mut blocks = Vec::with_capacity(alloc, count)?;
+    for b in 0..count {
+        let end = (64 * b + 64).min(tokens.len());
+        blocks.push(block_of(&tokens[64 * b..end]))?;
+    }
+    Ok(blocks)
+}
+
+/// How many bytes a group takes.
+fn stride(block: &Block) -> usize
+    requires { AreNarrow block.now }
+    ensures value { result ≡ stride_of block.now }
+    ensures small { result ≤ 80 }
+{
+    usize::from(block.column.width)
+        + usize::from(block.source.width)
+        + usize::from(block.src_line.width)
+        + usize::from(block.src_col.width)
+        + usize::from(block.name.width)
+}
+
+/// How many bytes all groups take.
+pub(crate) fn group_bytes(blocks: &[Block], groups: usize) -> usize
+    requires few { length blocks.now ≤ 67108864 }
+    requires narrow { All AreNarrow blocks.now }
+    ensures value { result ≡ group_bytes_of groups blocks.now }
+    ensures small { result ≤ 85899345920 }
+{
+    let mut sum = 0;
+    let mut rest = groups;
+    for block in blocks {
+        sum += rest.min(16) * stride(block);
+        rest = rest.saturating_sub(16);
+    }
+    sum
+}
+
+/// Appends the row of a block, whose groups begin at this place.
+fn push_row(out: &mut Vec<u8>, block: &Block, place: usize) -> Memory<()>
+    ensures { OnOk result (out.new.items ≡ out.old.items ++ row_of place block.now) }
+{
+    let block = *block;
+    push_u32(out, place)?;
+    push_u32(out, block.column.least as usize)?;
+    push_u32(out, block.source.least as usize)?;
+    push_u32(out, block.src_line.least as usize)?;
+    push_u32(out, block.src_col.least as usize)?;
+    push_u32(out, block.name.least as usize)?;
+    out.push(block.column.width)?;
+    out.push(block.source.width)?;
+    out.push(block.src_line.width)?;
+    out.push(block.src_col.width)?;
+    out.push(block.name.width)?;
+    Ok(())
+}
+
+/// Appends the rows of blocks.
+pub(crate) fn push_rows(out: &mut Vec<u8>, blocks: &[Block], groups: usize) -> Memory<()>
+    requires few { length blocks.now ≤ 67108864 }
+    requires narrow { All AreNarrow blocks.now }
+    ensures { OnOk result (out.new.items ≡ out.old.items ++ rows_of 0 groups blocks.now) }
+{
+    let mut place = 0;
+    let mut rest = groups;
+    for block in blocks {
+        push_row(out, block, place)?;
+        place += rest.min(16) * stride(block);
+        rest = rest.saturating_sub(16);
+    }
+    Ok(())
+}
+
+/// What is written of a field in a token; 0 where there is none.
+fn above(token: Option<&Token>, k: usize, packing: Packing) -> u32
+    requires { k < 5 }
+    ensures { result ≡ above_in k packing (lent_item token.entry) }
+{
+    match token {
+        Some(token) => field_of(token, k).saturating_sub(packing.least),
+        None => 0,
+    }
+}
+
+/// A number with another one above it.
+fn with_above(low: u32, factor: u128, high: u128) -> u128
+    requires factor { factor ≤ 4294967296 }
+    requires high { high < 79228162514264337593543950336 }
+    ensures value { result ≡ low + factor * high }
+    ensures small { (limit : ℕ) → high < limit → result < 4294967296 * limit }
+{
+    u128::from(low) + factor * high
+}
+
+/// The values of a field in up to four tokens, in one number.
+fn packed_values(tokens: &[Token], k: usize, packing: Packing) -> u128
+    requires field { k < 5 }
+    requires width { packing.width ≤ 16 }
+    ensures { result ≡ packed k packing tokens.now }
+{
+    let factor = factor_of(packing.width);
+    let three = above(tokens.get(3), k, packing);
+    let two = with_above(above(tokens.get(2), k, packing), factor, u128::from(three));
+    let one = with_above(above(tokens.get(1), k, packing), factor, two);
+    with_above(above(tokens.first(), k, packing), factor, one)
+}
+
+/// By what a value is above the one before it: how many values there are of twice as many bits as the width.
+fn factor_of(width: u8) -> u128
+    requires { width ≤ 16 }
+    ensures value { result ≡ 2 ^ (2 * width) }
+    ensures small { result ≤ 4294967296 }
+{
+    1 << (2 * u32::from(width))
+}
+
+/// Appends a group of up to four tokens.
+fn push_group(out: &mut Vec<u8>, block: &Block, tokens: &[Token]) -> Memory<()>
+    requires { AreNarrow block.now }
+    ensures { OnOk result (out.new.items ≡ out.old.items ++ group_of block.now tokens.now) }
+{
+    let block = *block;
+    push_field(out, tokens, 0, block.column)?;
+    push_field(out, tokens, 1, block.source)?;
+    push_field(out, tokens, 2, block.src_line)?;
+    push_field(out, tokens, 3, block.src_col)?;
+    push_field(out, tokens, 4, block.name)
+}
+
+/// Appends a field of a group.
+fn push_field(out: &mut Vec<u8>, tokens: &[Token], k: usize, packing: Packing) -> Memory<()>
+    requires field { k < 5 }
+    requires width { packing.width ≤ 16 }
+    ensures { OnOk result (out.new.items
+        ≡ out.old.items ++ bytes_of packing.width (packed k packing tokens.now)) }
+{
+    push_number(
+        out,
+        packed_values(tokens, k, packing),
+        usize::from(packing.width),
+    )
+}
+
+/// Appends the groups of all tokens.
+pub(crate) fn push_groups(out: &mut Vec<u8>, blocks: &[Block], tokens: &[Token]) -> Memory<()>
+    requires few { length tokens.now ≤ 4294967295 }
+    requires blocks { AreBlocksOf tokens.now blocks.now }
+    ensures { OnOk result (out.new.items ≡ out.old.items ++ groups_of blocks.now tokens.now) }
+{
+    for g in 0..(tokens.len() + 3) / 4 {
+        let end = (4 * g + 4).min(tokens.len());
+        push_group(out, &blocks[g / 16], &tokens[4 * g..end])?;
+    }
+    Ok(())
+}

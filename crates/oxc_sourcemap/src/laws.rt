@@ -1,6 +1,7 @@
 //! Laws of the definitions. Each is a function that does nothing: its contract is the law, and a caller gets it by calling the
 //! function. All but `tokens_in_bounds` have no parameters, result or body.
 
+pub use oxc_sourcemap_compiled::compiled_means_map;
 pub use oxc_sourcemap_found::mending_harmless;
 pub use oxc_sourcemap_laws::{
     canonical_unique, comment_is_cut, composition_associative, data_urls_read_back,

@@ -14,6 +14,7 @@ pub use decoding::{decode, decode_from_string, decode_value};
 pub use encoding::{encode, encode_to_string};
 pub use evaluation::evaluate;
 pub use finding::{Found, read_found};
+pub use oxc_sourcemap_compiled::{CompiledError, CompiledMap, CompiledOriginal, compile};
 pub use oxc_sourcemap_found::{Mend, MendKind, fault_reason, found_fault_at};
 pub use oxc_sourcemap_json::{
     FaultReason, JSONSourceMap, encode_mappings_within, file_from_value, json_fault_at,
@@ -21,7 +22,7 @@ pub use oxc_sourcemap_json::{
 };
 pub use oxc_sourcemap_map::{
     ConcatSourceMapBuilder, IndexTokens, OwnedSourceMap, SourceIndex, SourceMap, SourceMapBuilder,
-    SourceViewToken, SourcemapVisualizer, ViewTokens,
+    SourceViewToken, SourcemapVisualizer, ViewTokens, parts_of,
 };
 pub use oxc_sourcemap_mappings::{
     SegmentReason, decode_mappings, encode_chunk, encode_mappings, mappings_fault_at,

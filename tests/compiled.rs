@@ -1,7 +1,6 @@
 //! Compiled maps: the map that was compiled is in the bytes, and bytes that were damaged are refused or answer something.
 use crate::helpers::same;
-use oxc_sourcemap::{SourceMapParts, Token};
-use oxc_sourcemap_compiled::{CompiledError, CompiledMap, compile};
+use oxc_sourcemap::{CompiledError, CompiledMap, SourceMapParts, Token, compile};
 use std::alloc::{AllocError, Global};
 use std::borrow::CowStr;
 use std::process::Abort;

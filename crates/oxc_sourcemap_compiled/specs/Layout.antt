@@ -80,7 +80,7 @@ pub record HasParts (size : ℕ) (h : Header) : Type 0 where
   pub room : texts_base h + 16 ≤ size
 
 -- Why bytes are not a compiled map, the first reason: they do not begin with "smap" and four bytes more, the version is not 1,
--- there is no whole header or another number of bytes than it says, or the parts do not fit. None if they are one.
+-- there are fewer than 104 bytes or another number than the header says, or the parts do not fit. None if they are one.
 unfoldable pub compiled_fault : List ℕ → Option CompiledError
 compiled_fault bytes =
     if nat_lt (length bytes) 8 || not (number_at 4 bytes 0 == 1885433203) then Some NotCompiled

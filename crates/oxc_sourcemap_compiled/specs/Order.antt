@@ -77,7 +77,7 @@ IsOnLine bytes h line i = (k : ℕ) × IsOn bytes h line i k
 
 -- a token is that of an index, on a line of some entry
 abbrev pub IsTokenAt : List ℕ → Header → ℕ → TokenRecord → Type 0
-IsTokenAt bytes h i t = (k : ℕ) × (k < h.lines) × (t ≡ token_in bytes h (line_in bytes h k) i)
+IsTokenAt bytes h i t = (k : ℕ) × (k < h.lines) × (i < h.tokens) × (t ≡ token_in bytes h (line_in bytes h k) i)
 
 -- a token is on a line: it is that of an index that an entry of this line has
 abbrev pub IsTokenOn : List ℕ → Header → ℕ → TokenRecord → Type 0

@@ -7,13 +7,13 @@ use std::fmt;
 /// Why bytes are not a compiled map. The first that holds, in this order, is reported.
 #[derive(Clone, Copy, Debug, PartialEq, Eq)]
 pub enum CompiledError {
-    /// The bytes do not begin as a compiled map does.
+    /// The bytes do not begin as a compiled map does, or are fewer than 8.
     NotCompiled,
     /// The bytes are a compiled map of this version, and not of version 1.
     Version(u32),
-    /// There are fewer or more bytes than the header says, as where a file is cut.
+    /// There are fewer or more bytes than the header says, as where a file is cut, or fewer than 104.
     Length,
-    /// The parts that the header counts take more bytes than there are.
+    /// The parts that the header counts, and the 16 bytes at the end, take more bytes than there are.
     Sizes,
 }
 

@@ -50,7 +50,7 @@ pub struct CompiledOriginal<'a> {
     pub src_line: u32,
     /// The column in the source.
     pub src_col: u32,
-    /// The name; None without one, or where its id is past the last name.
+    /// The name; None without one, where its id is past the last name, or where it is not UTF-8.
     pub name: Option<&'a str>,
 }
 
@@ -103,6 +103,7 @@ impl<'a> CompiledMap<'a> {
     pub fn lookup_token_index_counted(&self, line: u32, col: u32, steps: &mut u64) -> Option<usize>
         ensures found { IsInOrder self.now
             → result ≡ index_for (compiled_in self.now).content.tokens line col }
+        ensures among { IfSome result (IsOnLine self.now (header_in self.now) line) }
         ensures counted { steps.new ≤ binary_digits (header_in self.now).lines
             + binary_digits (header_in self.now).tokens + 4 }
     {
@@ -155,8 +156,8 @@ impl<'a> CompiledMap<'a> {
         self.opened.lookup_token_after(line, col)
     }
 
-    /// What a token points to, lent from the bytes: the source and its content, and the name. A token without a source, or
-    /// with an id past the last source, points to nothing.
+    /// What a token points to, lent from the bytes; its content is `get_source_content`. None where it has no source id, one past
+    /// the last source, or the source is not UTF-8.
     pub fn original_of(&self, token: Token) -> Option<CompiledOriginal<'a>>
         ensures there { IsTrue (is_some result) ↔ IsTrue (is_some (option_and_then
             (listed_text (compiled_in self.now).content.sources) token.source_id)) }
@@ -216,7 +217,8 @@ impl<'a> CompiledMap<'a> {
         self.opened.header.names
     }
 
-    /// A source by its id, lent from the bytes; None past the last one, or where its bytes are not UTF-8.
+    /// A source by its id, lent from the bytes; None past the last one, or where its bytes are not UTF-8; empty where its offsets
+    /// are damaged.
     pub fn get_source(&self, id: u32) -> Option<&'a str>
         ensures { lent_item result ≡ listed_text (compiled_in self.now).content.sources id }
     {
@@ -228,7 +230,7 @@ impl<'a> CompiledMap<'a> {
         }
     }
 
-    /// The content of a source, lent from the bytes; None where it is not known, or not UTF-8.
+    /// The content of a source, lent from the bytes; None past the last one, or where it is not known, or not UTF-8.
     pub fn get_source_content(&self, id: u32) -> Option<&'a str>
         ensures { lent_item result ≡ optional_text
             (option_and_then (λ text. text)
@@ -242,7 +244,8 @@ impl<'a> CompiledMap<'a> {
         }
     }
 
-    /// A name by its id, lent from the bytes; None past the last one, or where its bytes are not UTF-8.
+    /// A name by its id, lent from the bytes; None past the last one, or where its bytes are not UTF-8; empty where its offsets are
+    /// damaged.
     pub fn get_name(&self, id: u32) -> Option<&'a str>
         ensures { lent_item result ≡ listed_text (compiled_in self.now).content.names id }
     {
@@ -293,7 +296,8 @@ impl<'a> CompiledMap<'a> {
         &bytes[24..56]
     }
 
-    /// The parts of the map, which borrow their texts from the bytes; None if a text is not UTF-8. Fails only for want of memory.
+    /// The parts of the map, which borrow their texts from the bytes; None if a text is not UTF-8. Fails only for want of memory. Of
+    /// bytes that are not in order, where starts of lines go back, a token may come several times, up to as often as there are lines.
     ///
     /// ```rust
     /// use oxc_sourcemap::{SourceMapParts, Token};

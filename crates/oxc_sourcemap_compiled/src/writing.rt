@@ -215,6 +215,17 @@ fn write_map(
 /// The compiled map of these parts, whose text had `text_length` bytes (0 if there was none), with 32 bytes that are kept as they
 /// are, as a hash of the text. They mean the map, but for its chunks and contents past the last source, and are in order.
 ///
+/// ```rust
+/// use oxc_sourcemap::{CompiledMap, SourceMap, compile, parts_of};
+///
+/// let text = r#"{"version":3,"sources":["a.ts"],"mappings":"AAAA,IACI"}"#;
+/// let map = SourceMap::from_json_string(alloc, text)?;
+/// let bytes = compile(alloc, parts_of(&map), text.len() as u64, &[0; 32])?;
+/// let compiled = CompiledMap::open(&bytes)?;
+/// let at = compiled.lookup_token(0, 5).and_then(|token| compiled.original_of(token));
+/// assert!(rt; at.is_some_and(|at| at.source == "a.ts" && at.src_line == 1 && at.src_col == 4));
+/// ```
+///
 /// Fails with `Unsorted` if the tokens are not sorted, then with `Map(TooLarge)` if there are more than 4294967295 tokens, sources,
 /// names or entries of the ignore list, or more bytes of texts or of groups of tokens, and with `Map(OutOfMemory)`.
 pub fn compile(

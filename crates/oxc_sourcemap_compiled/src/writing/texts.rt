@@ -99,7 +99,7 @@ fn stored_at<'p>(parts: &'p SourceMapParts<'_>, t: usize) -> Stored<'p>
     }
 }
 
-/// How many bytes are stored of a text; 18446744073709551615 stands for more.
+/// How many bytes are stored of a text.
 fn length_of(stored: Stored<'_>) -> usize
     ensures { result ≡ length (stored_bytes stored.entry) }
 {

@@ -178,6 +178,12 @@ pub record AreSmall (r : MapRecord) : Type 0 where
   pub names : length r.names ≤ 4294967295
   pub ignored : length (ignored_of r) ≤ 4294967295
 
+-- A map fits into a compiled map: by what a header counts, by its texts, and by its groups of at most 80 bytes.
+pub record FitsCompiled (r : MapRecord) : Type 0 where
+  pub small : AreSmall r
+  pub few_texts : text_offset r (stored_count r) ≤ 4294967295
+  pub few_groups : 80 * ((length r.tokens + 3) / 4) ≤ 4294967295
+
 abbrev pub AreCountsOf : SourceMapParts → Type 0
 AreCountsOf parts = AreSmall (record_of_parts parts)
 

@@ -2,7 +2,7 @@
 pub use Rattle.oxc_sourcemap_compiled.specs.Compiled.{bytes_of, table, AreLinesOf, line_starts}
 pub use Rattle.oxc_sourcemap_compiled.specs.Compiled.{id_number, field_number, IsPacked, ArePacked}
 pub use Rattle.oxc_sourcemap_compiled.specs.Compiled.{AreBlocksOf, stride_of, group_bytes_of}
-pub use Rattle.oxc_sourcemap_compiled.specs.Compiled.{row_of}
+pub use Rattle.oxc_sourcemap_compiled.specs.Compiled.{row_of, FitsCompiled}
 pub use Rattle.oxc_sourcemap_compiled.specs.Compiled.{rows_of, packed, group_of, above_in}
 pub use Rattle.oxc_sourcemap_compiled.specs.Compiled.{AreNarrow}
 pub use Rattle.oxc_sourcemap_compiled.specs.Compiled.{groups_of, ignored_of, AreCountsOf}

@@ -1,6 +1,6 @@
 //! Writing compiled maps.
 ghost use Rattle.std.specs.Prelude.{◌≡◌, ◌≤◌, ◌<◌, ◌⊎◌, ◌++◌, ℕ, IfErr, IfOk, OnOk, Err, false};
-ghost use Rattle.std.specs.Prelude.{true};
+ghost use Rattle.std.specs.Prelude.{true, ◌≢◌};
 ghost use Rattle.std.specs.Prelude.{length, get_or, is_some};
 ghost use Rattle.oxc_sourcemap_tokens.specs.declared.errors.error.Error.TheVariants.{OutOfMemory};
 ghost use Rattle.oxc_sourcemap_tokens.specs.declared.errors.error.Error.TheVariants.{TooLarge};
@@ -14,7 +14,7 @@ ghost use Rattle.oxc_sourcemap_compiled.specs.Words.{header_of_map};
 ghost use Rattle.oxc_sourcemap_compiled.specs.Words.{group_bytes_of};
 ghost use Rattle.oxc_sourcemap_compiled.specs.Compiled.{map_bytes};
 ghost use Rattle.oxc_sourcemap_compiled.specs.Words.{compiled_meaning, compiled_of, FitsFormat};
-ghost use Rattle.oxc_sourcemap_compiled.specs.Words.{IsInOrder};
+ghost use Rattle.oxc_sourcemap_compiled.specs.Words.{IsInOrder, FitsCompiled};
 ghost use Rattle.std.specs.Prelude.{◌+◌, ◌/◌, Ok};
 ghost use Rattle.oxc_sourcemap_compiled.specs.Compiled.{flag_of, listed_table};
 
@@ -80,7 +80,8 @@ fn push_header(
 
 /// Whether something is counted that does not fit into 32 bits.
 fn has_large_counts(parts: &SourceMapParts<'_>) -> bool
-    ensures { (result ≡ false) → AreCountsOf parts.now }
+    ensures small { (result ≡ false) → AreCountsOf parts.now }
+    ensures large { (result ≡ true) → ¬ AreCountsOf parts.now }
 {
     parts.tokens.as_slice().len() > 4294967295
         || parts.sources.len() > 4294967295
@@ -227,7 +228,8 @@ fn write_map(
 /// ```
 ///
 /// Fails with `Unsorted` if the tokens are not sorted, then with `Map(TooLarge)` if there are more than 4294967295 tokens, sources,
-/// names or entries of the ignore list, or more bytes of texts or of groups of tokens, and with `Map(OutOfMemory)`.
+/// names or entries of the ignore list, or more bytes of texts or of groups of tokens (a group of four tokens has at most 80), and with
+/// `Map(OutOfMemory)`.
 pub fn compile(
     alloc: Global,
     parts: &SourceMapParts<'_>,
@@ -247,6 +249,7 @@ pub fn compile(
         (λ e. (e ≡ Unsorted) ⊎ (e ≡ Map TooLarge) ⊎ (e ≡ Map OutOfMemory)) }
     ensures sorted { IfErr result (λ e. e ≡ Unsorted
         → are_tokens_sorted (record_of_parts parts.now).tokens ≡ false) }
+    ensures large { FitsCompiled (record_of_parts parts.now) → result ≢ Err (Map TooLarge) }
 {
     let tokens = parts.tokens.as_slice();
     if !are_sorted(tokens) {

@@ -151,6 +151,7 @@ pub(crate) fn group_bytes(blocks: &[Block], groups: usize) -> usize
     requires narrow { All AreNarrow blocks.now }
     ensures value { result ≡ group_bytes_of groups blocks.now }
     ensures small { result ≤ 85899345920 }
+    ensures most { result ≤ 80 * groups }
 {
     let mut sum = 0;
     let mut rest = groups;

@@ -110,7 +110,9 @@ fn length_of(stored: Stored<'_>) -> usize
 pub(crate) fn text_bytes(parts: &SourceMapParts<'_>) -> usize
     requires sources { length (record_of_parts parts.now).sources ≤ 4294967295 }
     requires names { length (record_of_parts parts.now).names ≤ 4294967295 }
-    ensures { result ≤ 4294967295 → result ≡ text_offset (record_of_parts parts.now)
+    ensures small { result ≤ 4294967295 → result ≡ text_offset (record_of_parts parts.now)
+        (stored_count (record_of_parts parts.now)) }
+    ensures large { 4294967295 < result → 4294967295 < text_offset (record_of_parts parts.now)
         (stored_count (record_of_parts parts.now)) }
 {
     let mut sum: usize = 0;

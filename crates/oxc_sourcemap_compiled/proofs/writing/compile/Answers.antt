@@ -12,7 +12,7 @@ returns-clause-bytes c =
     let tokens = c.as_slice-tokens.ensures.value in
     let lines = c.in_ok-lines.lines.items in
     let blocks = c.in_ok-blocks.blocks.items in
-    let small = c.has_large_counts.ensures c.if-has_large_counts.false in
+    let small = c.has_large_counts.ensures.small c.if-has_large_counts.false in
     let r = record_of_parts c.args.parts.now in
     let listed = c.in_ok-lines.has_line_numbers in
     let number = c.args.text_length in
@@ -31,7 +31,7 @@ returns-clause-bytes c =
       all_listed = c.in_ok-lines.ensures.all;
       blocks_of = subst (λ ts. AreBlocksOf ts blocks) tokens c.in_ok-blocks.ensures;
       few_groups = subst (λ n. n ≤ 4294967295) groups c.if-group_bytes-gt4294967295.false;
-      few_texts = subst (λ n. n ≤ 4294967295) (c.text_bytes-text_bytes.ensures c.if-text_bytes-gt4294967295.false) c.if-text_bytes-gt4294967295.false;
+      few_texts = subst (λ n. n ≤ 4294967295) (c.text_bytes-text_bytes.ensures.small c.if-text_bytes-gt4294967295.false) c.if-text_bytes-gt4294967295.false;
       are = c.in_ok-made.ensures ∙ ap (λ xs. map_bytes r xs listed c.as_slice-3.result.now number stamp) c.as_slice-2.ensures.value ∙ ap (λ bs. map_bytes r lines listed bs number stamp) c.as_slice-3.ensures.value;
     }
 

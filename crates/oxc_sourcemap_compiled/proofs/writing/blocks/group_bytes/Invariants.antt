@@ -6,4 +6,5 @@ abbrev pub invariant-loop-block : goal.invariant-loop-block
 invariant-loop-block l = record {
   value : l.sum + group_bytes_of l.rest (drop l.block-index l.blocks) ≡ group_bytes_of l.groups l.blocks;
   small : l.sum ≤ 1280 * l.block-index;
+  most : l.sum + 80 * l.rest ≤ 80 * l.groups;
 }

@@ -98,8 +98,9 @@ impl<'a> CompiledMap<'a> {
         self.opened.lookup_index(line, col, &mut 0)
     }
 
-    /// As `lookup_token_index`. `steps` is set to how many columns and numbers of lines were compared: at most as many as the number
-    /// of lines and that of tokens have binary digits, and four more, whatever the bytes are. Other lookups take no more.
+    /// As `lookup_token_index`, which compares the same: `steps` is set to how many columns and numbers of lines were compared (that
+    /// none is left out is no clause), at most as many as the number of lines and that of tokens have binary digits, and four more,
+    /// whatever the bytes are.
     pub fn lookup_token_index_counted(&self, line: u32, col: u32, steps: &mut u64) -> Option<usize>
         ensures found { IsInOrder self.now
             → result ≡ index_for (compiled_in self.now).content.tokens line col }

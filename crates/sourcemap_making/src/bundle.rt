@@ -54,11 +54,11 @@ fn read_code_and_map(asked: &Asked<'_, '_>, file: &str, folder: &str) -> Outcome
     let code = without_map_comments(alloc, text.as_str(), language_of(file))?;
     match map_of_code(asked.rt, file, text.as_str(), asked.places())? {
         Lookup::Map(found) => {
-            let mut map = SourceMap::from_parts(read_map(asked.rt, &found)?);
+            let mut map = read_map(asked.rt, &found)?;
             rebase(asked.rt, &mut map, found.folder.as_str(), folder)?;
             Ok(Part {
                 code,
-                map: map.into_parts(),
+                map,
                 map_name: Some(found.name),
             })
         }

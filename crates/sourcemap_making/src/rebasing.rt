@@ -1,5 +1,5 @@
 //! Sources of maps, led from one folder to another.
-use oxc_sourcemap_map::SourceMap;
+use oxc_sourcemap_parts::SourceMapParts;
 use sourcemap_run::rebase_sources;
 use sourcemap_texts::relative_path;
 use sourcemap_words::{Outcome, failure_of};
@@ -30,12 +30,17 @@ pub fn relative_to(rt: &HostRuntime, from: &str, to: &str, path: &str) -> Outcom
 }
 
 /// Makes the sources of a map in the folder `from`, its root applied, relative to the folder `to`. Both end in a slash, or are empty.
-pub fn rebase(rt: &HostRuntime, map: &mut SourceMap<'_>, from: &str, to: &str) -> Outcome<()> {
+pub fn rebase(
+    rt: &HostRuntime,
+    parts: &mut SourceMapParts<'_>,
+    from: &str,
+    to: &str,
+) -> Outcome<()> {
     let alloc = rt.alloc();
     let current = if from == to {
         String::new(alloc)
     } else {
         current_folder(rt)?
     };
-    Ok(rebase_sources(alloc, map, current.as_str(), from, to)?)
+    Ok(rebase_sources(alloc, parts, current.as_str(), from, to)?)
 }

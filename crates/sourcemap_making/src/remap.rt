@@ -93,9 +93,9 @@ fn followed_source(
         name: name.as_str(),
         before: Some(way),
     };
-    let mut map = follow_sources(asked, text, &way, depth, count)?;
-    rebase(asked.rt, &mut map, text.folder.as_str(), folder)?;
-    Ok(map)
+    let mut parts = follow_sources(asked, text, &way, depth, count)?.into_parts();
+    rebase(asked.rt, &mut parts, text.folder.as_str(), folder)?;
+    Ok(SourceMap::from_parts(parts))
 }
 
 /// The inputs for the sources of a map.
@@ -166,9 +166,9 @@ fn given_inputs(asked: &Asked<'_, '_>, folder: &str) -> Outcome<Vec<(String, Sou
             ));
         };
         let text = map_of_file(asked.rt, file, asked.places())?;
-        let mut map = SourceMap::from_parts(read_map(asked.rt, &text)?);
-        rebase(asked.rt, &mut map, text.folder.as_str(), folder)?;
-        inputs.push((String::from_str(alloc, path)?, map))?;
+        let mut parts = read_map(asked.rt, &text)?;
+        rebase(asked.rt, &mut parts, text.folder.as_str(), folder)?;
+        inputs.push((String::from_str(alloc, path)?, SourceMap::from_parts(parts)))?;
     }
     Ok(inputs)
 }
@@ -284,16 +284,21 @@ fn remap_text(
 }
 
 /// Makes the sources relative to the folder of the output, and leaves out what is asked to be.
-fn finish(asked: &Asked<'_, '_>, map: &mut SourceMap<'_>, folder: &str) -> Outcome<()> {
-    let alloc = asked.alloc();
+fn finish(
+    asked: &Asked<'_, '_>,
+    map: SourceMap<'static>,
+    folder: &str,
+) -> Outcome<SourceMap<'static>> {
     let output = asked.word("output");
+    let mut parts = map.into_parts();
     if !output.is_empty() {
-        rebase(asked.rt, map, folder, folder_of(output))?;
+        rebase(asked.rt, &mut parts, folder, folder_of(output))?;
     }
+    let mut map = SourceMap::from_parts(parts);
     if asked.has("simplify") {
-        map.simplify(alloc)?;
+        map.simplify(asked.alloc())?;
     }
-    Ok(())
+    Ok(map)
 }
 
 /// Runs the command `remap`.
@@ -307,7 +312,7 @@ pub fn run(asked: &Asked<'_, '_>) -> Outcome<Status> {
     let limit = limit_of(asked)?;
     let text = map_of_file(asked.rt, asked.word("MAP"), asked.places())?;
     let mut count = 0;
-    let mut map = remap_text(asked, &text, &mut count)?;
-    finish(asked, &mut map, text.folder.as_str())?;
+    let map = remap_text(asked, &text, &mut count)?;
+    let map = finish(asked, map, text.folder.as_str())?;
     write(asked, &map, count, limit)
 }

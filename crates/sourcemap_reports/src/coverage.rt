@@ -86,7 +86,7 @@ fn marks_of(
     let mut marks = Vec::new(alloc);
     for run in runs {
         if let Some(block) = block_of(positions, run) {
-            push_marks(map, block, &mut marks)?;
+            push_marks(map.get_tokens().as_slice(), block, &mut marks)?;
         }
     }
     Ok(marks)

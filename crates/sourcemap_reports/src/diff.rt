@@ -1,14 +1,13 @@
 //! `diff`: where two maps say different things.
-use oxc_sourcemap_map::SourceMap;
-use oxc_sourcemap_tokens::Position;
+use oxc_sourcemap_tokens::{Position, Token};
 use sourcemap_files::{Asked, Status, print, rooted_map};
-use sourcemap_run::{Tracer, count_differences};
+use sourcemap_run::{Tracer, count_differences, first_difference_of_parts};
 use sourcemap_words::Outcome;
 use std::alloc::{AllocError, Global};
 
 /// The places at which an answer may begin to differ: each token's, and the column after it.
-fn push_places(map: &SourceMap<'_>, places: &mut Vec<(u32, u32)>) -> Result<(), AllocError> {
-    for token in map.get_tokens().as_slice() {
+fn push_places(tokens: &[Token], places: &mut Vec<(u32, u32)>) -> Result<(), AllocError> {
+    for token in tokens {
         let (line, column) = (token.get_dst_line(), token.get_dst_col());
         places.push((line, column))?;
         places.push((line, column.saturating_add(1)))?;
@@ -19,8 +18,8 @@ fn push_places(map: &SourceMap<'_>, places: &mut Vec<(u32, u32)>) -> Result<(), 
 /// Those of both maps, each once.
 fn places_of(alloc: Global, a: &Tracer, b: &Tracer) -> Result<Vec<(u32, u32)>, AllocError> {
     let mut places = Vec::new(alloc);
-    push_places(a.map(), &mut places)?;
-    push_places(b.map(), &mut places)?;
+    push_places(a.parts().tokens.as_slice(), &mut places)?;
+    push_places(b.parts().tokens.as_slice(), &mut places)?;
     places.sort()?;
     places.dedup();
     Ok(places)
@@ -28,8 +27,8 @@ fn places_of(alloc: Global, a: &Tracer, b: &Tracer) -> Result<Vec<(u32, u32)>, A
 
 /// A map of an argument, with its source root applied.
 fn tracer_of(asked: &Asked<'_, '_>, name: &str) -> Outcome<Tracer> {
-    let map = rooted_map(asked.rt, asked.word(name), asked.places())?;
-    Ok(Tracer::new(asked.alloc(), SourceMap::from_parts(map))?)
+    let parts = rooted_map(asked.rt, asked.word(name), asked.places())?;
+    Ok(Tracer::new(asked.alloc(), parts)?)
 }
 
 /// The line that is printed of a first difference.
@@ -57,7 +56,7 @@ fn count_of(alloc: Global, a: &Tracer, b: &Tracer) -> Result<(usize, usize), All
 
 /// Prints whether two maps say different things, and where first.
 fn tell(asked: &Asked<'_, '_>, a: &Tracer, b: &Tracer) -> Outcome<Status> {
-    let Some(first) = a.map().first_difference(b.map()) else {
+    let Some(first) = first_difference_of_parts(a.parts(), b.parts()) else {
         if asked.has("json") {
             print(asked.rt, "{\"different\":false}\n")?;
         }

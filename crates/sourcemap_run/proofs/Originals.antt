@@ -12,8 +12,7 @@ use Rattle.oxc_sourcemap_lookup.specs.Trace.{original_in}
 use Rattle.oxc_sourcemap_lookup.proofs.Traces.{token_traced, token_clamped_traced}
 use Rattle.oxc_sourcemap_lookup.specs.declared.bias.Bias.{Bias}
 use Rattle.oxc_sourcemap_lookup.specs.declared.bias.Bias.TheVariants.{Before, Clamped, After}
-use Rattle.oxc_sourcemap_map.specs.View.{content_at}
-use Rattle.sourcemap_run.specs.Answers.{pointed, map_answer}
+use Rattle.sourcemap_run.specs.Answers.{content_at, pointed, map_answer}
 
 -- a source with this content
 abbrev pub source_with : Option Text → Text → DecodedSource

@@ -1,7 +1,8 @@
 -- What a map answers for a generated position.
-use Rattle.std.specs.Prelude.{ℕ, Option, Some, None, option_map}
+use Rattle.std.specs.Prelude.{ℕ, List, slice_get, Option, Some, None, option_map}
+use Rattle.std.specs.Option.{option_and_then}
 use Rattle.oxc_sourcemap_tokens.specs.Results.{lent_item}
-use Rattle.oxc_sourcemap_parts.specs.Record.{MapRecord}
+use Rattle.oxc_sourcemap_parts.specs.Record.{Text, MapRecord}
 use Rattle.oxc_sourcemap_parts.specs.DecodedMap.{OriginalPosition, decoded_map_of}
 use Rattle.oxc_sourcemap_lookup.specs.Biased.{token_by}
 use Rattle.oxc_sourcemap_lookup.specs.Trace.{original_in, trace, clamped_trace}
@@ -10,6 +11,10 @@ use Rattle.oxc_sourcemap_lookup.specs.declared.bias.Bias.TheVariants.{Before, Cl
 use Rattle.sourcemap_run.specs.declared.tracer.Spot.{Spot}
 use Rattle.sourcemap_run.specs.declared.tracer.Answer.{Answer}
 use Rattle.sourcemap_run.specs.declared.tracer.Answer.TheVariants.{Nothing, Unmapped, At}
+
+-- the content listed at an index, if there is one and it is known
+abbrev pub content_at : List (Option Text) → ℕ → Option Text
+content_at contents i = option_and_then (λ content. content) (slice_get contents i)
 
 -- what the token that answers points to
 abbrev pub pointed : Bias → MapRecord → ℕ → ℕ → Option (Option OriginalPosition)

@@ -12,5 +12,4 @@ pub mod Covered
 pub mod Contexts
 pub mod Page
 pub mod RawLines
-pub mod Reversed
 pub mod Words

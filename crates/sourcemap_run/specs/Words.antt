@@ -10,7 +10,8 @@ pub use Rattle.oxc_sourcemap_parts.specs.DecodedMap.{name_of}
 pub use Rattle.oxc_sourcemap_parts.specs.Sorted.{are_tokens_sorted}
 pub use Rattle.oxc_sourcemap_lookup.specs.Biased.{token_by}
 pub use Rattle.oxc_sourcemap_lookup.specs.Trace.{original_in}
-pub use Rattle.sourcemap_run.specs.Answers.{pointed, map_answer, original_seen, seen, lent_original}
+pub use Rattle.sourcemap_run.specs.Answers.{content_at, pointed, map_answer, original_seen, seen}
+pub use Rattle.sourcemap_run.specs.Answers.{lent_original}
 pub use Rattle.sourcemap_run.specs.Texts.{number_part, original_text}
 pub use Rattle.sourcemap_run.specs.Texts.{name_part, number_member, text_member, name_member}
 pub use Rattle.sourcemap_run.specs.Texts.{answer_text, answer_members, position_members}
@@ -19,8 +20,7 @@ pub use Rattle.sourcemap_run.specs.Lines.{answer_object, answer_line}
 pub use Rattle.sourcemap_run.specs.Frames.{answer_to, location_text, painted, led_back}
 pub use Rattle.sourcemap_run.specs.Frames.{frame_position, IsCutAt, between, AreInRow}
 pub use Rattle.sourcemap_run.specs.Frames.{line_led_back}
-pub use Rattle.oxc_sourcemap_parts.specs.Views.{record_of_parts}
-pub use Rattle.oxc_sourcemap_map.specs.View.{content_at}
+pub use Rattle.oxc_sourcemap_parts.specs.Views.{record_of_parts, cow_texts, text_of}
 pub use Rattle.oxc_sourcemap_join.specs.Joined.{joined, at_line, IsWithinLimits}
 pub use Rattle.oxc_sourcemap_queries.specs.RangePieces.{pieces_of}
 pub use Rattle.oxc_sourcemap_text.specs.TextLines.{units_of, lines_of, line_at}
@@ -30,10 +30,6 @@ pub use Rattle.sourcemap_run.specs.Marks.{mark_of}
 pub use Rattle.sourcemap_run.specs.Page.{HasDataMark, IsFilled}
 pub use Rattle.sourcemap_run.specs.Differences.{is_same_text, is_same_original, is_same_answer}
 pub use Rattle.sourcemap_run.specs.Differences.{differ_at}
-pub use Rattle.oxc_sourcemap_map.specs.Reverse.{all_generated_for}
-pub use Rattle.sourcemap_run.specs.Reversed.{opened_object, generated_text, separator}
-pub use Rattle.sourcemap_run.specs.Reversed.{next_generated, generated_texts, is_there, line_end}
-pub use Rattle.sourcemap_run.specs.Reversed.{reversed_object, reversed_line}
 pub use Rattle.sourcemap_run.specs.Counts.{path_at, raised, original_count, count_at}
 pub use Rattle.sourcemap_run.specs.Counts.{is_missed, missed_ranges, closed, opened}
 pub use Rattle.sourcemap_run.specs.Totals.{with_count, with_counts, total_at, HaveLines}

@@ -7,9 +7,8 @@ ghost use Rattle.sourcemap_run.specs.Words.{are_tokens_sorted, pieces_of, mark_o
 ghost use Rattle.sourcemap_run.specs.Words.{raised, original_count, count_at};
 ghost use Rattle.sourcemap_run.specs.Words.{missed_ranges, closed, opened};
 
-use oxc_sourcemap_map::SourceMap;
-use oxc_sourcemap_queries::Piece;
-use oxc_sourcemap_tokens::{Memory, Position};
+use oxc_sourcemap_queries::{Piece, pieces_in};
+use oxc_sourcemap_tokens::{Memory, Position, Token};
 use std::alloc::Global;
 use std::collections::BTreeMap;
 
@@ -52,13 +51,14 @@ fn mark_of(piece: &Piece, count: u64) -> Option<Mark>
     })
 }
 
-/// Appends what the pieces of a block say of lines, for a sorted map.
-pub fn push_marks(map: &SourceMap<'_>, block: Block, marks: &mut Vec<Mark>) -> Memory<()>
-    ensures { are_tokens_sorted map.now.tokens ≡ true → OnOk result (marks.new.items
-        ≡ marks.old.items ++ filter_map (mark_of block.count) (pieces_of map.now.tokens
+/// Appends what the pieces of a block say of lines, for the tokens of a sorted map.
+pub fn push_marks(tokens: &[Token], block: Block, marks: &mut Vec<Mark>) -> Memory<()>
+    ensures { are_tokens_sorted tokens.now ≡ true → OnOk result (marks.new.items
+        ≡ marks.old.items ++ filter_map (mark_of block.count) (pieces_of tokens.now
         block.start.line block.start.column block.end.line block.end.column)) }
 {
-    for piece in map.pieces(
+    for piece in pieces_in(
+        tokens,
         block.start.line,
         block.start.column,
         block.end.line,

@@ -11,7 +11,6 @@ mod frames;
 mod page;
 mod raw_lines;
 mod rebasing;
-mod reversing;
 mod texts;
 mod totals;
 mod tracer;
@@ -27,10 +26,13 @@ pub use covered::{
 pub use differing::count_differences;
 pub use frames::{Cut, Frame, Paint, Target, answer_to, frame_position, push_frame, push_line};
 pub use oxc_sourcemap_lookup::Bias;
+pub use oxc_sourcemap_queries::first_difference_of_parts;
 pub use page::{DATA_MARK, fill_template};
 pub use raw_lines::{Splice, push_spliced, text_of};
 pub use rebasing::rebase_sources;
-pub use reversing::push_reversed;
-pub use texts::{push_number_member, push_object, push_original, push_text_member};
+pub use texts::{
+    from_base, push_number, push_number_member, push_number_part, push_object, push_original,
+    push_text_member,
+};
 pub use totals::{LineTotals, Totals, add_marks, totals_add_up};
 pub use tracer::{Answer, Spot, Tracer};

@@ -11,14 +11,14 @@ use sourcemap_texts::{push_shown, push_visible_string};
 use std::alloc::Global;
 
 /// A line or a column from 0, as it is counted from `base`.
-pub(crate) fn from_base(number: u32, base: u8) -> u64
+pub fn from_base(number: u32, base: u8) -> u64
     ensures { result ≡ number + base }
 {
     u64::from(number) + u64::from(base)
 }
 
 /// Appends a number.
-pub(crate) fn push_number(alloc: Global, number: u64, out: &mut String) -> Result<()>
+pub fn push_number(alloc: Global, number: u64, out: &mut String) -> Result<()>
     ensures text { Pushes result out.old out.new (decimal number) }
     ensures error { OnlyMemory result }
     ensures adds { OnlyAdds out.old out.new }
@@ -28,7 +28,7 @@ pub(crate) fn push_number(alloc: Global, number: u64, out: &mut String) -> Resul
 }
 
 /// Appends a colon and a number, counted from `base`.
-pub(crate) fn push_number_part(alloc: Global, number: u32, base: u8, out: &mut String) -> Result<()>
+pub fn push_number_part(alloc: Global, number: u32, base: u8, out: &mut String) -> Result<()>
     ensures text { Pushes result out.old out.new (number_part (number + base)) }
     ensures error { OnlyMemory result }
     ensures adds { OnlyAdds out.old out.new }

@@ -1,14 +1,16 @@
 //! A map in which positions are traced.
-ghost use Rattle.std.specs.Prelude.{◌≡◌, ◌≢◌, false, slice_get, IfOk, IfErr};
+ghost use Rattle.std.specs.Prelude.{◌≡◌, ◌≢◌, false, slice_get, map, IfOk, IfErr};
 ghost use Rattle.std.specs.Option.{option_and_then};
 ghost use Rattle.sourcemap_run.specs.Words.{Map, OutOfMemory, Unsorted, are_tokens_sorted};
 ghost use Rattle.sourcemap_run.specs.Words.{token_by, pointed, map_answer, seen, original_in};
 ghost use Rattle.sourcemap_run.specs.Words.{content_at, lent_item, lent_original, name_of};
+ghost use Rattle.sourcemap_run.specs.Words.{cow_texts, text_of, record_of_parts};
 
 use oxc_sourcemap_lookup::{Bias, LineIndex, Traced};
-use oxc_sourcemap_map::SourceMap;
+use oxc_sourcemap_parts::{SourceMapParts, are_sorted};
 use oxc_sourcemap_tokens::{PlanError, Position, Token};
 use std::alloc::Global;
+use std::borrow::CowStr;
 use std::marker::Model;
 
 /// What a generated position comes from: a line and a column of a source, from 0, and a name.
@@ -35,47 +37,63 @@ pub enum Answer<'m> {
 /// A map whose tokens are sorted, with an index of its lines.
 #[derive(Drop)]
 pub struct Tracer {
-    map: SourceMap<'static>,
+    parts: SourceMapParts<'static>,
     index: LineIndex,
 }
 
 impl Model for Tracer {
+    ghost use Rattle.std.specs.Box.{boxed_slice_items};
     ghost use Rattle.oxc_sourcemap_parts.specs.Record.{MapRecord};
+    ghost use Rattle.oxc_sourcemap_parts.specs.Views.{record_of_parts};
     ghost use Rattle.sourcemap_run.specs.Indices.{IsIndexed};
 
     ghost Value = { MapRecord };
 
-    ghost view = { λ t. t.map };
+    ghost view = { λ t. record_of_parts t.parts };
 
-    ghost invariant = { λ t. IsIndexed t.map.tokens t.index };
+    ghost invariant = { λ t. IsIndexed (boxed_slice_items t.parts.tokens) t.index };
+}
+
+/// The text listed at an index. None if there is none.
+fn text_at<'t>(texts: &'t [CowStr<'_>], id: u32) -> Option<&'t str>
+    ensures { lent_item result ≡ slice_get (cow_texts texts.now) id }
+{
+    Some(texts.get(id as usize)?.as_str())
+}
+
+/// The content listed at an index. None if none is listed, or it is not known.
+fn content_at<'t>(contents: &'t [Option<CowStr<'_>>], id: u32) -> Option<&'t str>
+    ensures { lent_item result ≡ content_at (map text_of contents.now) id }
+{
+    contents.get(id as usize)?.as_deref()
 }
 
 impl Tracer {
     /// Makes the index of a map. Fails with `Unsorted` if its tokens are not sorted, and with `Map(OutOfMemory)`.
-    pub fn new(alloc: Global, map: SourceMap<'static>) -> Result<Tracer, PlanError>
-        ensures map { IfOk result (λ tracer. tracer ≡ map.entry) }
-        ensures error { IfErr result (λ e. (e ≢ Map OutOfMemory)
-            → (e ≡ Unsorted) × (are_tokens_sorted map.entry.tokens ≡ false)) }
+    pub fn new(alloc: Global, parts: SourceMapParts<'static>) -> Result<Tracer, PlanError>
+        ensures map { IfOk result (λ tracer. tracer ≡ record_of_parts parts.entry) }
+        ensures error { IfErr result (λ e. (e ≢ Map OutOfMemory) → (e ≡ Unsorted)
+            × (are_tokens_sorted (record_of_parts parts.entry).tokens ≡ false)) }
     {
-        if !map.is_sorted() {
+        if !are_sorted(parts.tokens.as_slice()) {
             return Err(PlanError::Unsorted);
         }
-        let index = LineIndex::new(alloc, map.get_tokens().as_slice())?;
-        Ok(Tracer { map, index })
+        let index = LineIndex::new(alloc, parts.tokens.as_slice())?;
+        Ok(Tracer { parts, index })
     }
 
-    /// The map.
-    pub fn map(&self) -> &SourceMap<'static>
-        ensures { result.now ≡ self.now }
+    /// The parts of the map.
+    pub fn parts(&self) -> &SourceMapParts<'static>
+        ensures { record_of_parts result.now ≡ self.now }
     {
-        &self.map
+        &self.parts
     }
 
     /// The tokens of the map.
     fn tokens(&self) -> &[Token]
         ensures tokens { result.now ≡ self.now.tokens }
     {
-        self.map.get_tokens().as_slice()
+        self.parts.tokens.as_slice()
     }
 
     /// The token that answers for a position.
@@ -90,14 +108,14 @@ impl Tracer {
         ensures { lent_item result ≡ option_and_then (slice_get self.now.sources)
             token.now.source_id }
     {
-        self.map.get_source(token.get_source_id()?)
+        text_at(self.parts.sources.as_slice(), token.get_source_id()?)
     }
 
     /// The name of a token. None if it has no name id, or one out of range.
     fn name(&self, token: &Token) -> Option<&str>
         ensures { lent_item result ≡ name_of self.now.names token.now }
     {
-        self.map.get_name(token.get_name_id()?)
+        text_at(self.parts.names.as_slice(), token.get_name_id()?)
     }
 
     /// The content of the source of a token, if the map has it.
@@ -105,7 +123,8 @@ impl Tracer {
         ensures { lent_item result ≡ option_and_then (content_at self.now.source_contents)
             token.now.source_id }
     {
-        self.map.get_source_content(token.get_source_id()?)
+        let contents = self.parts.source_contents.as_slice();
+        content_at(contents, token.get_source_id()?)
     }
 
     /// What a token of the map points to.

@@ -5,4 +5,7 @@ mod context;
 mod maps;
 mod positions;
 pub mod resolve;
+mod reversing;
 pub mod trace;
+
+pub use reversing::push_reversed;

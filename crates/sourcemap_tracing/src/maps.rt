@@ -1,5 +1,5 @@
 //! The maps of the files that frames name, and what they say of the places of frames.
-use oxc_sourcemap_map::SourceMap;
+use oxc_sourcemap_parts::apply_root;
 use oxc_sourcemap_tokens::Position;
 use sourcemap_files::{
     Asked, CodeFile, InputPrefix, Lookup, Places, Sought, find_code, is_file, is_in_root,
@@ -287,13 +287,13 @@ impl Maps {
             Lookup::Map(text) => text,
             Lookup::None(why) => return Ok(Known::None(Stay { reason, why })),
         };
-        let mut map = match read_map(asked.rt, &text) {
-            Ok(parts) => SourceMap::from_parts(parts),
+        let mut parts = match read_map(asked.rt, &text) {
+            Ok(parts) => parts,
             Err(Failure::Told(why)) => return Ok(Known::None(Stay { reason, why })),
             Err(failure) => return Err(failure),
         };
-        map.apply_source_root(asked.alloc())?;
-        self.tracers.push(Tracer::new(asked.alloc(), map)?)?;
+        apply_root(asked.alloc(), &mut parts)?;
+        self.tracers.push(Tracer::new(asked.alloc(), parts)?)?;
         self.names.push(text.name)?;
         Ok(Known::Map(KnownMap {
             number: self.tracers.len().saturating_sub(1),

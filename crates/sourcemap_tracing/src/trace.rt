@@ -1,10 +1,12 @@
 //! `trace`: what generated positions come from.
 use crate::context::Contents;
 use crate::positions::{position_of_line, positions_in};
+use crate::reversing::push_reversed;
 use oxc_sourcemap_map::{SourceIndex, SourceMap};
+use oxc_sourcemap_parts::SourceMapParts;
 use oxc_sourcemap_tokens::Position;
 use sourcemap_files::{Asked, Status, print, rooted_map, tell, usage};
-use sourcemap_run::{Answer, Bias, Style, Tracer, push_answer, push_answers, push_reversed};
+use sourcemap_run::{Answer, Bias, Style, Tracer, push_answer, push_answers};
 use sourcemap_texts::source_position_of;
 use sourcemap_words::{Failure, Outcome, failure_of, file_failure};
 use std::io::{BufRead, BufReader};
@@ -199,8 +201,8 @@ fn style_of(asked: &Asked<'_, '_>) -> Outcome<Style> {
 }
 
 /// `trace` without `--reverse`.
-fn forward(asked: &Asked<'_, '_>, map: SourceMap<'static>, style: Style) -> Outcome<Status> {
-    let tracer = Tracer::new(asked.alloc(), map)?;
+fn forward(asked: &Asked<'_, '_>, parts: SourceMapParts<'static>, style: Style) -> Outcome<Status> {
+    let tracer = Tracer::new(asked.alloc(), parts)?;
     let mut answers = Answers::new(asked, &tracer, style);
     if reads_lines(asked)? {
         answers.print_lines(asked.rt)?;
@@ -223,10 +225,9 @@ pub fn run(asked: &Asked<'_, '_>) -> Outcome<Status> {
         ));
     }
     let parts = rooted_map(asked.rt, asked.word("MAP"), asked.places())?;
-    let map = SourceMap::from_parts(parts);
     if is_forward {
-        forward(asked, map, style)
+        forward(asked, parts, style)
     } else {
-        reverse(asked, &map, style)
+        reverse(asked, &SourceMap::from_parts(parts), style)
     }
 }

@@ -1,8 +1,8 @@
 use Rattle.std.proofs.Common.{◌≡◌, ◌++◌, string_bytes}
 use Rattle.std.specs.List.{flat_map}
 use Rattle.oxc_sourcemap_json.specs.Words.{OnlyAdds}
-use Rattle.sourcemap_run.specs.Reversed.{next_generated}
-use Rattle.sourcemap_run.proofs.reversing.push_more.Given as goal
+use Rattle.sourcemap_tracing.specs.Reversed.{next_generated}
+use Rattle.sourcemap_tracing.proofs.reversing.push_more.Given as goal
 
 -- the positions so far are written
 abbrev pub invariant-loop-token : goal.invariant-loop-token

@@ -1,17 +1,16 @@
 //! What is generated from an original position, as it is printed.
 ghost use Rattle.std.specs.Prelude.{◌≡◌, IfOk};
 ghost use Rattle.std.specs.List.{flat_map};
-ghost use Rattle.sourcemap_run.specs.Words.{OnlyMemory, OnlyAdds, Pushes, all_generated_for};
-ghost use Rattle.sourcemap_run.specs.Words.{opened_object, generated_text, separator};
-ghost use Rattle.sourcemap_run.specs.Words.{next_generated, generated_texts, is_there};
-ghost use Rattle.sourcemap_run.specs.Words.{line_end, reversed_object, reversed_line};
+ghost use Rattle.sourcemap_tracing.specs.Words.{OnlyMemory, OnlyAdds, Pushes, all_generated_for};
+ghost use Rattle.sourcemap_tracing.specs.Words.{opened_object, generated_text, separator};
+ghost use Rattle.sourcemap_tracing.specs.Words.{next_generated, generated_texts, is_there};
+ghost use Rattle.sourcemap_tracing.specs.Words.{line_end, reversed_object, reversed_line};
 
-use crate::answers::Style;
-use crate::texts::{
-    from_base, push_number, push_number_member, push_number_part, push_text_member,
-};
 use oxc_sourcemap_map::{IndexTokens, SourceIndex};
 use oxc_sourcemap_tokens::{Position, Result, Token};
+use sourcemap_run::{
+    Style, from_base, push_number, push_number_member, push_number_part, push_text_member,
+};
 use std::alloc::Global;
 
 /// Appends the beginning of an object, with a line and a column.

@@ -1,5 +1,5 @@
 use Rattle.sourcemap_run.proofs.Appends.{three_appends, begins_still}
-use Rattle.sourcemap_run.proofs.reversing.push_reversed_object.Goals as goal
+use Rattle.sourcemap_tracing.proofs.reversing.push_reversed_object.Goals as goal
 
 pub returns-in_err-found-clause-adds : goal.returns-in_err-found-clause-adds
 returns-in_err-found-clause-adds c = λ front begins.

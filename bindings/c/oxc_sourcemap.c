@@ -5,10 +5,21 @@
  *  - a handle goes in as a struct of one pointer, and one that is made goes to *out on success alone;
  *  - an array of texts with null entries, and one of maps, is copied;
  *  - of the contents of sources, those that are told not to be known get a null address. */
+#define _POSIX_C_SOURCE 200809L
 #include "oxc_sourcemap.h"
 #include "proved.h"
 
 #include <stdlib.h>
+#include <string.h>
+
+/* (a module for WebAssembly has no files) */
+#ifdef __unix__
+#include <errno.h>
+#include <fcntl.h>
+#include <sys/mman.h>
+#include <sys/stat.h>
+#include <unistd.h>
+#endif
 
 /* A pointer, or what stands for null. */
 #define OR(at, own) ((at) ? (at) : (own))
@@ -279,6 +290,145 @@ uint32_t smap_all_generated(const smap_map *map, uint32_t source_id, uint32_t li
     uint32_t none;
     return proved_all_generated(LENT(map), source_id, line, column, direction, OR(out, &none), out_len, count);
 }
+
+/* ---- compiled maps ---- */
+
+uint32_t smap_compile(const smap_map *map, uint64_t text_length, const unsigned char *stamp, smap_string **out, smap_fault *fault) {
+    static const char zeros[32];
+    smap_fault own;
+    proved_handle made = { NULL };
+    uint32_t code = proved_compile(LENT(map), text_length, OR((const char *)stamp, zeros), 32, &made, OR(fault, &own));
+    if (code == SMAP_OK) *out = made.at;
+    return code;
+}
+
+uint32_t smap_open_compiled(const unsigned char *bytes, size_t len, smap_compiled **out, smap_fault *fault) {
+    smap_fault own;
+    proved_handle made = { NULL };
+    uint32_t code = proved_open_compiled(OR((const char *)bytes, ""), len, &made, OR(fault, &own));
+    if (code == SMAP_OK) *out = made.at;
+    return code;
+}
+
+void smap_free_compiled(smap_compiled *compiled) {
+    if (compiled) proved_free_compiled(HANDLE(compiled));
+}
+
+uint32_t smap_compiled_get_counts(const smap_compiled *compiled, smap_compiled_counts *out) {
+    return proved_compiled_counts(LENT(compiled), out);
+}
+
+uint32_t smap_compiled_trace(const smap_compiled *compiled, uint32_t line, uint32_t column, uint32_t bias, smap_original *out) {
+    return proved_compiled_trace(LOAN(compiled), line, column, bias, out);
+}
+
+uint32_t smap_compiled_trace_all(const smap_compiled *compiled, const smap_position *positions, size_t positions_len, uint32_t bias,
+                                 smap_original *out, size_t out_len) {
+    smap_original none;
+    return proved_compiled_trace_all(LOAN(compiled), OR(positions, &no_position), positions_len, bias, OR(out, &none), out_len);
+}
+
+uint32_t smap_compiled_find_all(const smap_compiled *compiled, const smap_position *positions, size_t positions_len, uint32_t bias,
+                                uint32_t *out, size_t out_len) {
+    uint32_t none;
+    return proved_compiled_find_all(LENT(compiled), OR(positions, &no_position), positions_len, bias, OR(out, &none), out_len);
+}
+
+uint32_t smap_compiled_get_token(const smap_compiled *compiled, uint32_t index, smap_token *out) {
+    return proved_compiled_token(LENT(compiled), index, out);
+}
+
+uint32_t smap_compiled_get_text(const smap_compiled *compiled, uint32_t kind, uint32_t id, smap_text *out) {
+    return proved_compiled_text(LOAN(compiled), kind, id, out);
+}
+
+uint32_t smap_compiled_get_stamp(const smap_compiled *compiled, smap_text *out) {
+    return proved_compiled_stamp(LOAN(compiled), out);
+}
+
+uint32_t smap_compiled_is_ignored(const smap_compiled *compiled, uint32_t id, uint32_t *out) {
+    return proved_compiled_is_ignored(LENT(compiled), id, out);
+}
+
+uint32_t smap_decompile(const smap_compiled *compiled, smap_map **out, smap_fault *fault) {
+    smap_fault own;
+    proved_handle made = { NULL };
+    uint32_t code = proved_decompile(LENT(compiled), &made, OR(fault, &own));
+    if (code == SMAP_OK) *out = made.at;
+    return code;
+}
+
+struct smap_file {
+    void *at;
+    size_t len;
+};
+
+static uint32_t no_file(int reason, smap_fault *fault) {
+    static const smap_fault none;
+    *fault = none;
+    fault->detail = (uint64_t)reason;
+    return fault->code = SMAP_NO_FILE;
+}
+
+#ifdef __unix__
+
+/* The bytes of an open file, mapped into memory; of an empty one none. Returns 0, or the errno, or -1 if it is no plain file. */
+static int map_open_file(int from, struct smap_file *file) {
+    struct stat found;
+    if (fstat(from, &found) != 0) return errno;
+    if (!S_ISREG(found.st_mode)) return -1;
+    file->len = (size_t)found.st_size;
+    file->at = file->len ? mmap(NULL, file->len, PROT_READ, MAP_SHARED, from, 0) : NULL;
+    return file->at == MAP_FAILED ? errno : 0;
+}
+
+uint32_t smap_map_file(const char *path, smap_file **out, smap_text *bytes, smap_fault *fault) {
+    smap_fault own;
+    smap_file *file = malloc(sizeof *file);
+    int from = -1, reason;
+    if (!fault) fault = &own;
+    if (!file) return out_of_memory(fault);
+    from = open(path, O_RDONLY | O_CLOEXEC);
+    reason = from < 0 ? errno : map_open_file(from, file);
+    if (from >= 0) close(from);
+    if (reason != 0) {
+        free(file);
+        return no_file(reason < 0 ? 0 : reason, fault);
+    }
+    bytes->at = OR(file->at, "");
+    bytes->len = file->len;
+    *out = file;
+    *fault = (smap_fault){ 0 };
+    return SMAP_OK;
+}
+
+void smap_free_file(smap_file *file) {
+    if (file && file->at) munmap(file->at, file->len);
+    free(file);
+}
+
+static const char *words_of(int reason, char *room, size_t len) {
+    return strerror_r(reason, room, len) == 0 ? room : "";
+}
+
+#else
+
+uint32_t smap_map_file(const char *path, smap_file **out, smap_text *bytes, smap_fault *fault) {
+    smap_fault own;
+    (void)path, (void)out, (void)bytes;
+    return no_file(0, OR(fault, &own));
+}
+
+void smap_free_file(smap_file *file) {
+    free(file);
+}
+
+static const char *words_of(int reason, char *room, size_t len) {
+    (void)reason, (void)room, (void)len;
+    return "";
+}
+
+#endif
 
 /* ---- changing ---- */
 
@@ -579,8 +729,22 @@ uint32_t smap_decode_data_url(const char *url, size_t url_len, smap_string **out
 
 /* ---- errors ---- */
 
+/* Writes as much of a text as fits, and returns its length. */
+static size_t write_text(const char *text, char *out, size_t out_len) {
+    size_t len = strlen(text);
+    memcpy(out, text, len < out_len ? len : out_len);
+    return len;
+}
+
+static size_t file_message(const smap_fault *fault, char *out, size_t out_len) {
+    char room[128];
+    if (fault->detail == 0) return write_text("It is no plain file", out, out_len);
+    return write_text(words_of((int)fault->detail, room, sizeof room), out, out_len);
+}
+
 size_t smap_message(const smap_fault *fault, char *out, size_t out_len) {
     char none;
+    if (fault->code == SMAP_NO_FILE) return file_message(fault, OR(out, &none), out_len);
     return proved_message(fault, OR(out, &none), out_len);
 }
 
@@ -621,12 +785,17 @@ const char *smap_code_name(uint32_t code) {
         NAMED(SMAP_INPUT_LINE_ORDER);
         NAMED(SMAP_BAD_BASE64);
         NAMED(SMAP_BAD_DATA_UTF8);
+        NAMED(SMAP_NOT_COMPILED);
+        NAMED(SMAP_COMPILED_VERSION);
+        NAMED(SMAP_COMPILED_LENGTH);
+        NAMED(SMAP_COMPILED_SIZES);
         NAMED(SMAP_NULL_HANDLE);
         NAMED(SMAP_NOT_UTF8);
         NAMED(SMAP_LENGTHS);
         NAMED(SMAP_NO_ENTRY);
         NAMED(SMAP_NO_INDEX);
         NAMED(SMAP_BAD_OPTION);
+        NAMED(SMAP_NO_FILE);
         default: return "SMAP_UNKNOWN";
     }
 }

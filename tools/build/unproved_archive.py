@@ -23,7 +23,7 @@ from tools.build.unproved import command
 
 CRATE = "oxc_sourcemap_c"
 CLANG = [f"{kit()}/toolchain/bin/clang", "--target=x86_64-unknown-linux-gnu", "-x", "ir"]
-EXPORT = re.compile(r'pub extern "C" fn (\w+)\s*\(([^)]*)\)')
+EXPORT = re.compile(r'pub extern "C" fn (\w+)(?:<[^>]*>)?\s*\(([^)]*)\)')
 # The clang that is called keeps the module that is compiled with a sanitizer, and ends the run.
 KEEPS = """\
 #!/bin/sh

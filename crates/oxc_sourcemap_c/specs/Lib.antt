@@ -13,4 +13,5 @@ pub mod MapsOfMaps
 pub mod Plans
 pub mod Exports
 pub mod Reading
+pub mod Compiled
 pub mod Words

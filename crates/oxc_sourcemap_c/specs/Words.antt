@@ -99,3 +99,14 @@ pub use Rattle.oxc_sourcemap_c.specs.Exports.{IsError, IsUrlAnswer, IsWritingErr
 pub use Rattle.oxc_sourcemap_c.specs.Reading.{DifferFrom, HasAll, HasFirst, Lists, ListsBy}
 pub use Rattle.oxc_sourcemap_c.specs.Reading.{ListsOption, position_at, source_place}
 pub use Rattle.oxc_sourcemap_tokens.specs.declared.errors.error.Error.{Error}
+pub use Rattle.oxc_sourcemap_compiled.specs.Words.{checked_map, compiled_fault, compiled_in}
+pub use Rattle.oxc_sourcemap_handles.specs.CompiledTraces.{IsCompiledIndex, IsCompiledTrace}
+pub use Rattle.oxc_sourcemap_handles.specs.Holding.{held_compiled}
+pub use Rattle.oxc_sourcemap_handles.specs.declared.numbers.call_error.CallError.TheVariants.{BadOption}
+pub use Rattle.oxc_sourcemap_handles.specs.declared.texts.text.Text.{Text as LentText}
+pub use Rattle.oxc_sourcemap_handles.specs.declared.texts.text.TokenNumbers.{TokenNumbers}
+pub use Rattle.oxc_sourcemap_c.specs.Compiled.{HoldsCompiled, IsCompileError, IsCompiledAllError}
+pub use Rattle.oxc_sourcemap_c.specs.Compiled.{IsCompiledError, IsCompiledFrom, IsCompiledText}
+pub use Rattle.oxc_sourcemap_c.specs.Compiled.{IsCompiledToken, IsDecompileError, IsIgnoredFlag}
+pub use Rattle.oxc_sourcemap_c.specs.Compiled.{IsOpenError, IsStamp, IsWrittenOut, asked_of}
+pub use Rattle.oxc_sourcemap_c.specs.Compiled.{compiled_counts_of}

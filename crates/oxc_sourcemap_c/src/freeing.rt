@@ -27,3 +27,11 @@ pub extern "C" fn proved_free_mends(alloc: Global, mends: &mut Handle)
 {
     drop(mends.take(alloc));
 }
+
+/// Frees a compiled map, but not the bytes that it was opened in. The handle is then empty.
+#[unsafe(no_mangle)]
+pub extern "C" fn proved_free_compiled(alloc: Global, compiled: &mut Handle)
+    ensures { compiled.new.held ≡ None }
+{
+    drop(compiled.take(alloc));
+}

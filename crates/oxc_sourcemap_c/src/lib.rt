@@ -5,6 +5,7 @@
 #![tactic(auto)]
 
 mod answers;
+mod compiled;
 mod freeing;
 mod making;
 mod reading;

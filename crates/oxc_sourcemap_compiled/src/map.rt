@@ -10,6 +10,7 @@ ghost use Rattle.oxc_sourcemap_lookup.specs.Words.{binary_digits};
 ghost use Rattle.oxc_sourcemap_compiled.specs.Words.{compiled_meaning, compiled_in, IsInOrder};
 ghost use Rattle.oxc_sourcemap_compiled.specs.Words.{header_in, IsOnLine, IsTokenAt, IsTokenOn};
 ghost use Rattle.oxc_sourcemap_lookup.specs.Words.{token_for, clamped_token_for};
+ghost use Rattle.oxc_sourcemap_lookup.specs.Words.{index_by};
 ghost use Rattle.oxc_sourcemap_lookup.specs.Lookup.{token_after};
 ghost use Rattle.oxc_sourcemap_compiled.specs.Words.{optional_text, listed_text, utf8_text};
 ghost use Rattle.oxc_sourcemap_compiled.specs.Words.{checked_map};
@@ -18,8 +19,9 @@ ghost use Rattle.oxc_sourcemap_parts.specs.Words.{record_of_parts};
 use crate::errors::CompiledError;
 use crate::numbers::u64_at;
 use crate::opened::Opened;
+use oxc_sourcemap_lookup::Bias;
 use oxc_sourcemap_parts::SourceMapParts;
-use oxc_sourcemap_tokens::{Memory, Token};
+use oxc_sourcemap_tokens::{Memory, Position, Token};
 use std::alloc::Global;
 use std::marker::Model;
 
@@ -157,6 +159,38 @@ impl<'a> CompiledMap<'a> {
         self.opened.lookup_token_after(line, col)
     }
 
+    /// The token that answers for a generated position by this bias, and its index. Where bytes are not in order, it is some token of
+    /// the line, or None.
+    #[inline(always)]
+    pub fn find(&self, at: Position, bias: Bias) -> Option<(usize, Token)>
+        ensures found { IsInOrder self.now → option_map (λ found. found.0) result
+            ≡ index_by bias (compiled_in self.now).content.tokens at.line at.column }
+        ensures token { IfSome result (λ found. IsInOrder self.now
+            → slice_get (compiled_in self.now).content.tokens found.0 ≡ Some found.1) }
+        ensures among { IfSome result (λ found. IsTokenOn self.now (header_in self.now) at.line
+            found.1) }
+    {
+        match self.find_index(at, bias) {
+            Some(index) => Some((index, self.opened.token_on(at.line, index))),
+            None => None,
+        }
+    }
+
+    /// The index of the token that answers for a generated position by this bias. Where bytes are not in order, it is that of some
+    /// token of the line, or None.
+    #[inline(always)]
+    pub fn find_index(&self, at: Position, bias: Bias) -> Option<usize>
+        ensures found { IsInOrder self.now
+            → result ≡ index_by bias (compiled_in self.now).content.tokens at.line at.column }
+        ensures among { IfSome result (IsOnLine self.now (header_in self.now) at.line) }
+    {
+        match bias {
+            Bias::Before => self.lookup_token_index(at.line, at.column),
+            Bias::Clamped => self.lookup_token_index_approx(at.line, at.column),
+            Bias::After => self.lookup_token_index_after(at.line, at.column),
+        }
+    }
+
     /// What a token points to, lent from the bytes; its content is `get_source_content`. None where it has no source id, one past
     /// the last source, or the source is not UTF-8.
     pub fn original_of(&self, token: Token) -> Option<CompiledOriginal<'a>>
@@ -218,17 +252,24 @@ impl<'a> CompiledMap<'a> {
         self.opened.header.names
     }
 
+    /// The bytes of a source by its id, lent; None past the last one. They are UTF-8 where `compile` made the map.
+    pub fn source_bytes(&self, id: u32) -> Option<&'a [u8]>
+        ensures { lent_item result ≡ slice_get (compiled_in self.now).content.sources id }
+    {
+        let opened = self.opened;
+        if (id as usize) < opened.header.sources {
+            Some(opened.listed_text(id as usize))
+        } else {
+            None
+        }
+    }
+
     /// A source by its id, lent from the bytes; None past the last one, or where its bytes are not UTF-8; empty where its offsets
     /// are damaged.
     pub fn get_source(&self, id: u32) -> Option<&'a str>
         ensures { lent_item result ≡ listed_text (compiled_in self.now).content.sources id }
     {
-        let opened = self.opened;
-        if (id as usize) < opened.header.sources {
-            utf8(opened.listed_text(id as usize))
-        } else {
-            None
-        }
+        utf8_of(self.source_bytes(id))
     }
 
     /// The content of a source, lent from the bytes; None past the last one, or where it is not known, or not UTF-8.
@@ -237,9 +278,18 @@ impl<'a> CompiledMap<'a> {
             (option_and_then (λ text. text)
             (slice_get (compiled_in self.now).content.source_contents id)) }
     {
+        utf8_of(self.source_content_bytes(id))
+    }
+
+    /// The bytes of the content of a source, lent; None past the last source, or where it is not known. They are UTF-8 where
+    /// `compile` made the map.
+    pub fn source_content_bytes(&self, id: u32) -> Option<&'a [u8]>
+        ensures { lent_item result ≡ option_and_then (λ text. text)
+            (slice_get (compiled_in self.now).content.source_contents id) }
+    {
         let opened = self.opened;
         if (id as usize) < opened.header.sources {
-            utf8_of(opened.optional_text(opened.header.sources + id as usize))
+            opened.optional_text(opened.header.sources + id as usize)
         } else {
             None
         }
@@ -250,9 +300,16 @@ impl<'a> CompiledMap<'a> {
     pub fn get_name(&self, id: u32) -> Option<&'a str>
         ensures { lent_item result ≡ listed_text (compiled_in self.now).content.names id }
     {
+        utf8_of(self.name_bytes(id))
+    }
+
+    /// The bytes of a name by its id, lent; None past the last one. They are UTF-8 where `compile` made the map.
+    pub fn name_bytes(&self, id: u32) -> Option<&'a [u8]>
+        ensures { lent_item result ≡ slice_get (compiled_in self.now).content.names id }
+    {
         let opened = self.opened;
         if (id as usize) < opened.header.names {
-            utf8(opened.listed_text(2 * opened.header.sources + id as usize))
+            Some(opened.listed_text(2 * opened.header.sources + id as usize))
         } else {
             None
         }
@@ -262,24 +319,45 @@ impl<'a> CompiledMap<'a> {
     pub fn get_file(&self) -> Option<&'a str>
         ensures { lent_item result ≡ optional_text (compiled_in self.now).content.file }
     {
+        utf8_of(self.file_bytes())
+    }
+
+    /// The bytes of the name of the generated file, lent; None where there is none. They are UTF-8 where `compile` made the map.
+    pub fn file_bytes(&self) -> Option<&'a [u8]>
+        ensures { lent_item result ≡ (compiled_in self.now).content.file }
+    {
         let opened = self.opened;
-        utf8_of(opened.optional_text(2 * opened.header.sources + opened.header.names))
+        opened.optional_text(2 * opened.header.sources + opened.header.names)
     }
 
     /// The source root, lent from the bytes; None where there is none, or it is not UTF-8.
     pub fn get_source_root(&self) -> Option<&'a str>
         ensures { lent_item result ≡ optional_text (compiled_in self.now).content.source_root }
     {
+        utf8_of(self.source_root_bytes())
+    }
+
+    /// The bytes of the source root, lent; None where there is none. They are UTF-8 where `compile` made the map.
+    pub fn source_root_bytes(&self) -> Option<&'a [u8]>
+        ensures { lent_item result ≡ (compiled_in self.now).content.source_root }
+    {
         let opened = self.opened;
-        utf8_of(opened.optional_text(2 * opened.header.sources + opened.header.names + 1))
+        opened.optional_text(2 * opened.header.sources + opened.header.names + 1)
     }
 
     /// The debug id, lent from the bytes; None where there is none, or it is not UTF-8.
     pub fn get_debug_id(&self) -> Option<&'a str>
         ensures { lent_item result ≡ optional_text (compiled_in self.now).content.debug_id }
     {
+        utf8_of(self.debug_id_bytes())
+    }
+
+    /// The bytes of the debug id, lent; None where there is none. They are UTF-8 where `compile` made the map.
+    pub fn debug_id_bytes(&self) -> Option<&'a [u8]>
+        ensures { lent_item result ≡ (compiled_in self.now).content.debug_id }
+    {
         let opened = self.opened;
-        utf8_of(opened.optional_text(2 * opened.header.sources + opened.header.names + 2))
+        opened.optional_text(2 * opened.header.sources + opened.header.names + 2)
     }
 
     /// The number of bytes of the text that the map was read from, as `compile` was told.

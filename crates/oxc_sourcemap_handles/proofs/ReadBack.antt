@@ -41,6 +41,10 @@ use Rattle.oxc_sourcemap_handles.specs.declared.numbers.call_error.CallError.The
 use Rattle.oxc_sourcemap_handles.specs.declared.numbers.call_error.CallError.TheVariants.{BadOption}
 use Rattle.oxc_sourcemap_handles.specs.declared.numbers.call_error.CallError.TheVariants.{BadBase64}
 use Rattle.oxc_sourcemap_handles.specs.declared.numbers.call_error.CallError.TheVariants.{BadDataUtf8}
+use Rattle.oxc_sourcemap_handles.specs.declared.numbers.call_error.CallError.TheVariants.{Compiled}
+use Rattle.oxc_sourcemap_compiled.specs.declared.errors.CompiledError.TheVariants.{NotCompiled}
+use Rattle.oxc_sourcemap_compiled.specs.declared.errors.CompiledError.TheVariants.{Version as CompiledVersion}
+use Rattle.oxc_sourcemap_compiled.specs.declared.errors.CompiledError.TheVariants.{Length, Sizes}
 use Rattle.oxc_sourcemap_handles.specs.Codes.{fault_of, call_error_of, IsSmall}
 
 shape_back : (f : Field) → call_error_of (fault_of (Plan (Map (BadJson (Shape f))))) ≡ Some (Plan (Map (BadJson (Shape f))))
@@ -88,3 +92,7 @@ read_back NoIndex s = refl
 read_back BadOption s = refl
 read_back (BadBase64 at) s = refl
 read_back (BadDataUtf8 at) s = refl
+read_back (Compiled NotCompiled) s = refl
+read_back (Compiled (CompiledVersion n)) s = ap (λ k. Some (Compiled (CompiledVersion k))) (mod-eq_of_lt s)
+read_back (Compiled Length) s = refl
+read_back (Compiled Sizes) s = refl

@@ -21,6 +21,8 @@ use Rattle.oxc_sourcemap_handles.specs.declared.numbers.call_error.CallError.The
 use Rattle.oxc_sourcemap_handles.specs.declared.numbers.call_error.CallError.TheVariants.{BadOption}
 use Rattle.oxc_sourcemap_handles.specs.declared.numbers.call_error.CallError.TheVariants.{BadBase64}
 use Rattle.oxc_sourcemap_handles.specs.declared.numbers.call_error.CallError.TheVariants.{BadDataUtf8}
+use Rattle.oxc_sourcemap_handles.specs.declared.numbers.call_error.CallError.TheVariants.{Compiled}
+use Rattle.oxc_sourcemap_compiled.specs.Messages.{compiled_error_text}
 use Rattle.oxc_sourcemap_parts.specs.Record.{MapRecord}
 use Rattle.oxc_sourcemap_parts.specs.Sorted.{are_tokens_sorted}
 use Rattle.oxc_sourcemap_steps.specs.Simplified.{simplification}
@@ -38,6 +40,7 @@ call_error_text NoIndex = codes "The map has no index of its sources"
 call_error_text BadOption = codes "There is no such option"
 call_error_text (BadBase64 at) = data_url_error_text (DataBase64 at)
 call_error_text (BadDataUtf8 at) = data_url_error_text (DataUtf8 at)
+call_error_text (Compiled error) = compiled_error_text error
 
 -- an error of a call on a map
 abbrev pub of_map : Error → CallError

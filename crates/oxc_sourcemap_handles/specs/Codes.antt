@@ -33,6 +33,11 @@ use Rattle.oxc_sourcemap_handles.specs.declared.numbers.call_error.CallError.The
 use Rattle.oxc_sourcemap_handles.specs.declared.numbers.call_error.CallError.TheVariants.{BadOption}
 use Rattle.oxc_sourcemap_handles.specs.declared.numbers.call_error.CallError.TheVariants.{BadBase64}
 use Rattle.oxc_sourcemap_handles.specs.declared.numbers.call_error.CallError.TheVariants.{BadDataUtf8}
+use Rattle.oxc_sourcemap_handles.specs.declared.numbers.call_error.CallError.TheVariants.{Compiled}
+use Rattle.oxc_sourcemap_compiled.specs.declared.errors.CompiledError.{CompiledError}
+use Rattle.oxc_sourcemap_compiled.specs.declared.errors.CompiledError.TheVariants.{NotCompiled}
+use Rattle.oxc_sourcemap_compiled.specs.declared.errors.CompiledError.TheVariants.{Version as CompiledVersion}
+use Rattle.oxc_sourcemap_compiled.specs.declared.errors.CompiledError.TheVariants.{Length, Sizes}
 use Rattle.oxc_sourcemap_handles.specs.declared.numbers.fault.Fault.{Fault}
 use Rattle.oxc_sourcemap_tokens.specs.declared.errors.fault.FaultPlace.{FaultPlace}
 use Rattle.oxc_sourcemap_handles.specs.FieldNumbers.{number_of_field, field_of}
@@ -69,6 +74,12 @@ fault_of_plan_error (Map error) = fault_of_error error
 fault_of_plan_error Unsorted = fault 15 0
 fault_of_plan_error TooDeep = fault 16 0
 
+abbrev pub fault_of_compiled : CompiledError → Fault
+fault_of_compiled NotCompiled = fault 23 0
+fault_of_compiled (CompiledVersion n) = fault 24 n
+fault_of_compiled Length = fault 25 0
+fault_of_compiled Sizes = fault 26 0
+
 -- the numbers of an error
 abbrev pub fault_of : CallError → Fault
 fault_of (Plan error) = fault_of_plan_error error
@@ -82,6 +93,7 @@ fault_of NoIndex = fault 104 0
 fault_of BadOption = fault 105 0
 fault_of (BadBase64 at) = fault 21 at
 fault_of (BadDataUtf8 at) = fault 22 at
+fault_of (Compiled error) = fault_of_compiled error
 
 -- the numbers of an error, and of the place of its fault
 abbrev pub fault_at : CallError → Option FaultPlace → Fault
@@ -131,6 +143,10 @@ call_error_of f =
     else if f.code == 105 then Some BadOption
     else if f.code == 21 then Some (BadBase64 f.detail)
     else if f.code == 22 then Some (BadDataUtf8 f.detail)
+    else if f.code == 23 then Some (Compiled NotCompiled)
+    else if f.code == 24 then Some (Compiled (CompiledVersion (f.detail % 4294967296)))
+    else if f.code == 25 then Some (Compiled Length)
+    else if f.code == 26 then Some (Compiled Sizes)
     else option_map (λ error. Plan (Map error)) (error_of f)
 
 -- the number that an error carries, if it is one of 32 bits
@@ -166,6 +182,10 @@ short_number_of NoIndex = 0
 short_number_of BadOption = 0
 short_number_of (BadBase64 at) = 0
 short_number_of (BadDataUtf8 at) = 0
+short_number_of (Compiled NotCompiled) = 0
+short_number_of (Compiled (CompiledVersion n)) = n
+short_number_of (Compiled Length) = 0
+short_number_of (Compiled Sizes) = 0
 
 -- an error as the library makes it: a number of 32 bits is below 2^32
 abbrev pub IsSmall : CallError → Type 0

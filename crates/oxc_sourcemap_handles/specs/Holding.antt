@@ -1,6 +1,6 @@
--- A handle, as contracts see it: what it holds. Rattle has one type of handle and C has five, so a handle may also hold what a call
+-- A handle, as contracts see it: what it holds. Rattle has one type of handle and C has six, so a handle may also hold what a call
 -- does not take.
-use Rattle.std.specs.Prelude.{◌≡◌, true, List, Option, Some, None, string_bytes, MatchOption}
+use Rattle.std.specs.Prelude.{◌≡◌, ℕ, true, List, Option, Some, None, string_bytes, MatchOption}
 use Rattle.oxc_sourcemap_parts.specs.Record.{Text, MapRecord}
 use Rattle.oxc_sourcemap_map.specs.Built.{Built}
 use Rattle.oxc_sourcemap_handles.specs.Indices.{Loaded}
@@ -8,7 +8,8 @@ use Rattle.oxc_sourcemap_found.specs.declared.mending.mend.Mend.{Mend}
 use Rattle.oxc_sourcemap_handles.specs.declared.holding.held.Held.{Held}
 use Rattle.oxc_sourcemap_handles.specs.declared.holding.held.Held.TheVariants.{Map, Written}
 use Rattle.oxc_sourcemap_handles.specs.declared.holding.held.Held.TheVariants.{Building, Joining}
-use Rattle.oxc_sourcemap_handles.specs.declared.holding.held.Held.TheVariants.{Mended}
+use Rattle.oxc_sourcemap_handles.specs.declared.holding.held.Held.TheVariants.{Mended, Bytes}
+use Rattle.oxc_sourcemap_handles.specs.declared.holding.held.Held.TheVariants.{Compiled}
 
 -- the map that a handle holds, if it holds one, with what is kept beside it
 abbrev pub held_loaded : Option Held → Option Loaded
@@ -18,6 +19,8 @@ held_loaded (Some (Written text)) = None
 held_loaded (Some (Building b)) = None
 held_loaded (Some (Joining j)) = None
 held_loaded (Some (Mended mends)) = None
+held_loaded (Some (Bytes bytes)) = None
+held_loaded (Some (Compiled c)) = None
 
 -- the map that a handle holds, if it holds one
 abbrev pub held_map : Option Held → Option MapRecord
@@ -27,8 +30,10 @@ held_map (Some (Written text)) = None
 held_map (Some (Building b)) = None
 held_map (Some (Joining j)) = None
 held_map (Some (Mended mends)) = None
+held_map (Some (Bytes bytes)) = None
+held_map (Some (Compiled c)) = None
 
--- the text that a handle holds, if it holds one
+-- the text that a handle holds, or the bytes of a compiled map, if it holds one
 abbrev pub held_text : Option Held → Option Text
 held_text None = None
 held_text (Some (Map m)) = None
@@ -36,6 +41,8 @@ held_text (Some (Written text)) = Some (string_bytes text)
 held_text (Some (Building b)) = None
 held_text (Some (Joining j)) = None
 held_text (Some (Mended mends)) = None
+held_text (Some (Bytes bytes)) = Some bytes.items
+held_text (Some (Compiled c)) = None
 
 -- the builder that a handle holds, if it holds one
 abbrev pub held_builder : Option Held → Option Built
@@ -45,6 +52,8 @@ held_builder (Some (Written text)) = None
 held_builder (Some (Building b)) = Some b.value
 held_builder (Some (Joining j)) = None
 held_builder (Some (Mended mends)) = None
+held_builder (Some (Bytes bytes)) = None
+held_builder (Some (Compiled c)) = None
 
 -- the join so far that a handle holds, if it holds one
 abbrev pub held_join : Option Held → Option MapRecord
@@ -54,6 +63,8 @@ held_join (Some (Written text)) = None
 held_join (Some (Building b)) = None
 held_join (Some (Joining j)) = Some j
 held_join (Some (Mended mends)) = None
+held_join (Some (Bytes bytes)) = None
+held_join (Some (Compiled c)) = None
 
 -- the mends that a handle holds, if it holds them
 abbrev pub held_mends : Option Held → Option (List Mend)
@@ -63,6 +74,19 @@ held_mends (Some (Written text)) = None
 held_mends (Some (Building b)) = None
 held_mends (Some (Joining j)) = None
 held_mends (Some (Mended mends)) = Some mends.items
+held_mends (Some (Bytes bytes)) = None
+held_mends (Some (Compiled c)) = None
+
+-- the bytes of the compiled map that is open in a handle, if there is one
+abbrev pub held_compiled : Option Held → Option (List ℕ)
+held_compiled None = None
+held_compiled (Some (Map m)) = None
+held_compiled (Some (Written text)) = None
+held_compiled (Some (Building b)) = None
+held_compiled (Some (Joining j)) = None
+held_compiled (Some (Mended mends)) = None
+held_compiled (Some (Bytes bytes)) = None
+held_compiled (Some (Compiled c)) = Some c
 
 -- a handle holds a map of which this holds
 abbrev pub HoldsMap : Option Held → (MapRecord → Type 0) → Type 0

@@ -10,5 +10,6 @@ pub mod Options
 pub mod Listed
 pub mod Structs
 pub mod Traces
+pub mod CompiledTraces
 pub mod Lists
 pub mod Words

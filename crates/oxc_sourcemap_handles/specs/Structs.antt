@@ -58,6 +58,11 @@ abbrev pub kind_of : Option Text → ℕ
 kind_of None = 2
 kind_of (Some name) = 3
 
+-- the kind of a token by its source and its name: 1 without a source
+abbrev pub kind_by : Option Text → Option Text → ℕ
+kind_by None name = 1
+kind_by (Some path) name = kind_of name
+
 -- an answer is an original position
 pub record IsOriginal (p : Original) (o : OriginalPosition) : Type 0 where
   pub kind : p.kind ≡ kind_of o.name
@@ -78,6 +83,13 @@ pub record IsSeen (m : MapRecord) (found : Option ℕ) (p : Original) : Type 0 w
   pub token : p.token ≡ numbers_or_none (option_and_then (slice_get m.tokens) found)
   pub name : p.name.bytes.now ≡ unwrap_or (option_and_then (name_of m.names) (option_and_then (slice_get m.tokens) found)) []
   pub original : HasOriginal p (option_map (original_in m) (option_and_then (slice_get m.tokens) found))
+
+-- an answer is that of a token with this index, by the lists of a map
+pub record IsShown (m : MapRecord) (i : ℕ) (t : TokenRecord) (p : Original) : Type 0 where
+  pub index : p.index ≡ index_number (Some i)
+  pub token : p.token ≡ numbers_of t
+  pub name : p.name.bytes.now ≡ unwrap_or (name_of m.names t) []
+  pub original : HasOriginal p (Some (original_in m t))
 
 -- the numbers of a piece
 abbrev pub piece_numbers : Piece → PieceNumbers

@@ -20,9 +20,10 @@ pub use Rattle.oxc_sourcemap_handles.specs.CallErrors.{IsNotText, IsSimplifyErro
 pub use Rattle.oxc_sourcemap_handles.specs.CallErrors.{call_error_text, out_of_memory}
 pub use Rattle.oxc_sourcemap_handles.specs.Codes.{IsErrorAs, call_error_of, code_of, error_of}
 pub use Rattle.oxc_sourcemap_handles.specs.Codes.{fault_at, fault_of, fault_of_error, fault_of_json}
-pub use Rattle.oxc_sourcemap_handles.specs.Codes.{fault_of_plan_error, no_fault}
+pub use Rattle.oxc_sourcemap_handles.specs.Codes.{fault_of_plan_error, fault_of_compiled, no_fault}
 pub use Rattle.oxc_sourcemap_handles.specs.FieldNumbers.{field_of, number_of_field}
-pub use Rattle.oxc_sourcemap_handles.specs.Holding.{held_map, held_text}
+pub use Rattle.oxc_sourcemap_handles.specs.CompiledTraces.{IsCompiledTrace, IsCompiledIndex}
+pub use Rattle.oxc_sourcemap_handles.specs.Holding.{held_map, held_text, held_compiled}
 pub use Rattle.oxc_sourcemap_handles.specs.Indices.{IsOutOfOrder, IsIndexed}
 pub use Rattle.oxc_sourcemap_handles.specs.Lists.{AreContents, AreTexts, IsContent, IsNotContent}
 pub use Rattle.oxc_sourcemap_handles.specs.Lists.{IsNotContents, IsNotTexts, known_text}
@@ -31,12 +32,13 @@ pub use Rattle.oxc_sourcemap_handles.specs.Options.{bias_of, direction_of}
 pub use Rattle.oxc_sourcemap_handles.specs.PlaceNumbers.{no_place, number_told, numbers_of_place}
 pub use Rattle.oxc_sourcemap_handles.specs.PlaceNumbers.{numbers_of_spot, place_of_numbers}
 pub use Rattle.oxc_sourcemap_handles.specs.PlaceNumbers.{spot_of_numbers, told_number}
-pub use Rattle.oxc_sourcemap_handles.specs.Structs.{HasOriginal, IsSeen, capped}
+pub use Rattle.oxc_sourcemap_handles.specs.Structs.{HasOriginal, IsSeen, IsShown, capped, kind_by}
 pub use Rattle.oxc_sourcemap_handles.specs.Structs.{index_number, no_numbers, number_or_none}
 pub use Rattle.oxc_sourcemap_handles.specs.Structs.{numbers_of, piece_numbers}
 pub use Rattle.oxc_sourcemap_handles.specs.Traces.{AreFoundIn, AreTracesOf, IsTraceOf}
 pub use Rattle.oxc_sourcemap_handles.specs.declared.numbers.call_error.CallError.{CallError}
 pub use Rattle.oxc_sourcemap_handles.specs.declared.numbers.call_error.CallError.TheVariants.{BadOption}
+pub use Rattle.oxc_sourcemap_handles.specs.declared.numbers.call_error.CallError.TheVariants.{Compiled}
 pub use Rattle.oxc_sourcemap_handles.specs.declared.numbers.call_error.CallError.TheVariants.{NoIndex}
 pub use Rattle.oxc_sourcemap_handles.specs.declared.numbers.call_error.CallError.TheVariants.{Plan}
 pub use Rattle.oxc_sourcemap_handles.specs.declared.numbers.call_error.CallError.TheVariants.{NullHandle}

@@ -1,5 +1,6 @@
 //! Handles, what they hold, and what is lent of it.
 
+mod compiled;
 mod handle;
 mod held;
 mod lent;
@@ -8,6 +9,9 @@ mod operations;
 mod sent;
 mod setters;
 
+pub use compiled::{
+    find_all_compiled, put_bytes, put_compiled, trace_all_compiled, trace_compiled,
+};
 pub use handle::Handle;
 pub use held::{Held, LoadedMap, index_of};
 pub use lent::Lent;

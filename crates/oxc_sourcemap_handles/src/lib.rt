@@ -7,7 +7,8 @@ mod numbers;
 mod texts;
 
 pub use holding::{
-    Handle, Held, Lent, LoadedMap, box_map, empty_box, index_of, put, put_map, put_text,
+    Handle, Held, Lent, LoadedMap, box_map, empty_box, find_all_compiled, index_of, put, put_bytes,
+    put_compiled, put_map, put_text, trace_all_compiled, trace_compiled,
 };
 pub use numbers::{CallError, Direction, Fault, PlaceNumbers, bias_from, number_told, told_number};
 pub use texts::{

@@ -237,8 +237,8 @@ fn written_text<'c>(string: Lent) -> Result<Text<'c>, CallError>
     ensures found { MatchOption (held_text string.held) (result ≡ Err NullHandle)
         (λ text. MatchResult result (λ t. LendsText t text) (λ _. ⊥)) }
 {
-    let text = string.into_text()?;
-    Ok(Text::of(text))
+    let bytes = string.into_text()?;
+    Ok(Text::of_bytes(Some(bytes)))
 }
 
 /// The text of a string, lent.

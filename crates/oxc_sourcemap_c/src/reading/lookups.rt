@@ -138,7 +138,7 @@ fn trace_anyhow<'c>(
 }
 
 /// Whether there are as many answers as positions. Fails with `Lengths` if not.
-fn have_one_length(positions: usize, answers: usize) -> Result<(), CallError>
+pub(crate) fn have_one_length(positions: usize, answers: usize) -> Result<(), CallError>
     ensures { MatchResult result (λ _. positions ≡ answers)
         (λ r. (r ≡ Lengths) × (positions ≢ answers)) }
 {

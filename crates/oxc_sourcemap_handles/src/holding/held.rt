@@ -10,6 +10,7 @@ ghost use Rattle.std.specs.Prelude.{IfSome};
 
 use crate::numbers::call_error::CallError;
 use crate::texts::text::{Original, index_or_none};
+use oxc_sourcemap_compiled::CompiledMap;
 use oxc_sourcemap_found::Mend;
 use oxc_sourcemap_lookup::{Bias, LineIndex, Traced, UsualIndex};
 use oxc_sourcemap_map::{ConcatSourceMapBuilder, OwnedSourceMap, SourceMapBuilder, SourceOrder};
@@ -340,7 +341,7 @@ pub fn index_of(alloc: Global, tokens: &[Token]) -> Result<Result<LineIndex>>
     }
 }
 
-/// What a handle holds. All strings are its own.
+/// What a handle holds. All but the bytes of a compiled map is its own.
 #[derive(Drop)]
 pub enum Held {
     Map(LoadedMap),
@@ -352,4 +353,8 @@ pub enum Held {
     Joining(ConcatSourceMapBuilder<'static>),
     /// What was mended in a map.
     Mended(Vec<Mend>),
+    /// The bytes of a compiled map that the library made.
+    Bytes(Vec<u8>),
+    /// A compiled map that is open, in bytes of the caller, who keeps them until the handle is freed.
+    Compiled(CompiledMap<'static>),
 }

@@ -6,6 +6,7 @@ ghost use Rattle.oxc_sourcemap_handles.specs.Lent.{lent_owns};
 
 use crate::holding::held::{Held, LoadedMap};
 use crate::numbers::call_error::CallError;
+use oxc_sourcemap_compiled::CompiledMap;
 use oxc_sourcemap_found::Mend;
 use oxc_sourcemap_map::OwnedSourceMap;
 use std::marker::Model;
@@ -26,7 +27,7 @@ impl Model for Lent {
 impl Lent {
     ghost use Rattle.std.specs.Prelude.{◌≡◌, option_map, Err, MatchOption, MatchResult};
     ghost use Rattle.oxc_sourcemap_handles.specs.Holding.{held_map, held_loaded, held_text};
-    ghost use Rattle.oxc_sourcemap_handles.specs.Holding.{held_mends};
+    ghost use Rattle.oxc_sourcemap_handles.specs.Holding.{held_mends, held_compiled};
     ghost use Rattle.oxc_sourcemap_handles.specs.declared.numbers.call_error.CallError.TheVariants.{NullHandle};
 
     /// What is lent. None for null.
@@ -67,13 +68,37 @@ impl Lent {
         }
     }
 
-    /// The text that is lent, as by `into_held`. Fails with `NullHandle` if there is none.
-    pub fn into_text<'c>(self) -> Result<&'c str, CallError>
+    /// The bytes of the text that is lent, or those of a compiled map, as by `into_held`. Fails with `NullHandle` if there are none.
+    pub fn into_text<'c>(self) -> Result<&'c [u8], CallError>
         ensures { MatchOption (held_text self.held) (result ≡ Err NullHandle)
             (λ t. MatchResult result (λ text. text.now ≡ t) (λ _. ⊥)) }
     {
         match self.into_held() {
-            Some(Held::Written(text)) => Ok(text.as_str()),
+            Some(Held::Written(text)) => Ok(text.as_bytes()),
+            Some(Held::Bytes(bytes)) => Ok(bytes.as_slice()),
+            _ => Err(CallError::NullHandle),
+        }
+    }
+
+    /// The compiled map that is lent, as by `into_held`. Fails with `NullHandle` if there is none.
+    #[inline(always)]
+    pub fn into_compiled<'c>(self) -> Result<&'c CompiledMap<'static>, CallError>
+        ensures { MatchOption (held_compiled self.held) (result ≡ Err NullHandle)
+            (λ bytes. MatchResult result (λ map. map.now ≡ bytes) (λ _. ⊥)) }
+    {
+        match self.into_held() {
+            Some(Held::Compiled(map)) => Ok(map),
+            _ => Err(CallError::NullHandle),
+        }
+    }
+
+    /// The compiled map that is lent. Fails with `NullHandle` if there is none.
+    pub fn compiled(&self) -> Result<&CompiledMap<'static>, CallError>
+        ensures { MatchOption (held_compiled self.now.held) (result ≡ Err NullHandle)
+            (λ bytes. MatchResult result (λ map. map.now ≡ bytes) (λ _. ⊥)) }
+    {
+        match self.get() {
+            Some(Held::Compiled(map)) => Ok(map),
             _ => Err(CallError::NullHandle),
         }
     }

@@ -1,8 +1,10 @@
 //! The errors of calls of the library for C.
 ghost use Rattle.std.specs.Prelude.{◌≡◌, Some};
 ghost use Rattle.oxc_sourcemap_handles.specs.Words.{OutOfMemory, Map, Plan, call_error_text};
+ghost use Rattle.oxc_sourcemap_handles.specs.Words.{Compiled};
 ghost use Rattle.oxc_sourcemap_handles.specs.Words.{out_of_memory};
 
+use oxc_sourcemap_compiled::CompiledError;
 use oxc_sourcemap_tokens::{Error, PlanError};
 use std::alloc::{AllocError, AllocFailed};
 use std::fmt;
@@ -32,6 +34,8 @@ pub enum CallError {
     BadBase64(usize),
     /// The text of a data URL is not UTF-8; so many bytes at the beginning are.
     BadDataUtf8(usize),
+    /// Bytes are not a compiled map.
+    Compiled(CompiledError),
 }
 
 impl CallError {
@@ -63,6 +67,7 @@ impl fmt::Display for CallError {
             CallError::BadDataUtf8(at) => {
                 write!(f, "The data URL has bad UTF-8 at byte {at} of its text")
             }
+            CallError::Compiled(error) => write!(f, "{error}"),
         }
     }
 }
@@ -80,6 +85,14 @@ impl From<PlanError> for CallError {
 
     fn from(error: PlanError) -> CallError {
         CallError::Plan(error)
+    }
+}
+
+impl From<CompiledError> for CallError {
+    ghost from_gives = { λ error call. call ≡ Compiled error };
+
+    fn from(error: CompiledError) -> CallError {
+        CallError::Compiled(error)
     }
 }
 

@@ -2,11 +2,13 @@
 ghost use Rattle.std.specs.Prelude.{◌≡◌, ◌%◌};
 ghost use Rattle.oxc_sourcemap_handles.specs.Words.{fault_of, fault_of_error, fault_of_plan_error};
 ghost use Rattle.oxc_sourcemap_handles.specs.Words.{fault_of_json, no_fault, no_place, fault_at};
+ghost use Rattle.oxc_sourcemap_handles.specs.Words.{fault_of_compiled};
 ghost use Rattle.oxc_sourcemap_handles.specs.Words.{call_error_of, error_of};
 
 use crate::numbers::call_error::CallError;
 use crate::numbers::field_numbers::{field_of, number_of};
 use crate::numbers::place_numbers::PlaceNumbers;
+use oxc_sourcemap_compiled::CompiledError;
 use oxc_sourcemap_tokens::{Error, FaultPlace, JsonFault, PlanError};
 
 /// The numbers of an error: its code, the number of the field of a JSON source map that it is about, the number that it carries,
@@ -83,6 +85,17 @@ impl Fault {
         }
     }
 
+    fn of_compiled(error: CompiledError) -> Fault
+        ensures { result ≡ fault_of_compiled error }
+    {
+        match error {
+            CompiledError::NotCompiled => Fault::with(23, 0),
+            CompiledError::Version(version) => Fault::with(24, u64::from(version)),
+            CompiledError::Length => Fault::with(25, 0),
+            CompiledError::Sizes => Fault::with(26, 0),
+        }
+    }
+
     /// The numbers of an error.
     #[cold]
     #[inline(never)]
@@ -101,6 +114,7 @@ impl Fault {
             CallError::BadOption => Fault::with(105, 0),
             CallError::BadBase64(at) => Fault::with(21, at as u64),
             CallError::BadDataUtf8(at) => Fault::with(22, at as u64),
+            CallError::Compiled(error) => Fault::of_compiled(error),
         }
     }
 
@@ -160,6 +174,10 @@ impl Fault {
             105 => Some(CallError::BadOption),
             21 => Some(CallError::BadBase64(index)),
             22 => Some(CallError::BadDataUtf8(index)),
+            23 => Some(CallError::Compiled(CompiledError::NotCompiled)),
+            24 => Some(CallError::Compiled(CompiledError::Version(number))),
+            25 => Some(CallError::Compiled(CompiledError::Length)),
+            26 => Some(CallError::Compiled(CompiledError::Sizes)),
             _ => Some(CallError::Plan(PlanError::Map(self.error(number, index)?))),
         }
     }

@@ -4,8 +4,10 @@ ghost use Rattle.std.specs.Option.{unwrap_or};
 ghost use Rattle.oxc_sourcemap_handles.specs.Words.{view_of, view_name, view_original, HasOriginal};
 ghost use Rattle.oxc_sourcemap_handles.specs.Words.{number_or_none, numbers_of, no_numbers};
 ghost use Rattle.oxc_sourcemap_handles.specs.Words.{lent_item, index_number, IsSeen};
-ghost use Rattle.oxc_sourcemap_handles.specs.Words.{piece_numbers};
+ghost use Rattle.oxc_sourcemap_handles.specs.Words.{piece_numbers, kind_by, IsShown};
+ghost use Rattle.oxc_sourcemap_compiled.specs.Words.{compiled_in};
 
+use oxc_sourcemap_compiled::CompiledMap;
 use oxc_sourcemap_map::{SourceMap, SourceViewToken};
 use oxc_sourcemap_queries::Piece;
 use oxc_sourcemap_tokens::{Position, Token};
@@ -34,6 +36,19 @@ impl<'c> Text<'c> {
     {
         match text {
             Some(text) => Text::of(text),
+            None => Text { bytes: &[] },
+        }
+    }
+}
+
+impl<'c> Text<'c> {
+    /// These bytes, none if there are none.
+    #[inline(always)]
+    pub fn of_bytes(bytes: Option<&'c [u8]>) -> Text<'c>
+        ensures { result.bytes.now ≡ unwrap_or (lent_item bytes.entry) [] }
+    {
+        match bytes {
+            Some(bytes) => Text { bytes },
             None => Text { bytes: &[] },
         }
     }
@@ -185,6 +200,42 @@ impl<'c> Original<'c> {
         self.index = index_or_none(Some(index));
         self.token = TokenNumbers::of(&token);
         self.write_texts(&SourceViewToken::new(token, map));
+    }
+}
+
+/// The kind of a token by its source and its name: 1 without a source, 2 without a name, else 3.
+#[inline(always)]
+fn kind_by(source: Option<&[u8]>, name: Option<&[u8]>) -> u32
+    ensures { result ≡ kind_by (lent_item source.entry) (lent_item name.entry) }
+{
+    match (source, name) {
+        (None, _) => 1,
+        (Some(_), None) => 2,
+        (Some(_), Some(_)) => 3,
+    }
+}
+
+impl<'c> Original<'c> {
+    /// Writes what the token at this index of a compiled map says.
+    #[inline(always)]
+    pub fn write_compiled(&mut self, index: usize, token: Token, map: &'c CompiledMap<'static>)
+        ensures { IsShown (compiled_in map.now).content index token self.new }
+    {
+        let source = match token.get_source_id() {
+            Some(id) => map.source_bytes(id),
+            None => None,
+        };
+        let name = match token.get_name_id() {
+            Some(id) => map.name_bytes(id),
+            None => None,
+        };
+        *self = Original {
+            kind: kind_by(source, name),
+            index: index_or_none(Some(index)),
+            token: TokenNumbers::of(&token),
+            source: Text::of_bytes(source),
+            name: Text::of_bytes(name),
+        };
     }
 }
 

@@ -1,8 +1,7 @@
-use Rattle.std.proofs.Common.{◌<◌, ◌≤◌, ap, ◌∙◌, sym, arith}
-use Rattle.std.specs.Option.{option_and_then}
-use Rattle.oxc_sourcemap_compiled.specs.Words.{header_in, listed_in, utf8_text}
+use Rattle.std.proofs.Common.{◌<◌, ◌≤◌, ap, ◌∙◌, sym, arith, Some}
+use Rattle.oxc_sourcemap_compiled.specs.Words.{header_in, listed_in}
 use Rattle.oxc_sourcemap_compiled.proofs.Ranges.{made-get, made-past}
-use Rattle.oxc_sourcemap_compiled.proofs.map.CompiledMap.get_source.Goals as goal
+use Rattle.oxc_sourcemap_compiled.proofs.map.CompiledMap.source_bytes.Goals as goal
 
 pub returns-then-id-opened : goal.returns-then-id-opened
 returns-then-id-opened c =
@@ -11,9 +10,9 @@ returns-then-id-opened c =
     let id = c.args.id in
     let o = c.self.inside.opened in
     let same = c.self.invariant.header ∙ ap header_in c.self.view_is in
-    let text = c.listed_text.ensures ∙ ap (λ b. listed_in b o.header id) c.self.view_is ∙ ap (λ g. listed_in bytes g id) same in
+    let text = c.listed_text.ensures ∙ ap (λ b. listed_in b o.header (id)) c.self.view_is ∙ ap (λ g. listed_in bytes g (id)) same in
     let lt : id < h.sources = omega (arith, c.if-id-opened.true, ap (λ g. g.sources) same) in
-    c.utf8-2.ensures ∙ ap utf8_text text ∙ sym (ap (option_and_then utf8_text) (made-get (listed_in bytes h) 0 h.sources id id lt (omega arith)))
+    ap Some text ∙ sym (made-get (listed_in bytes h) 0 h.sources id id lt (omega arith))
 
 pub returns-else-id-opened : goal.returns-else-id-opened
 returns-else-id-opened c =
@@ -21,4 +20,4 @@ returns-else-id-opened c =
     let h = header_in bytes in
     let same = c.self.invariant.header ∙ ap header_in c.self.view_is in
     let past : h.sources ≤ c.args.id = omega (arith, c.if-id-opened.false, ap (λ g. g.sources) same) in
-    sym (ap (option_and_then utf8_text) (made-past (listed_in bytes h) h.sources c.args.id past))
+    sym (made-past (listed_in bytes h) h.sources c.args.id past)

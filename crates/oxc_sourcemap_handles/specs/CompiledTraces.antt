@@ -1,0 +1,33 @@
+-- What a compiled map in a handle says of generated positions.
+use Rattle.std.specs.Prelude.{◌≡◌, ◌⊎◌, ℕ, List, None}
+use Rattle.oxc_sourcemap_tokens.specs.Token.{TokenRecord}
+use Rattle.oxc_sourcemap_tokens.specs.declared.position.Position.{Position}
+use Rattle.oxc_sourcemap_lookup.specs.Biased.{index_by}
+use Rattle.oxc_sourcemap_lookup.specs.declared.bias.Bias.{Bias}
+use Rattle.oxc_sourcemap_compiled.specs.Words.{compiled_in, header_in, IsInOrder, IsTokenOn}
+use Rattle.oxc_sourcemap_handles.specs.declared.texts.text.Original.{Original}
+use Rattle.oxc_sourcemap_handles.specs.Structs.{HasOriginal, IsShown, index_number, no_numbers}
+use Rattle.oxc_sourcemap_handles.specs.Traces.{IsTraceOf}
+
+-- an answer says that there is no token
+pub record IsNothing (p : Original) : Type 0 where
+  pub index : p.index ≡ 4294967295
+  pub token : p.token ≡ no_numbers
+  pub original : HasOriginal p None
+
+-- an answer is that of a token on this line of a compiled map
+pub record IsOfLine (bytes : List ℕ) (line : ℕ) (p : Original) : Type 0 where
+  pub index : ℕ
+  pub token : TokenRecord
+  pub on_line : IsTokenOn bytes (header_in bytes) line token
+  pub shown : IsShown (compiled_in bytes).content index token p
+
+-- An answer of a compiled map for a position: of bytes that are in order it is the trace of their map there, and of any bytes that of
+-- some token on the line, or none.
+pub record IsCompiledTrace (bias : Bias) (bytes : List ℕ) (at : Position) (p : Original) : Type 0 where
+  pub traced : IsInOrder bytes → IsTraceOf bias (compiled_in bytes).content at p
+  pub among : IsNothing p ⊎ IsOfLine bytes at.line p
+
+-- the number of the index of the token that answers for a position, of bytes that are in order
+abbrev pub IsCompiledIndex : Bias → List ℕ → Position → ℕ → Type 0
+IsCompiledIndex bias bytes at n = IsInOrder bytes → n ≡ index_number (index_by bias (compiled_in bytes).content.tokens at.line at.column)

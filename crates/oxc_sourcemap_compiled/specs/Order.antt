@@ -7,8 +7,8 @@ use Rattle.oxc_sourcemap_lookup.specs.Lookup.{no_column_goes_back}
 use Rattle.oxc_sourcemap_compiled.specs.Numbers.{number_at}
 use Rattle.oxc_sourcemap_compiled.specs.Layout.{header_in, block_count}
 use Rattle.oxc_sourcemap_compiled.specs.Fields.{value_of, row_base}
-use Rattle.oxc_sourcemap_compiled.specs.Meaning.{token_in, start_in, line_in, entry_tokens}
-use Rattle.oxc_sourcemap_compiled.specs.Meaning.{entry_begin, entry_end}
+use Rattle.oxc_sourcemap_compiled.specs.CompiledMeaning.{token_in, start_in, line_in, entry_tokens}
+use Rattle.oxc_sourcemap_compiled.specs.CompiledMeaning.{entry_begin, entry_end}
 use Rattle.oxc_sourcemap_compiled.specs.declared.layout.Header.{Header}
 use Rattle.oxc_sourcemap_compiled.specs.declared.lookup.Span.{Span}
 

@@ -40,4 +40,4 @@ pub use Rattle.oxc_sourcemap_compiled.specs.Order.{columns_in, column_of, least_
 pub use Rattle.oxc_sourcemap_compiled.specs.Order.{AreRowsExact}
 pub use Rattle.oxc_sourcemap_compiled.specs.Order.{IsInEntry, IsSpan, IsUpToEnd, AreColumnsOf}
 pub use Rattle.oxc_sourcemap_compiled.specs.Order.{AreInOrder, IsInOrder, IsOn, IsOnLine}
-pub use Rattle.oxc_sourcemap_compiled.specs.Order.{IsTokenAt, IsTokenOn}
+pub use Rattle.oxc_sourcemap_compiled.specs.Order.{IsIndexFor, IsTokenAt, IsTokenOn}

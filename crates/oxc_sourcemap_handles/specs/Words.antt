@@ -2,6 +2,7 @@
 pub use Rattle.oxc_sourcemap_lookup.specs.Biased.{index_by}
 pub use Rattle.oxc_sourcemap_lookup.specs.LineSpans.{IsIndexOf, IsUsualIndexOf}
 pub use Rattle.oxc_sourcemap_map.specs.View.{view_of, view_name, view_original}
+pub use Rattle.oxc_sourcemap_parts.specs.DecodedMap.{name_of}
 pub use Rattle.oxc_sourcemap_parts.specs.Roots.{rooted}
 pub use Rattle.oxc_sourcemap_parts.specs.Sorted.{are_tokens_sorted}
 pub use Rattle.oxc_sourcemap_map.specs.Orders.{IsSourceOrderOf}

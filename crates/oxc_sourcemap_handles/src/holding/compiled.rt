@@ -26,7 +26,7 @@ pub fn trace_compiled<'c>(
     ensures { IsCompiledTrace bias map.now at out.new }
 {
     match map.find(at, bias) {
-        Some((index, token)) => out.write_compiled(index, token, map),
+        Some(found) => out.write_compiled(found.0, found.1, map),
         None => *out = Original::nothing(),
     }
 }
@@ -92,11 +92,11 @@ pub fn put_compiled(
     handle: &mut Handle,
     fault: &mut Fault,
 ) -> u32
-    ensures map { result ≡ 0 → MatchResult opened
+    ensures map { result ≡ 0 → MatchResult opened.entry
         (λ map. (held_compiled handle.new.held ≡ Some map) × (fault.new ≡ no_fault)) (λ _. ⊥) }
     ensures error { result ≢ 0 → (handle.new.held ≡ handle.old.held)
-        × IsErrorAs result fault.new (λ r. opened ≡ Err r) }
-    ensures told { IfErr opened (λ r. result ≡ code_of r) }
+        × IsErrorAs result fault.new (λ r. opened.entry ≡ Err r) }
+    ensures told { IfErr opened.entry (λ r. result ≡ code_of r) }
 {
     let held = match opened {
         Ok(map) => match Box::new(alloc, Held::Compiled(map)) {

@@ -1,10 +1,10 @@
 //! What C reads: borrowed bytes, and structs of numbers and borrowed bytes.
 ghost use Rattle.std.specs.Prelude.{◌≡◌, [], Some, None, slice_get};
-ghost use Rattle.std.specs.Option.{unwrap_or};
+ghost use Rattle.std.specs.Option.{unwrap_or, option_and_then};
 ghost use Rattle.oxc_sourcemap_handles.specs.Words.{view_of, view_name, view_original, HasOriginal};
 ghost use Rattle.oxc_sourcemap_handles.specs.Words.{number_or_none, numbers_of, no_numbers};
 ghost use Rattle.oxc_sourcemap_handles.specs.Words.{lent_item, index_number, IsSeen};
-ghost use Rattle.oxc_sourcemap_handles.specs.Words.{piece_numbers, kind_by, IsShown};
+ghost use Rattle.oxc_sourcemap_handles.specs.Words.{piece_numbers, kind_by, name_of, IsShown};
 ghost use Rattle.oxc_sourcemap_compiled.specs.Words.{compiled_in};
 
 use oxc_sourcemap_compiled::CompiledMap;
@@ -215,20 +215,31 @@ fn kind_by(source: Option<&[u8]>, name: Option<&[u8]>) -> u32
     }
 }
 
+/// The bytes of the source of a token of a compiled map.
+#[inline(always)]
+fn source_in<'c>(map: &'c CompiledMap<'static>, token: &Token) -> Option<&'c [u8]>
+    ensures { lent_item result ≡ option_and_then
+        (slice_get (compiled_in map.now).content.sources) token.now.source_id }
+{
+    map.source_bytes(token.get_source_id()?)
+}
+
+/// The bytes of the name of a token of a compiled map.
+#[inline(always)]
+fn name_in<'c>(map: &'c CompiledMap<'static>, token: &Token) -> Option<&'c [u8]>
+    ensures { lent_item result ≡ name_of (compiled_in map.now).content.names token.now }
+{
+    map.name_bytes(token.get_name_id()?)
+}
+
 impl<'c> Original<'c> {
     /// Writes what the token at this index of a compiled map says.
     #[inline(always)]
     pub fn write_compiled(&mut self, index: usize, token: Token, map: &'c CompiledMap<'static>)
         ensures { IsShown (compiled_in map.now).content index token self.new }
     {
-        let source = match token.get_source_id() {
-            Some(id) => map.source_bytes(id),
-            None => None,
-        };
-        let name = match token.get_name_id() {
-            Some(id) => map.name_bytes(id),
-            None => None,
-        };
+        let source = source_in(map, &token);
+        let name = name_in(map, &token);
         *self = Original {
             kind: kind_by(source, name),
             index: index_or_none(Some(index)),

@@ -382,13 +382,14 @@ static int map_open_file(int from, struct smap_file *file) {
     return file->at == MAP_FAILED ? errno : 0;
 }
 
+/* (without O_NONBLOCK a pipe would be waited for until somebody writes) */
 uint32_t smap_map_file(const char *path, smap_file **out, smap_text *bytes, smap_fault *fault) {
     smap_fault own;
     smap_file *file = malloc(sizeof *file);
     int from = -1, reason;
     if (!fault) fault = &own;
     if (!file) return out_of_memory(fault);
-    from = open(path, O_RDONLY | O_CLOEXEC);
+    from = open(path, O_RDONLY | O_CLOEXEC | O_NONBLOCK);
     reason = from < 0 ? errno : map_open_file(from, file);
     if (from >= 0) close(from);
     if (reason != 0) {
@@ -408,7 +409,7 @@ void smap_free_file(smap_file *file) {
 }
 
 static const char *words_of(int reason, char *room, size_t len) {
-    return strerror_r(reason, room, len) == 0 ? room : "";
+    return strerror_r(reason, room, len) == 0 ? room : "It cannot be read";
 }
 
 #else
@@ -425,7 +426,7 @@ void smap_free_file(smap_file *file) {
 
 static const char *words_of(int reason, char *room, size_t len) {
     (void)reason, (void)room, (void)len;
-    return "";
+    return "It cannot be read";
 }
 
 #endif

@@ -135,12 +135,10 @@ uint32_t smap_from_tokens(const smap_token *tokens, size_t tokens_len, const sma
     proved_handle made = { NULL };
     text_list n, s, c;
     uint32_t code = SMAP_OUT_OF_MEMORY;
-    int is_there = begin_texts(&n, names, names_len) & begin_texts(&s, sources, sources_len) & begin_texts(&c, contents,
-        contents_len);
+    int is_there = begin_texts(&n, names, names_len) & begin_texts(&s, sources, sources_len) & begin_texts(&c, contents, contents_len);
     if (is_there)
         code = proved_from_tokens(OR(tokens, &no_token), tokens_len, n.at, names_len, s.at, sources_len, c.at, contents_len,
-            c.known,
-                                  contents_len, OR(ignore_list, &no_number), ignore_list_len, &made, OR(fault, &own));
+                                  c.known, contents_len, OR(ignore_list, &no_number), ignore_list_len, &made, OR(fault, &own));
     else out_of_memory(OR(fault, &own));
     end_texts(&n);
     end_texts(&s);
@@ -280,8 +278,7 @@ uint32_t smap_index_sources(smap_map *map, smap_fault *fault) {
 }
 
 uint32_t smap_generated(const smap_map *map, uint32_t source_id, uint32_t line, uint32_t column, uint32_t direction,
-    uint32_t *index,
-                        smap_token *token) {
+                        uint32_t *index, smap_token *token) {
     return proved_generated(LENT(map), source_id, line, column, direction, index, token);
 }
 

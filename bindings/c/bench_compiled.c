@@ -1,9 +1,11 @@
-/* bench_compiled [compare] FILE.map..: compares each map that can be read with what it is compiled to, and times both. It asks them for 32768
- * positions, those of tokens, one column before and behind them, and others, by each bias, and ends with status 1 at the first answer
- * that differs. With `compare` that is all. Else it prints, in a line for each map: its tokens; the bytes of its text and of the compiled map; nanoseconds of a
- * lookup, in the map and compiled: one by one at positions of random tokens, and by smap_find_all; nanoseconds to open and to free the
- * compiled map; microseconds to read the text, and to compile. Times are the best of several rounds. The last line has the ratios of
- * all: the bytes of all maps, and of the times the geometric mean; and the mean time to open. */
+/* bench_compiled [compare] FILE.map..: compares each map that can be read with what it is compiled to, and times both. It asks them for
+ * 32768 positions, those of tokens, one column before and behind them, and others, by each bias, and ends with status 1 at the first
+ * answer that differs. With `compare` that is all.
+ *
+ * Else it prints, in a line for each map: its tokens; the bytes of its text and of the compiled map; nanoseconds of a lookup, in the map
+ * and compiled: one by one at positions of random tokens, and by smap_find_all; nanoseconds to open and to free the compiled map;
+ * microseconds to read the text, and to compile. Times are the best of several rounds. The last line has what the compiled maps take
+ * to what the maps do: the bytes of all, of the times the geometric mean; and the mean time to open. */
 #define _POSIX_C_SOURCE 199309L
 #include "oxc_sourcemap.h"
 

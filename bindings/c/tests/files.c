@@ -4,6 +4,7 @@
 
 #ifdef __unix__
 #include <errno.h>
+#include <fcntl.h>
 #include <sys/mman.h>
 #include <sys/stat.h>
 #include <unistd.h>
@@ -94,6 +95,16 @@ static void no_plain_files(const char *folder) {
     HOLDS(unlink(pipe_path) == 0 && next_file() == before);
 }
 
+/* A plain file that cannot be mapped, as one of the kernel's, is refused by the system's error. Where there is none, nothing is tried. */
+static void not_mapped(const char *path) {
+    int from = open(path, O_RDONLY);
+    void *at = from < 0 ? NULL : mmap(NULL, 4096, PROT_READ, MAP_SHARED, from, 0);
+    int reason = at == MAP_FAILED ? errno : 0;
+    if (reason) refuses_file(path, reason, strerror(reason));
+    else if (at) munmap(at, 4096);
+    if (from >= 0) close(from);
+}
+
 static void empty_file(const char *path) {
     smap_file *file = NULL;
     smap_compiled *compiled = (smap_compiled *)&failed;
@@ -129,6 +140,7 @@ static int files_are_mapped(void) {
     compiled_map_in(path);
     refuses_file(in_folder(path, "under"), ENOTDIR, "Not a directory");
     no_plain_files(folder);
+    not_mapped("/sys/devices/system/cpu/online");
     empty_file(path);
     no_memory(path);
     HOLDS(unlink(path) == 0 && rmdir(folder) == 0 && kept == before);

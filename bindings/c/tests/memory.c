@@ -232,8 +232,8 @@ static void no_memory_is_taken(void) {
     smap_text texts[4];
     uint32_t n;
     size_t count;
-    CHECK(smap_index_sources(map, NULL) == SMAP_OK && smap_compile(map, 0, NULL, &string, NULL) == SMAP_OK);
-    CHECK(smap_get_text(string, texts) == SMAP_OK);
+    CHECK(smap_index_sources(map, NULL) == SMAP_OK);
+    CHECK(smap_compile(map, 0, NULL, &string, NULL) == SMAP_OK && smap_get_text(string, texts) == SMAP_OK);
     CHECK(smap_open_compiled((const unsigned char *)texts[0].at, texts[0].len, &compiled, NULL) == SMAP_OK);
     left = 0;
     CHECK(smap_trace(map, 0, 4, SMAP_BEFORE, &p, NULL) == SMAP_OK &&

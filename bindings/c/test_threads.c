@@ -1,6 +1,6 @@
-/* Threads: eight read one map, one string, one list of mends and one compiled map at once, by every call that takes a `const` handle, and each gets
- * the answers that one thread gets; and maps are made, changed and freed by threads that hand them on. It is run under helgrind,
- * and built with a thread sanitizer. The last line says how many threads answered otherwise.
+/* Threads: eight read one map, one string, one list of mends and one compiled map at once, by every call that takes a `const` handle, and
+ * each gets the answers that one thread gets; and maps are made, changed and freed by threads that hand them on. It is run under
+ * helgrind, and built with a thread sanitizer. The last line says how many threads answered otherwise.
  *
  *   test_threads [ROUNDS | race]
  *

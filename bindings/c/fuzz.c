@@ -41,8 +41,8 @@ static size_t below(size_t n) {
 #define ROOM (1u << 22)
 #define PAGE 4096u
 
-/* The buffers in use at once: texts, outputs, a second output, messages. */
-enum { INPUT, OUT, OUT_TOO, WORDS, BUFFERS };
+/* The buffers in use at once: texts, outputs, a second output, messages, a compiled map. */
+enum { INPUT, OUT, OUT_TOO, WORDS, COMPILED, BUFFERS };
 
 /* A buffer of this size in front of a page that cannot be touched. It begins with bytes that no call wrote. */
 static void *exact(int which, size_t size) {
@@ -278,6 +278,151 @@ static void write_parts(const smap_map *map, const smap_counts *counts, const bu
     smap_free_string(string);
 }
 
+/* ---- compiled maps ---- */
+
+static int is_text(const smap_text *one, const smap_text *other) {
+    return one->len == other->len && memcmp(one->at, other->at, one->len) == 0;
+}
+
+static int is_original(const smap_original *one, const smap_original *other) {
+    return one->kind == other->kind && one->index == other->index && memcmp(&one->token, &other->token, sizeof one->token) == 0 &&
+           is_text(&one->source, &other->source) && is_text(&one->name, &other->name);
+}
+
+/* A position at a token, or beside one; or any. */
+static smap_position near_token(const smap_map *map, const smap_counts *counts) {
+    smap_token token;
+    smap_position it = any_position(counts);
+    if (!below(4) || smap_get_token(map, (uint32_t)below(counts->tokens), &token)) return it;
+    it.line = token.dst_line, it.column = token.dst_col + (uint32_t)below(3) - 1;
+    return it;
+}
+
+/* What a compiled map says of positions is what its map says. */
+static void look_up_compiled(const smap_map *map, const smap_compiled *compiled, const smap_counts *counts) {
+    size_t len = below(20);
+    uint32_t bias = (uint32_t)below(3), index = (uint32_t)below(counts->tokens + 1);
+    smap_original one, wanted;
+    smap_token token, wanted_token;
+    smap_position *positions = exact(INPUT, len * sizeof *positions);
+    for (size_t i = 0; i < len; i++) positions[i] = near_token(map, counts);
+    smap_original *all = exact(OUT, len * sizeof *all);
+    uint32_t *found = exact(OUT_TOO, len * sizeof *found);
+    MUST(smap_compiled_trace_all(compiled, positions, len, bias, all, len) == SMAP_OK);
+    MUST(smap_compiled_find_all(compiled, positions, len, bias, found, len) == SMAP_OK);
+    for (size_t i = 0; i < len; i++) {
+        MUST(smap_trace(map, positions[i].line, positions[i].column, bias, &wanted, NULL) == SMAP_OK);
+        MUST(smap_compiled_trace(compiled, positions[i].line, positions[i].column, bias, &one) == SMAP_OK);
+        MUST(is_original(&wanted, &one) && is_original(&wanted, &all[i]) && wanted.index == found[i]);
+    }
+    uint32_t code = smap_get_token(map, index, &wanted_token);
+    MUST(smap_compiled_get_token(compiled, index, &token) == code && (code || memcmp(&token, &wanted_token, sizeof token) == 0));
+}
+
+/* A compiled map holds its map: counts, texts, and all when it comes back, but that it has then a content, or null, for each source.
+ * (a map that is built may have 4294967295 lines, each a byte of its text) */
+static void holds_map(const smap_map *map, const smap_compiled *compiled, const smap_counts *counts) {
+    smap_text one, wanted;
+    smap_map *back;
+    smap_position first;
+    smap_compiled_counts own;
+    uint32_t id = (uint32_t)below(counts->names + 1), code = smap_get_name(map, id, &wanted);
+    MUST(smap_compiled_get_text(compiled, SMAP_TEXT_NAME, id, &one) == code && (code || is_text(&one, &wanted)));
+    id = (uint32_t)below(counts->sources), code = smap_get_source_content(map, id, &wanted);
+    MUST(smap_compiled_get_text(compiled, SMAP_TEXT_SOURCE_CONTENT, id, &one) == (counts->sources ? code : SMAP_NO_ENTRY));
+    MUST(code || !counts->sources || is_text(&one, &wanted));
+    code = smap_get_file(map, &wanted);
+    MUST(smap_compiled_get_text(compiled, SMAP_TEXT_FILE, id, &one) == code && (code || is_text(&one, &wanted)));
+    MUST(smap_compiled_get_counts(compiled, &own) == SMAP_OK && own.tokens == counts->tokens && own.ignored == counts->ignore_list);
+    MUST(smap_decompile(compiled, &back, NULL) == SMAP_OK && smap_first_difference(map, back, &first) == SMAP_NO_ENTRY);
+    int has_one_each = counts->source_contents == 0 || counts->source_contents == counts->sources;
+    MUST(!has_one_each || counts->lines > MOST || is_same(map, back));
+    smap_free_map(back);
+}
+
+static int lies_in(const smap_text *text, const buffer *bytes) {
+    size_t at = (size_t)((uintptr_t)text->at - (uintptr_t)bytes->at);
+    return text->len == 0 || (at <= bytes->len && text->len <= bytes->len - at);
+}
+
+/* What is asked of bytes that may be damaged is answered, from within them. */
+static void ask_damaged(const smap_compiled *compiled, const buffer *bytes) {
+    smap_compiled_counts own;
+    smap_counts most = { 0, 0, 0, 0, 0, 5, 0 };
+    smap_original one;
+    smap_text text;
+    smap_token token;
+    smap_map *back = NULL;
+    smap_string *string = NULL;
+    uint32_t flag, found;
+    smap_fault fault;
+    MUST(smap_compiled_get_counts(compiled, &own) == SMAP_OK);
+    for (int i = 0; i < 30; i++) {
+        smap_position at = any_position(&most);
+        uint32_t bias = (uint32_t)below(3), id = (uint32_t)below(below(2) ? 4 : own.tokens + 1), kind = (uint32_t)below(7);
+        MUST(smap_compiled_trace(compiled, at.line, at.column, bias, &one) == SMAP_OK);
+        MUST(lies_in(&one.source, bytes) && lies_in(&one.name, bytes));
+        MUST(one.kind == SMAP_NOTHING ? one.index == SMAP_NO_ID : one.token.dst_line == at.line && one.index < own.tokens);
+        MUST(smap_compiled_find_all(compiled, &at, 1, bias, &found, 1) == SMAP_OK && found == one.index);
+        if (!smap_compiled_get_text(compiled, kind, id, &text)) MUST(kind < 6 && lies_in(&text, bytes));
+        if (!smap_compiled_get_token(compiled, id, &token)) MUST(id < own.tokens);
+        MUST(smap_compiled_is_ignored(compiled, id, &flag) == SMAP_OK && flag < 2);
+    }
+    MUST(smap_compiled_get_stamp(compiled, &text) == SMAP_OK && text.len == 32 && lies_in(&text, bytes));
+    uint32_t code = smap_decompile(compiled, &back, &fault);
+    told(code, &fault);
+    MUST(code == SMAP_OK || (code == SMAP_NO_ENTRY && back == NULL));
+    if (!code) told(smap_to_json_string_within(back, MOST, &string, &fault), &fault);
+    smap_free_string(string);
+    smap_free_map(back);
+}
+
+/* Changes bytes of a compiled map, of its header above all, or cuts it; most have the length then that they say. */
+static void damage(const smap_text *from) {
+    buffer bytes;
+    smap_compiled *compiled;
+    smap_fault fault;
+    bytes.len = below(4) ? from->len : below(from->len);
+    bytes.at = memcpy(exact(COMPILED, bytes.len), from->at, bytes.len);
+    for (size_t n = below(4); n && bytes.len; n--) {
+        size_t at = below(bytes.len < 200 || below(2) ? bytes.len : 200);
+        bytes.at[at] = (char)(below(2) ? below(256) : (size_t)(unsigned char)bytes.at[at] + below(3) - 1);
+    }
+    for (size_t i = 0; below(8) && i < 8 && bytes.len > 15; i++) bytes.at[8 + i] = (char)((uint64_t)bytes.len >> 8 * i);
+    uint32_t code = smap_open_compiled((const unsigned char *)bytes.at, bytes.len, &compiled, &fault);
+    told(code, &fault);
+    if (code) return;
+    ask_damaged(compiled, &bytes);
+    smap_free_compiled(compiled);
+}
+
+/* Compiles a map, and asks it, as it is and damaged. */
+static void compile(const smap_map *map, const smap_counts *counts, uint32_t is_sorted) {
+    smap_string *string = NULL;
+    smap_compiled *compiled;
+    smap_text text;
+    smap_fault fault;
+    uint32_t code = smap_compile(map, below(1000), NULL, &string, &fault);
+    told(code, &fault);
+    MUST(code == (is_sorted ? SMAP_OK : SMAP_UNSORTED));
+    if (code) return;
+    MUST(smap_get_text(string, &text) == SMAP_OK);
+    const unsigned char *bytes = memcpy(exact(COMPILED, text.len), text.at, text.len);
+    MUST(smap_open_compiled(bytes, text.len, &compiled, &fault) == SMAP_OK);
+    look_up_compiled(map, compiled, counts);
+    holds_map(map, compiled, counts);
+    smap_free_compiled(compiled);
+    for (int i = 0; i < 4; i++) damage(&text);
+    smap_free_string(string);
+}
+
+/* The same of a map that was changed or built, whose ids may be out of range. */
+static void compile_sorted(const smap_map *map) {
+    smap_counts counts;
+    MUST(smap_get_counts(map, &counts) == SMAP_OK);
+    compile(map, &counts, 1);
+}
+
 /* Changes a map, by every call that does. */
 static void change(smap_map *map, const smap_counts *counts, const buffer *text) {
     smap_fault fault;
@@ -297,6 +442,7 @@ static void change(smap_map *map, const smap_counts *counts, const buffer *text)
     MUST(smap_get_tokens(map, NULL, 0, &count) == SMAP_OK && count == counts->tokens);
     told(smap_simplify(map, &fault), &fault);
     MUST(smap_index_sources(map, NULL) == SMAP_OK);
+    compile_sorted(map);
 }
 
 /* Makes maps of two. */
@@ -353,6 +499,8 @@ static void build(const smap_map *map, const smap_counts *counts, const buffer *
     uint32_t is_sorted;
     MUST(smap_is_sorted(out, &is_sorted) == SMAP_OK);
     look_up(out, counts, is_sorted);
+    MUST(smap_sort(out, NULL) == SMAP_OK);
+    compile_sorted(out);
     smap_free_map(out);
 }
 
@@ -381,6 +529,7 @@ static void use(smap_map *map, const smap_map *other, const buffer *text, const 
     look_up(map, &counts, is_sorted);
     write_back(map, is_sound);
     write_parts(map, &counts, code);
+    compile(map, &counts, is_sorted);
     if (other) combine(map, other, &counts);
     build(map, &counts, text);
     MUST(smap_index_sources(map, NULL) == SMAP_OK);

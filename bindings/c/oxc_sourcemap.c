@@ -135,12 +135,10 @@ uint32_t smap_from_tokens(const smap_token *tokens, size_t tokens_len, const sma
     proved_handle made = { NULL };
     text_list n, s, c;
     uint32_t code = SMAP_OUT_OF_MEMORY;
-    int is_there = begin_texts(&n, names, names_len) & begin_texts(&s, sources, sources_len) & begin_texts(&c, contents,
-        contents_len);
+    int is_there = begin_texts(&n, names, names_len) & begin_texts(&s, sources, sources_len) & begin_texts(&c, contents, contents_len);
     if (is_there)
         code = proved_from_tokens(OR(tokens, &no_token), tokens_len, n.at, names_len, s.at, sources_len, c.at, contents_len,
-            c.known,
-                                  contents_len, OR(ignore_list, &no_number), ignore_list_len, &made, OR(fault, &own));
+                                  c.known, contents_len, OR(ignore_list, &no_number), ignore_list_len, &made, OR(fault, &own));
     else out_of_memory(OR(fault, &own));
     end_texts(&n);
     end_texts(&s);
@@ -280,8 +278,7 @@ uint32_t smap_index_sources(smap_map *map, smap_fault *fault) {
 }
 
 uint32_t smap_generated(const smap_map *map, uint32_t source_id, uint32_t line, uint32_t column, uint32_t direction,
-    uint32_t *index,
-                        smap_token *token) {
+                        uint32_t *index, smap_token *token) {
     return proved_generated(LENT(map), source_id, line, column, direction, index, token);
 }
 
@@ -382,13 +379,14 @@ static int map_open_file(int from, struct smap_file *file) {
     return file->at == MAP_FAILED ? errno : 0;
 }
 
+/* (without O_NONBLOCK a pipe would be waited for until somebody writes) */
 uint32_t smap_map_file(const char *path, smap_file **out, smap_text *bytes, smap_fault *fault) {
     smap_fault own;
     smap_file *file = malloc(sizeof *file);
     int from = -1, reason;
     if (!fault) fault = &own;
     if (!file) return out_of_memory(fault);
-    from = open(path, O_RDONLY | O_CLOEXEC);
+    from = open(path, O_RDONLY | O_CLOEXEC | O_NONBLOCK);
     reason = from < 0 ? errno : map_open_file(from, file);
     if (from >= 0) close(from);
     if (reason != 0) {
@@ -408,7 +406,7 @@ void smap_free_file(smap_file *file) {
 }
 
 static const char *words_of(int reason, char *room, size_t len) {
-    return strerror_r(reason, room, len) == 0 ? room : "";
+    return strerror_r(reason, room, len) == 0 ? room : "It cannot be read";
 }
 
 #else
@@ -425,7 +423,7 @@ void smap_free_file(smap_file *file) {
 
 static const char *words_of(int reason, char *room, size_t len) {
     (void)reason, (void)room, (void)len;
-    return "";
+    return "It cannot be read";
 }
 
 #endif

@@ -1,6 +1,6 @@
-/* Threads: eight read one map, one string and one list of mends at once, by every call that takes a `const` handle, and each gets
- * the answers that one thread gets; and maps are made, changed and freed by threads that hand them on. It is run under helgrind,
- * and built with a thread sanitizer. The last line says how many threads answered otherwise.
+/* Threads: eight read one map, one string, one list of mends and one compiled map at once, by every call that takes a `const` handle, and
+ * each gets the answers that one thread gets; and maps are made, changed and freed by threads that hand them on. It is run under
+ * helgrind, and built with a thread sanitizer. The last line says how many threads answered otherwise.
  *
  *   test_threads [ROUNDS | race]
  *
@@ -24,6 +24,7 @@ static const char *INPUT = "{\"version\":3,\"names\":[],\"sources\":[\"a.js\"],\
 static const smap_map *map, *input;
 static const smap_string *string;
 static const smap_mends *mends;
+static const smap_compiled *compiled;
 static int rounds = 100;
 
 static void must(uint32_t code) {
@@ -118,6 +119,36 @@ static void add_lookups(uint64_t *sum) {
     add(sum, first.column + found[0] + found[1] + count);
 }
 
+/* What a compiled map holds, what it answers, and the map that comes back. */
+static void add_compiled(uint64_t *sum) {
+    smap_position positions[5] = { { 0, 0 }, { 0, 4 }, { 0, 9 }, { 1, 0 }, { 1, 5 } };
+    smap_original all[5], one;
+    smap_compiled_counts counts;
+    smap_token token;
+    smap_text text;
+    smap_map *back;
+    uint32_t found[5], flag;
+    for (uint32_t bias = SMAP_BEFORE; bias <= SMAP_AFTER; bias++) {
+        must(smap_compiled_trace_all(compiled, positions, 5, bias, all, 5));
+        must(smap_compiled_find_all(compiled, positions, 5, bias, found, 5));
+        must(smap_compiled_trace(compiled, 0, 4, bias, &one));
+        for (int i = 0; i < 5; i++) add_original(sum, &all[i]), add(sum, found[i]);
+        add_original(sum, &one);
+    }
+    for (uint32_t kind = SMAP_TEXT_NAME; kind <= SMAP_TEXT_DEBUG_ID; kind++) {
+        must(smap_compiled_get_text(compiled, kind, 0, &text));
+        add_text(sum, &text);
+    }
+    must(smap_compiled_get_stamp(compiled, &text));
+    add_text(sum, &text);
+    must(smap_compiled_get_counts(compiled, &counts));
+    must(smap_compiled_get_token(compiled, 1, &token));
+    must(smap_compiled_is_ignored(compiled, 1, &flag));
+    add(sum, counts.tokens + counts.text_length + token.dst_col + flag);
+    must(smap_decompile(compiled, &back, NULL));
+    add_map(sum, back);
+}
+
 /* What is made of a map. */
 static void add_made(uint64_t *sum) {
     const smap_map *maps[2] = { map, input };
@@ -147,6 +178,8 @@ static void add_made(uint64_t *sum) {
     add_string(sum, text);
     must(smap_visualizer_url(map, TEXT("let hi;"), &text, NULL));
     add_string(sum, text);
+    must(smap_compile(map, 7, NULL, &text, NULL));
+    add_string(sum, text);
 }
 
 static void *reads(void *out) {
@@ -154,6 +187,7 @@ static void *reads(void *out) {
     for (int round = 0; round < rounds; round++) {
         add_held(&sum);
         add_lookups(&sum);
+        add_compiled(&sum);
         add_made(&sum);
     }
     *(uint64_t *)out = sum;
@@ -212,8 +246,10 @@ static void run(void *(*body)(void *), void *entries, size_t size) {
 
 int main(int argc, char **argv) {
     smap_map *made, *other, *found;
-    smap_string *text;
+    smap_string *text, *bytes;
     smap_mends *told;
+    smap_compiled *opened;
+    smap_text lent;
     uint64_t wanted, sums[THREADS];
     int numbers[THREADS], wrong = 0;
     must(smap_from_json_string(TEXT(JSON), &made, NULL));
@@ -226,7 +262,10 @@ int main(int argc, char **argv) {
     must(smap_from_json_string(TEXT(INPUT), &other, NULL));
     must(smap_read_found(TEXT("{\"version\":\"3\",\"names\":null,\"mappings\":\"A\"}"), &found, &told, NULL));
     must(smap_to_json_string(made, &text, NULL));
-    map = made, input = other, string = text, mends = told;
+    must(smap_compile(made, 7, NULL, &bytes, NULL));
+    must(smap_get_text(bytes, &lent));
+    must(smap_open_compiled((const unsigned char *)lent.at, lent.len, &opened, NULL));
+    map = made, input = other, string = text, mends = told, compiled = opened;
     reads(&wanted);
     run(reads, sums, sizeof *sums);
     for (int i = 0; i < THREADS; i++) wrong += sums[i] != wanted, numbers[i] = i;
@@ -237,6 +276,8 @@ int main(int argc, char **argv) {
     smap_free_map(found);
     smap_free_string(text);
     smap_free_mends(told);
+    smap_free_compiled(opened);
+    smap_free_string(bytes);
     printf("%d threads answered otherwise, %d of %d maps arrived\n", wrong, freed, handed);
     return wrong || freed != handed;
 }

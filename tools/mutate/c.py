@@ -29,9 +29,15 @@ def in_layer(found, body):
     return LAYER[: found.start(3)] + body + LAYER[found.end(3) :]
 
 
+def compiled_here():
+    """The functions of the layer, without those that a system without files has."""
+    elsewhere = [it.span() for it in re.finditer(r"^#else\n.*?^#endif\n", LAYER, re.M | re.S)]
+    return [it for it in FUNCTION.finditer(LAYER) if not any(begin < it.start() < end for begin, end in elsewhere)]
+
+
 def bugs_of_calls():
     """What is planted in each function of the layer: a name, the layer, and the header."""
-    for found in FUNCTION.finditer(LAYER):
+    for found in compiled_here():
         result, name, body = found.groups()
         yield f"{name}: does nothing", in_layer(found, NOTHING[result]), HEADER
         if "OR(fault, &own)" in body:

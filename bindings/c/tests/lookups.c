@@ -19,12 +19,6 @@ static const struct {
     { LINES, { 4, 0 }, { NO, NO, NO } },
 };
 
-static int is_same(const smap_original *p, const smap_original *q) {
-    return p->kind == q->kind && p->index == q->index && memcmp(&p->token, &q->token, sizeof p->token) == 0 &&
-           p->source.len == q->source.len && memcmp(p->source.at, q->source.at, p->source.len) == 0 && p->name.len == q->name.len &&
-           memcmp(p->name.at, q->name.at, p->name.len) == 0;
-}
-
 static void looking_up(void) {
     static const uint32_t BIASES[3] = { SMAP_BEFORE, SMAP_CLAMPED, SMAP_AFTER };
     CHECK(SMAP_BEFORE == 0 && SMAP_CLAMPED == 1 && SMAP_AFTER == 2);

@@ -11,6 +11,8 @@ int main(void) {
     test_reading();
     test_holding();
     test_lookups();
+    test_compiled();
+    test_files();
     test_queries();
     test_making();
     test_building();

@@ -3,8 +3,9 @@
 
 /* What run_all makes. */
 typedef struct made_all {
-    smap_map *maps[12];
-    smap_string *strings[11];
+    smap_map *maps[13];
+    smap_string *strings[12];
+    smap_compiled *compiled;
     smap_builder *builder;
     smap_join *join;
     smap_mends *mends;
@@ -63,6 +64,16 @@ static uint32_t write_all(made_all *m, smap_fault *f) {
     return SMAP_OK;
 }
 
+/* One call of each kind that makes a compiled map, opens it or takes it apart. */
+static uint32_t compile_all(made_all *m, smap_fault *f) {
+    smap_text bytes;
+    MAKES(smap_compile(m->maps[2], 0, NULL, &m->strings[11], f));
+    CHECK(smap_get_text(m->strings[11], &bytes) == SMAP_OK);
+    MAKES(smap_open_compiled((const unsigned char *)bytes.at, bytes.len, &m->compiled, f));
+    MAKES(smap_decompile(m->compiled, &m->maps[12], f));
+    return SMAP_OK;
+}
+
 /* One call of each kind that makes something, in a row; the first code that is not SMAP_OK. */
 static uint32_t make_all(made_all *m, smap_fault *f) {
     MAKES(smap_from_json_string(TEXT(B), &m->maps[0], f));
@@ -73,7 +84,8 @@ static uint32_t make_all(made_all *m, smap_fault *f) {
     MAKES(smap_clone(m->maps[2], &m->maps[5], f));
     MAKES(smap_decode_mappings(TEXT("AAAA"), 0, 1, &m->maps[8], f));
     uint32_t code = make_of_lists(m, f);
-    return code ? code : write_all(m, f);
+    if (!code) code = write_all(m, f);
+    return code ? code : compile_all(m, f);
 }
 
 /* One call of each kind that builds or joins. */
@@ -132,6 +144,7 @@ static uint32_t run_all(long n) {
     left = -1;
     CHECK(code == SMAP_OK || is_fault(&fault, SMAP_OUT_OF_MEMORY, 0));
     for (size_t i = 0; i < LEN(m.maps); i++) smap_free_map(m.maps[i]);
+    smap_free_compiled(m.compiled);
     for (size_t i = 0; i < LEN(m.strings); i++) smap_free_string(m.strings[i]);
     smap_free_builder(m.builder);
     smap_free_join(m.join);
@@ -184,9 +197,33 @@ static void nothing_is_made(void) {
     left = -1;
 }
 
+/* A compiled map is made, opened and taken apart, or *out stays, whichever request is refused. */
+static void nothing_is_compiled(void) {
+    smap_map *map = read_map(A), *back = (smap_map *)&failed;
+    smap_string *string = (smap_string *)&failed;
+    smap_compiled *compiled = (smap_compiled *)&failed;
+    smap_text bytes;
+    long n;
+#define UNTIL_MADE(out, call) \
+    for (n = 0; left = n, (call) == SMAP_OUT_OF_MEMORY && n < 1000; n++) CHECK((void *)(out) == (void *)&failed); \
+    left = -1; \
+    CHECK(n > 0 && n < 1000 && (void *)(out) != (void *)&failed)
+    UNTIL_MADE(string, smap_compile(map, 0, NULL, &string, NULL));
+    CHECK(smap_get_text(string, &bytes) == SMAP_OK);
+    UNTIL_MADE(compiled, smap_open_compiled((const unsigned char *)bytes.at, bytes.len, &compiled, NULL));
+    UNTIL_MADE(back, smap_decompile(compiled, &back, NULL));
+    smap_free_compiled(compiled);
+    smap_free_string(string);
+    smap_free_map(back);
+    smap_free_map(map);
+}
+
 /* Lookups, counts and lists take no memory. */
 static void no_memory_is_taken(void) {
     smap_map *map = read_map(A);
+    smap_string *string;
+    smap_compiled *compiled;
+    smap_compiled_counts held;
     smap_original p;
     smap_position one = { 0, 4 };
     smap_piece pieces[4];
@@ -196,6 +233,8 @@ static void no_memory_is_taken(void) {
     uint32_t n;
     size_t count;
     CHECK(smap_index_sources(map, NULL) == SMAP_OK);
+    CHECK(smap_compile(map, 0, NULL, &string, NULL) == SMAP_OK && smap_get_text(string, texts) == SMAP_OK);
+    CHECK(smap_open_compiled((const unsigned char *)texts[0].at, texts[0].len, &compiled, NULL) == SMAP_OK);
     left = 0;
     CHECK(smap_trace(map, 0, 4, SMAP_BEFORE, &p, NULL) == SMAP_OK &&
           smap_trace_all(map, &one, 1, SMAP_AFTER, &p, 1, NULL) == SMAP_OK);
@@ -205,8 +244,15 @@ static void no_memory_is_taken(void) {
     CHECK(smap_get_names(map, LIST(texts), &count) == SMAP_OK && smap_get_source_contents(map, LIST(texts), &count) == SMAP_OK);
     CHECK(smap_all_generated(map, 0, 0, 9, SMAP_ON_LINE, &n, 1, &count) == SMAP_OK &&
           smap_first_difference(map, map, &one) == SMAP_NO_ENTRY);
+    CHECK(smap_compiled_trace(compiled, 0, 4, SMAP_BEFORE, &p) == SMAP_OK && smap_compiled_get_stamp(compiled, texts) == SMAP_OK);
+    CHECK(smap_compiled_trace_all(compiled, &one, 1, SMAP_AFTER, &p, 1) == SMAP_OK &&
+          smap_compiled_find_all(compiled, &one, 1, SMAP_CLAMPED, &n, 1) == SMAP_OK);
+    CHECK(smap_compiled_get_counts(compiled, &held) == SMAP_OK && smap_compiled_get_token(compiled, 1, tokens) == SMAP_OK);
+    CHECK(smap_compiled_get_text(compiled, SMAP_TEXT_FILE, 0, texts) == SMAP_OK && smap_compiled_is_ignored(compiled, 1, &n) == SMAP_OK);
     CHECK(left == 0);
     left = -1;
+    smap_free_compiled(compiled);
+    smap_free_string(string);
     smap_free_map(map);
 }
 
@@ -214,5 +260,6 @@ void test_memory(void) {
     without_memory();
     places_without_memory();
     nothing_is_made();
+    nothing_is_compiled();
     no_memory_is_taken();
 }

@@ -30,12 +30,18 @@ static void null_readers(void) {
     NULL_HANDLE(smap_generated(NULL, 0, 0, 0, 9, &n, &token));
     NULL_HANDLE(smap_all_generated(NULL, 0, 0, 0, 9, &n, 1, &count));
     NULL_HANDLE(smap_get_text(NULL, &text));
+    NULL_HANDLE(smap_compiled_get_token(NULL, 0, &token));
+    NULL_HANDLE(smap_compiled_get_text(NULL, 9, 0, &text));
+    NULL_HANDLE(smap_compiled_get_stamp(NULL, &text));
+    NULL_HANDLE(smap_compiled_is_ignored(NULL, 0, &n));
     CHECK(counts.tokens == 77 && n == 77 && count == 77 && token.dst_line == 77 && is(&text, "kept"));
     smap_free_map(NULL);
     smap_free_mends(NULL);
     smap_free_join(NULL);
     smap_free_builder(NULL);
     smap_free_string(NULL);
+    smap_free_compiled(NULL);
+    smap_free_file(NULL);
 }
 
 /* The same of calls with a fault. */
@@ -48,9 +54,10 @@ static void null_handles(void) {
     smap_piece piece;
     smap_token token = token_of(0, 0, 0, 0, 0, 0);
     smap_text bad = text_of("\xff");
+    smap_compiled_counts counts;
     uint32_t n = 77;
     size_t count = 77;
-    p.kind = 77;
+    p.kind = 77, counts.tokens = 77;
 #define NULL_FAULT(call) CHECK((call) == SMAP_NULL_HANDLE && is_fault(&fault, SMAP_NULL_HANDLE, 0)), fault = junk()
     NULL_FAULT(smap_clone(NULL, &out, &fault));
     NULL_FAULT(smap_trace(NULL, 0, 0, 9, &p, &fault));
@@ -59,6 +66,12 @@ static void null_handles(void) {
     NULL_HANDLE(smap_pieces(NULL, one, one, &piece, 1, &count));
     NULL_HANDLE(smap_first_difference(NULL, map, &one));
     NULL_HANDLE(smap_first_difference(map, NULL, &one));
+    NULL_HANDLE(smap_compiled_get_counts(NULL, &counts));
+    NULL_HANDLE(smap_compiled_trace(NULL, 0, 0, 9, &p));
+    NULL_HANDLE(smap_compiled_trace_all(NULL, &one, 1, 9, &p, 0));
+    NULL_HANDLE(smap_compiled_find_all(NULL, &one, 1, 9, &n, 0));
+    NULL_FAULT(smap_compile(NULL, 0, NULL, &string, &fault));
+    NULL_FAULT(smap_decompile(NULL, &out, &fault));
     NULL_FAULT(smap_index_sources(NULL, &fault));
     NULL_FAULT(smap_set_file(NULL, TEXT("\xff"), &fault));
     NULL_FAULT(smap_set_source_root(NULL, TEXT("\xff"), &fault));
@@ -91,6 +104,7 @@ static void null_handles(void) {
     NULL_HANDLE(smap_to_json_string(NULL, &string, NULL));
     NULL_HANDLE(smap_sort(NULL, NULL));
     CHECK(out == (smap_map *)&failed && string == (smap_string *)&failed && n == 77 && count == 77 && p.kind == 77);
+    CHECK(counts.tokens == 77);
     smap_free_map(map);
 }
 

@@ -156,3 +156,9 @@ smap_map *map_at(const smap_position *positions, size_t len) {
     CHECK(smap_from_tokens(tokens, len, NULL, 0, LIST(sources), NULL, 0, NULL, 0, &map, NULL) == SMAP_OK);
     return map;
 }
+
+int is_same(const smap_original *p, const smap_original *q) {
+    return p->kind == q->kind && p->index == q->index && memcmp(&p->token, &q->token, sizeof p->token) == 0 &&
+           p->source.len == q->source.len && memcmp(p->source.at, q->source.at, p->source.len) == 0 && p->name.len == q->name.len &&
+           memcmp(p->name.at, q->name.at, p->name.len) == 0;
+}

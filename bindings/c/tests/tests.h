@@ -48,6 +48,8 @@ smap_token token_of(uint32_t dst_line, uint32_t dst_col, uint32_t src_line, uint
                     uint32_t name_id);
 /* A map of tokens at these positions, each with its number as its source line. */
 smap_map *map_at(const smap_position *positions, size_t len);
+/* Whether two lookups answered the same, their texts compared byte for byte. */
+int is_same(const smap_original *p, const smap_original *q);
 
 #define A \
     "{\"version\":3,\"file\":\"out.js\",\"sourceRoot\":\"src/\",\"names\":[\"hi\",\"gr\xc3\xb6\xc3\x9f" "e\"]," \
@@ -67,6 +69,8 @@ void test_errors(void);
 void test_reading(void);
 void test_holding(void);
 void test_lookups(void);
+void test_compiled(void);
+void test_files(void);
 void test_queries(void);
 void test_making(void);
 void test_building(void);

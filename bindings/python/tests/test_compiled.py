@@ -16,11 +16,23 @@ import unittest
 from array import array
 from multiprocessing import shared_memory
 from pathlib import Path
+from unittest import mock
 
 from support import BACK, MAP, NO_ID, TEXT, TOKENS, TOP, Case, lookups, read
 
 import oxc_sourcemap
-from oxc_sourcemap import Bias, Code, CompiledMap, Kind, Original, SourceMap, SourceMapError, Token
+from oxc_sourcemap import (
+    Bias,
+    Code,
+    CompiledMap,
+    Kind,
+    Original,
+    SourceMap,
+    SourceMapError,
+    Token,
+    _compiled,
+    _library,
+)
 
 STAMP = bytes(range(32))
 DATA = read().compile(700, STAMP)
@@ -137,6 +149,16 @@ class Answers(CompiledCase):
             map.find_all_into([(0, 0)], out, Bias.CLAMPED)
             self.assertEqual(list(out), [0])
 
+    def test_the_quick_way(self):
+        with CompiledMap(DATA) as map:
+            # (by this, the thread may read)
+            self.assertEqual(map.file, "out.js")
+            for position in positions_of(read()):
+                for bias in Bias:
+                    self.assertEqual(_compiled.trace_compiled(map._leases, *position, bias), map._traced(*position, bias))
+            self.assertEqual(_compiled.trace_compiled(map._leases, 0, 0, 3), Code.BAD_OPTION)
+            self.assertEqual(_compiled.trace_compiled({}, 0, 0, 0), Code.NULL_HANDLE)
+
     def test_what_is_not_there(self):
         with CompiledMap(SourceMap.from_tokens([]).compile()) as map:
             self.assertEqual((map.file, map.source_root, map.debug_id, map.names, map.source_contents), (None, None, None, [], []))
@@ -151,6 +173,12 @@ class Answers(CompiledCase):
         with CompiledMap(DATA) as compiled:
             map = compiled.decompile()
         self.assertEqual((type(map), map.to_json()), (SourceMap, TEXT))
+        def refuses(at, made, fault):
+            fault._obj.code = Code.TOO_LARGE
+            return Code.TOO_LARGE
+
+        with CompiledMap(DATA) as compiled, mock.patch.object(_library.lib, "smap_decompile", refuses):
+            self.fails(Code.TOO_LARGE, compiled.decompile)
         map.set_source_contents(["A", None, "past the last source"])
         self.assertEqual(CompiledMap(map.compile()).decompile().source_contents, ["A", None])
 
@@ -534,6 +562,20 @@ class Closing(CompiledCase):
             gc.collect()
         data.clear()
         self.assertEqual((len(said), said[-1]), (300, "The map is closed"))
+
+    def test_a_map_that_comes_back_from_the_collector(self):
+        class Session:
+            def __init__(self, map):
+                self.map, self.me = map, self
+
+            def __del__(self):
+                kept.append(self.map)
+
+        kept, data = [], bytearray(DATA)
+        Session(CompiledMap(data))
+        gc.collect()
+        self.assertTrue(kept[0].closed)
+        data.clear()
 
 
 if __name__ == "__main__":

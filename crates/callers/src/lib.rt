@@ -21,14 +21,16 @@ ghost use Rattle.oxc_sourcemap.specs.Inputs.{decoded_inputs};
 ghost use Rattle.oxc_sourcemap.specs.Words.{each_remapped, SeveralSources, composition};
 ghost use Rattle.oxc_sourcemap.specs.Words.{lent_inputs, NoInputColumnGoesBack, remapping};
 ghost use Rattle.oxc_sourcemap.specs.Words.{inputs_fault, Reports};
+ghost use Rattle.oxc_sourcemap.specs.Words.{IsInOrder, compiled_meaning, CompiledRecord};
+ghost use Rattle.oxc_sourcemap.specs.Words.{HaveSameTraces, IsErrorOf, is_within_limits};
 
 use oxc_sourcemap::laws::{
-    canonical_unique, composition_associative, dropping_harmless, joins_associative,
-    name_ids_unique, remapping_associative, tokens_in_bounds,
+    canonical_unique, compiled_means_map, composition_associative, dropping_harmless,
+    joins_associative, name_ids_unique, remapping_associative, tokens_in_bounds,
 };
 use oxc_sourcemap::{
     ConcatSourceMapBuilder, OwnedSourceMap, Plan, PlanError, Result, SourceMap, SourceMapBuilder,
-    SourceViewToken, evaluate,
+    SourceViewToken, compile, evaluate, parts_of,
 };
 use std::alloc::Global;
 
@@ -331,6 +333,30 @@ pub fn evaluated_text(alloc: Global, plan: &Plan<'_>) -> std::result::Result<Str
 {
     let map = evaluate(alloc, plan)?;
     Ok(map.to_json_string(alloc)?)
+}
+
+/// Evaluates a plan, and compiles its map, with the length of a text and a stamp that are kept. The bytes are in order, so that lookups
+/// in them are exact, and mean a map that has at every position, exact and clamped, the trace that the plan means.
+///
+/// Fails as `evaluate` does, and with `Map(TooLarge)` as `compile` does.
+pub fn compile_plan(
+    alloc: Global,
+    plan: &Plan<'_>,
+    text_length: u64,
+    stamp: &[u8; 32],
+) -> std::result::Result<Vec<u8>, PlanError>
+    ensures order { IfOk result (λ bytes. IsInOrder bytes.items) }
+    ensures means { IfOk result (λ bytes. (c : CompiledRecord) × (meant : DecodedMap)
+        × (compiled_meaning bytes.items ≡ Ok c) × (meaning plan.now ≡ Ok meant)
+        × HaveSameTraces (decoded_map_of c.content) meant
+        × EqualUpToRepeats (decoded_map_of c.content) meant
+        × (c.text_length ≡ text_length) × (c.stamp ≡ stamp.now)) }
+    ensures error { IfErr result (λ e. (e ≡ Map OutOfMemory) ⊎ (e ≡ Map TooLarge)
+        ⊎ IsErrorOf (meaning plan.now) (is_within_limits plan.now) e) }
+{
+    compiled_means_map();
+    let map = evaluate(alloc, plan)?;
+    compile(alloc, parts_of(map.as_source_map()), text_length, stamp)
 }
 
 /// Sets the file of an owned map through `as_source_map_mut`. The owned map then has it, and nothing else has changed.

@@ -38,6 +38,16 @@ pub use Rattle.oxc_sourcemap_parts.specs.Texts
 pub use Rattle.oxc_sourcemap_lookup.specs.Digits
 pub use Rattle.oxc_sourcemap_lookup.specs.Lookup
 pub use Rattle.oxc_sourcemap_lookup.specs.Trace
+pub use Rattle.oxc_sourcemap_compiled.specs.declared.errors.CompiledError
+pub use Rattle.oxc_sourcemap_compiled.specs.Numbers
+pub use Rattle.oxc_sourcemap_compiled.specs.Fields
+pub use Rattle.oxc_sourcemap_compiled.specs.Layout
+pub use Rattle.oxc_sourcemap_compiled.specs.CompiledMeaning
+pub use Rattle.oxc_sourcemap_compiled.specs.Order
+pub use Rattle.oxc_sourcemap_compiled.specs.Compiled
+pub use Rattle.oxc_sourcemap_compiled.specs.Decompiled
+pub use Rattle.oxc_sourcemap_compiled.specs.Means
+pub use Rattle.oxc_sourcemap_compiled.specs.CompiledMessages
 pub use Rattle.oxc_sourcemap_queries.specs.RangePieces
 pub use Rattle.oxc_sourcemap_queries.specs.RangeLaws
 pub use Rattle.oxc_sourcemap_queries.specs.Differences

@@ -19,13 +19,20 @@ pub use Rattle.oxc_sourcemap_join.specs.Joined.{at_positions}
 pub use Rattle.oxc_sourcemap_json.specs.JsonRecord.{json_record}
 pub use Rattle.oxc_sourcemap_laws.specs.ComposeLaws.{grouped_left, grouped_right, IsSeveralSources}
 pub use Rattle.oxc_sourcemap_laws.specs.ComposedDecodedMaps.{composed_decoded_maps}
-pub use Rattle.oxc_sourcemap_laws.specs.JoinLaws.{without_chunks, decoded_maps_of}
+pub use Rattle.oxc_sourcemap_laws.specs.JoinLaws.{HaveSameTraces, without_chunks}
+pub use Rattle.oxc_sourcemap_laws.specs.JoinLaws.{decoded_maps_of}
 pub use Rattle.oxc_sourcemap_laws.specs.JoinedDecodedMaps.{joined_decoded_maps}
 pub use Rattle.oxc_sourcemap_laws.specs.RemapLaws.{each_remapped}
 pub use Rattle.oxc_sourcemap_laws.specs.RemappedDecodedMaps.{remapped_decoded_map}
 pub use Rattle.oxc_sourcemap_laws.specs.Repeats.{EqualUpToRepeats}
 pub use Rattle.oxc_sourcemap_steps.specs.Composed.{composition, composition_fault, SomeComposition}
 pub use Rattle.oxc_sourcemap_steps.specs.Composed.{NoColumnGoesBack}
+pub use Rattle.oxc_sourcemap_compiled.specs.Compiled.{AreBytesOf, FitsCompiled}
+pub use Rattle.oxc_sourcemap_compiled.specs.CompiledMeaning.{CompiledRecord, compiled_in}
+pub use Rattle.oxc_sourcemap_compiled.specs.CompiledMeaning.{compiled_meaning}
+pub use Rattle.oxc_sourcemap_compiled.specs.Decompiled.{checked_map}
+pub use Rattle.oxc_sourcemap_compiled.specs.Means.{compiled_of, FitsFormat, CompiledMeansMap}
+pub use Rattle.oxc_sourcemap_compiled.specs.Order.{IsInOrder, IsOnLine, IsTokenAt, IsTokenOn}
 pub use Rattle.oxc_sourcemap_lookup.specs.Digits.{binary_digits}
 pub use Rattle.oxc_sourcemap_lookup.specs.Lookup.{at, clamped_at, no_column_goes_back, token_for}
 pub use Rattle.oxc_sourcemap_lookup.specs.Lookup.{clamped_token_for, IfOwnTable, table_fault}

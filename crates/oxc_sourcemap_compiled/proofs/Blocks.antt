@@ -1,7 +1,7 @@
 -- Fields of blocks.
 use Rattle.std.proofs.Common.{◌≡◌, ℕ, ap, ◌∙◌, List, true, false, refl}
 use Rattle.oxc_sourcemap_compiled.specs.declared.layout.Header.{Header}
-use Rattle.oxc_sourcemap_compiled.specs.Meaning.{line_in, number_in_list}
+use Rattle.oxc_sourcemap_compiled.specs.CompiledMeaning.{line_in, number_in_list}
 use Rattle.oxc_sourcemap_compiled.specs.declared.fields.Field.{Field}
 
 -- fields with the same numbers

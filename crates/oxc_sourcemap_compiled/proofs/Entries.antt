@@ -19,8 +19,9 @@ use Rattle.oxc_sourcemap_lookup.proofs.Tables.{IsFrom, IsFrom-le, from-in_order}
 use Rattle.oxc_sourcemap_lookup.proofs.LineStarts.{counts-one, none-before}
 use Rattle.oxc_sourcemap_lookup.proofs.LineIndices.{from_line, index_for-own, clamped_index_for-own}
 use Rattle.oxc_sourcemap_lookup.proofs.LineIndices.{index_after-own}
-use Rattle.oxc_sourcemap_compiled.specs.Meaning.{joined, token_in, start_in, line_in, entry_begin}
-use Rattle.oxc_sourcemap_compiled.specs.Meaning.{entry_end, entry_tokens, tokens_in}
+use Rattle.oxc_sourcemap_compiled.specs.CompiledMeaning.{joined, token_in, start_in, line_in}
+use Rattle.oxc_sourcemap_compiled.specs.CompiledMeaning.{entry_begin}
+use Rattle.oxc_sourcemap_compiled.specs.CompiledMeaning.{entry_end, entry_tokens, tokens_in}
 use Rattle.oxc_sourcemap_compiled.specs.Order.{AreInOrder, IsOnLine}
 use Rattle.oxc_sourcemap_compiled.specs.declared.layout.Header.{Header}
 use Rattle.oxc_sourcemap_compiled.proofs.Searches.{rises, has-cut}

@@ -18,8 +18,8 @@ use Rattle.oxc_sourcemap_lookup.proofs.Lookups.{goes_on, not_before, not_before-
 use Rattle.oxc_sourcemap_compiled.specs.Cuts.{IsCut, DoNotFall}
 use Rattle.oxc_sourcemap_compiled.specs.Order.{columns_in, column_of, AreColumnsOf, AreInOrder}
 use Rattle.oxc_sourcemap_compiled.specs.declared.lookup.Span.{Span}
-use Rattle.oxc_sourcemap_compiled.specs.Meaning.{token_in, line_in, entry_begin, entry_end}
-use Rattle.oxc_sourcemap_compiled.specs.Meaning.{entry_tokens}
+use Rattle.oxc_sourcemap_compiled.specs.CompiledMeaning.{token_in, line_in, entry_begin, entry_end}
+use Rattle.oxc_sourcemap_compiled.specs.CompiledMeaning.{entry_tokens}
 use Rattle.oxc_sourcemap_compiled.specs.declared.layout.Header.{Header}
 
 -- a function gives the columns of a line's tokens, from this number on

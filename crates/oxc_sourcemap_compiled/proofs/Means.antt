@@ -23,9 +23,10 @@ use Rattle.oxc_sourcemap_compiled.specs.Layout.{header_in, AreCounts, texts_base
 use Rattle.oxc_sourcemap_compiled.specs.Layout.{rows_base, groups_base, line_numbers_base}
 use Rattle.oxc_sourcemap_compiled.specs.Layout.{ignored_base}
 use Rattle.oxc_sourcemap_compiled.specs.Fields.{value_of, row_base}
-use Rattle.oxc_sourcemap_compiled.specs.Meaning.{start_in, line_in, ignored_in, ignore_list_in}
-use Rattle.oxc_sourcemap_compiled.specs.Meaning.{map_in, compiled_in, compiled_unless}
-use Rattle.oxc_sourcemap_compiled.specs.Meaning.{compiled_meaning}
+use Rattle.oxc_sourcemap_compiled.specs.CompiledMeaning.{start_in, line_in, ignored_in}
+use Rattle.oxc_sourcemap_compiled.specs.CompiledMeaning.{ignore_list_in}
+use Rattle.oxc_sourcemap_compiled.specs.CompiledMeaning.{map_in, compiled_in, compiled_unless}
+use Rattle.oxc_sourcemap_compiled.specs.CompiledMeaning.{compiled_meaning}
 use Rattle.oxc_sourcemap_compiled.specs.Order.{AreRowsExact, AreInOrder, IsInOrder, column_of}
 use Rattle.oxc_sourcemap_compiled.specs.Order.{least_column_of}
 use Rattle.oxc_sourcemap_compiled.specs.Decompiled.{checked_map}

@@ -12,8 +12,8 @@ use Rattle.oxc_sourcemap_parts.specs.Record.{MapRecord, Text}
 use Rattle.oxc_sourcemap_compiled.specs.Compiled.{table, marked, content_at, stored_count}
 use Rattle.oxc_sourcemap_compiled.specs.Compiled.{stored_text, text_offset}
 use Rattle.oxc_sourcemap_compiled.specs.Layout.{offsets_base, texts_base}
-use Rattle.oxc_sourcemap_compiled.specs.Meaning.{offset_in, part_between, text_in, optional}
-use Rattle.oxc_sourcemap_compiled.specs.Meaning.{optional_in, listed_in}
+use Rattle.oxc_sourcemap_compiled.specs.CompiledMeaning.{offset_in, part_between, text_in, optional}
+use Rattle.oxc_sourcemap_compiled.specs.CompiledMeaning.{optional_in, listed_in}
 use Rattle.oxc_sourcemap_compiled.specs.declared.layout.Header.{Header}
 use Rattle.oxc_sourcemap_compiled.proofs.Slices.{flat_map-more, offsets-grow, offset-next}
 use Rattle.oxc_sourcemap_compiled.proofs.Parts.{LiesAt, lies-same, lies-within, lies-take}

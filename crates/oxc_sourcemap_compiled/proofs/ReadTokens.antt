@@ -12,8 +12,9 @@ use Rattle.oxc_sourcemap_lookup.specs.Lookup.{on_line, no_column_goes_back}
 use Rattle.oxc_sourcemap_lookup.proofs.OwnTables.{line_goes_on}
 use Rattle.oxc_sourcemap_compiled.specs.Compiled.{AreLinesOf, line_starts, id_number, field_number}
 use Rattle.oxc_sourcemap_compiled.specs.Fields.{value_of}
-use Rattle.oxc_sourcemap_compiled.specs.Meaning.{stored_id, token_in, start_in, line_in}
-use Rattle.oxc_sourcemap_compiled.specs.Meaning.{entry_begin, entry_end, entry_tokens, tokens_in}
+use Rattle.oxc_sourcemap_compiled.specs.CompiledMeaning.{stored_id, token_in, start_in, line_in}
+use Rattle.oxc_sourcemap_compiled.specs.CompiledMeaning.{entry_begin, entry_end, entry_tokens}
+use Rattle.oxc_sourcemap_compiled.specs.CompiledMeaning.{tokens_in}
 use Rattle.oxc_sourcemap_compiled.specs.Order.{AreRowsExact, AreInOrder}
 use Rattle.oxc_sourcemap_compiled.specs.declared.layout.Header.{Header}
 use Rattle.oxc_sourcemap_compiled.proofs.Entries.{tokens-length, token-is, entry-of}

@@ -9,7 +9,7 @@ use Rattle.std.proofs.lemmas.Option.{same_Some, none-some}
 use Rattle.std.specs.List.{range_with_len, list_all}
 use Rattle.oxc_sourcemap_tokens.specs.Token.{TokenRecord}
 use Rattle.oxc_sourcemap_parts.specs.Record.{MapRecord, Text}
-use Rattle.oxc_sourcemap_compiled.specs.Meaning.{joined}
+use Rattle.oxc_sourcemap_compiled.specs.CompiledMeaning.{joined}
 
 -- ---- what was checked
 pub checked-some : {A : Type 0} (b : Bool) (x y : A) → Some y ≡ (if b then Some x else None) → (b ≡ true) × (y ≡ x)

@@ -3,9 +3,9 @@ pub mod Cuts
 pub mod Decompiled
 pub mod Fields
 pub mod Layout
-pub mod Meaning
+pub mod CompiledMeaning
 pub mod Means
-pub mod Messages
+pub mod CompiledMessages
 pub mod Numbers
 pub mod Opened
 pub mod Order

@@ -8,7 +8,8 @@ use Rattle.oxc_sourcemap_lookup.specs.Biased.{index_by, token_by}
 use Rattle.oxc_sourcemap_lookup.specs.declared.bias.Bias.{Bias}
 use Rattle.oxc_sourcemap_compiled.specs.Compiled.{content_at, ignored_of, AreBytesOf}
 use Rattle.oxc_sourcemap_compiled.specs.Decompiled.{has_utf8_texts, checked_map}
-use Rattle.oxc_sourcemap_compiled.specs.Meaning.{CompiledRecord, compiled_in, compiled_meaning}
+use Rattle.oxc_sourcemap_compiled.specs.CompiledMeaning.{CompiledRecord, compiled_in}
+use Rattle.oxc_sourcemap_compiled.specs.CompiledMeaning.{compiled_meaning}
 use Rattle.oxc_sourcemap_compiled.specs.Order.{IsInOrder}
 
 -- The map that is stored of a map: with a content for each source and no further one, and without chunks.

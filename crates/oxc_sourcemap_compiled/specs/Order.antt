@@ -1,14 +1,17 @@
 -- Compiled maps in which lookups by halving are exact: the lines and columns in their bytes are in order.
-use Rattle.std.specs.Prelude.{◌≡◌, ℕ, ◌+◌, ◌-◌, ◌*◌, ◌/◌, ◌<◌, ◌≤◌, true, List, map}
+use Rattle.std.specs.Prelude.{◌≡◌, ℕ, ◌+◌, ◌-◌, ◌*◌, ◌/◌, ◌<◌, ◌≤◌, true, List, map, Option}
 use Rattle.std.specs.List.{range_with_len}
 use Rattle.oxc_sourcemap_tokens.specs.Token.{TokenRecord}
 use Rattle.oxc_sourcemap_parts.specs.Sorted.{token_column}
+use Rattle.oxc_sourcemap_tokens.specs.declared.position.Position.{Position}
+use Rattle.oxc_sourcemap_lookup.specs.Biased.{index_by}
 use Rattle.oxc_sourcemap_lookup.specs.Lookup.{no_column_goes_back}
+use Rattle.oxc_sourcemap_lookup.specs.declared.bias.Bias.{Bias}
 use Rattle.oxc_sourcemap_compiled.specs.Numbers.{number_at}
 use Rattle.oxc_sourcemap_compiled.specs.Layout.{header_in, block_count}
 use Rattle.oxc_sourcemap_compiled.specs.Fields.{value_of, row_base}
-use Rattle.oxc_sourcemap_compiled.specs.Meaning.{token_in, start_in, line_in, entry_tokens}
-use Rattle.oxc_sourcemap_compiled.specs.Meaning.{entry_begin, entry_end}
+use Rattle.oxc_sourcemap_compiled.specs.CompiledMeaning.{token_in, start_in, line_in, entry_tokens}
+use Rattle.oxc_sourcemap_compiled.specs.CompiledMeaning.{entry_begin, entry_end, compiled_in}
 use Rattle.oxc_sourcemap_compiled.specs.declared.layout.Header.{Header}
 use Rattle.oxc_sourcemap_compiled.specs.declared.lookup.Span.{Span}
 
@@ -82,3 +85,7 @@ IsTokenAt bytes h i t = (k : ℕ) × (k < h.lines) × (i < h.tokens) × (t ≡ t
 -- a token is on a line: it is that of an index that an entry of this line has
 abbrev pub IsTokenOn : List ℕ → Header → ℕ → TokenRecord → Type 0
 IsTokenOn bytes h line t = (i : ℕ) × IsOnLine bytes h line i × (t ≡ token_in bytes h line i)
+
+-- the index of the token that answers for a position, of bytes that are in order
+abbrev pub IsIndexFor : Bias → List ℕ → Position → Option ℕ → Type 0
+IsIndexFor bias bytes at found = IsInOrder bytes → found ≡ index_by bias (compiled_in bytes).content.tokens at.line at.column

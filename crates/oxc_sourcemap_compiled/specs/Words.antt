@@ -18,21 +18,26 @@ pub use Rattle.oxc_sourcemap_compiled.specs.Fields.{IsField, value_in, field_in,
 pub use Rattle.oxc_sourcemap_compiled.specs.Layout.{header_in, layout_in, AreCounts, HasParts}
 pub use Rattle.oxc_sourcemap_compiled.specs.Layout.{block_count, text_count, compiled_fault}
 pub use Rattle.oxc_sourcemap_compiled.specs.Layout.{listed_count}
-pub use Rattle.oxc_sourcemap_compiled.specs.Meaning.{stored_id, token_in, start_in, number_in_list}
-pub use Rattle.oxc_sourcemap_compiled.specs.Meaning.{line_in, entry_begin, entry_end, entry_tokens}
-pub use Rattle.oxc_sourcemap_compiled.specs.Meaning.{tokens_in, offset_in, part_between, text_in}
-pub use Rattle.oxc_sourcemap_compiled.specs.Meaning.{optional_in, ignored_in, compiled_meaning}
-pub use Rattle.oxc_sourcemap_compiled.specs.Meaning.{compiled_in, listed_in, utf8_text, listed_text}
-pub use Rattle.oxc_sourcemap_compiled.specs.Meaning.{optional_text, ignore_list_in, map_in}
+pub use Rattle.oxc_sourcemap_compiled.specs.CompiledMeaning.{stored_id, token_in, start_in}
+pub use Rattle.oxc_sourcemap_compiled.specs.CompiledMeaning.{number_in_list}
+pub use Rattle.oxc_sourcemap_compiled.specs.CompiledMeaning.{line_in, entry_begin, entry_end}
+pub use Rattle.oxc_sourcemap_compiled.specs.CompiledMeaning.{entry_tokens}
+pub use Rattle.oxc_sourcemap_compiled.specs.CompiledMeaning.{tokens_in, offset_in, part_between}
+pub use Rattle.oxc_sourcemap_compiled.specs.CompiledMeaning.{text_in}
+pub use Rattle.oxc_sourcemap_compiled.specs.CompiledMeaning.{optional_in, ignored_in}
+pub use Rattle.oxc_sourcemap_compiled.specs.CompiledMeaning.{compiled_meaning}
+pub use Rattle.oxc_sourcemap_compiled.specs.CompiledMeaning.{compiled_in, listed_in, utf8_text}
+pub use Rattle.oxc_sourcemap_compiled.specs.CompiledMeaning.{listed_text}
+pub use Rattle.oxc_sourcemap_compiled.specs.CompiledMeaning.{optional_text, ignore_list_in, map_in}
 pub use Rattle.oxc_sourcemap_compiled.specs.Means.{stored_map, compiled_of, FitsFormat}
 pub use Rattle.oxc_sourcemap_compiled.specs.Means.{CompiledMeansMap, CompiledIsInOrder}
 pub use Rattle.oxc_sourcemap_compiled.specs.Means.{CompiledLooksUp, StoredMeansMap}
 pub use Rattle.oxc_sourcemap_compiled.specs.Means.{CompiledIsTakenApart}
-pub use Rattle.oxc_sourcemap_compiled.specs.Messages.{compiled_error_text}
+pub use Rattle.oxc_sourcemap_compiled.specs.CompiledMessages.{compiled_error_text}
 pub use Rattle.oxc_sourcemap_compiled.specs.Numbers.{number_at}
 pub use Rattle.oxc_sourcemap_compiled.specs.Opened.{IsOpened}
 pub use Rattle.oxc_sourcemap_compiled.specs.Order.{columns_in, column_of, least_column_of}
 pub use Rattle.oxc_sourcemap_compiled.specs.Order.{AreRowsExact}
 pub use Rattle.oxc_sourcemap_compiled.specs.Order.{IsInEntry, IsSpan, IsUpToEnd, AreColumnsOf}
 pub use Rattle.oxc_sourcemap_compiled.specs.Order.{AreInOrder, IsInOrder, IsOn, IsOnLine}
-pub use Rattle.oxc_sourcemap_compiled.specs.Order.{IsTokenAt, IsTokenOn}
+pub use Rattle.oxc_sourcemap_compiled.specs.Order.{IsIndexFor, IsTokenAt, IsTokenOn}

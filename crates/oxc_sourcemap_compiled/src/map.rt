@@ -1,7 +1,7 @@
 //! Compiled maps that are opened.
 ghost use Rattle.std.specs.Prelude.{◌≡◌, ◌+◌, ◌*◌, ◌<◌, ◌≤◌, IfSome, IfOk, IsTrue, ◌↔◌, length};
-ghost use Rattle.std.specs.Prelude.{option_map, [], is_some};
-ghost use Rattle.std.specs.List.{Contains};
+ghost use Rattle.std.specs.Prelude.{option_map, [], is_some, take, drop};
+ghost use Rattle.std.specs.List.{AllZip, Contains};
 ghost use Rattle.std.specs.Option.{option_and_then, unwrap_or};
 ghost use Rattle.std.specs.Prelude.{slice_get, Some};
 ghost use Rattle.oxc_sourcemap_tokens.specs.Results.{Gives, lent_item};
@@ -13,7 +13,7 @@ ghost use Rattle.oxc_sourcemap_lookup.specs.Words.{token_for, clamped_token_for}
 ghost use Rattle.oxc_sourcemap_lookup.specs.Words.{index_by};
 ghost use Rattle.oxc_sourcemap_lookup.specs.Lookup.{token_after};
 ghost use Rattle.oxc_sourcemap_compiled.specs.Words.{optional_text, listed_text, utf8_text};
-ghost use Rattle.oxc_sourcemap_compiled.specs.Words.{checked_map};
+ghost use Rattle.oxc_sourcemap_compiled.specs.Words.{checked_map, IsIndexFor};
 ghost use Rattle.oxc_sourcemap_parts.specs.Words.{record_of_parts};
 
 use crate::errors::CompiledError;
@@ -188,6 +188,19 @@ impl<'a> CompiledMap<'a> {
             Bias::Before => self.lookup_token_index(at.line, at.column),
             Bias::Clamped => self.lookup_token_index_approx(at.line, at.column),
             Bias::After => self.lookup_token_index_after(at.line, at.column),
+        }
+    }
+
+    /// The indices of the tokens that answer for generated positions by this bias, each at the index of its position, as far as there
+    /// are both positions and room.
+    pub fn find_all(&self, positions: &[Position], bias: Bias, out: &mut [Option<usize>])
+        ensures found { AllZip (IsIndexFor bias self.now) (take (length out.old) positions.now)
+            (take (length positions.now) out.new) }
+        ensures others { drop (length positions.now) out.new
+            ≡ drop (length positions.now) out.old }
+    {
+        for i in 0..positions.len().min(out.len()) {
+            out[i] = self.find_index(positions[i], bias);
         }
     }
 

@@ -62,7 +62,7 @@ fn id_from(stored: u32) -> Option<u32>
 }
 
 /// The part of bytes from one index to another; None where they have none.
-#[tactic(auto, unfolding(crate::specs::Meaning::part_between))]
+#[tactic(auto, unfolding(crate::specs::CompiledMeaning::part_between))]
 fn part_between(all: &[u8], start: usize, end: usize) -> Option<&[u8]>
     ensures { lent_item result ≡ part_between all.now start end }
 {
@@ -148,7 +148,7 @@ impl<'a> Opened<'a> {
     }
 
     /// The token at an index, on this line.
-    #[tactic(auto, unfolding(crate::specs::Meaning::token_in))]
+    #[tactic(auto, unfolding(crate::specs::CompiledMeaning::token_in))]
     pub(crate) fn token_on(&self, line: u32, i: usize) -> Token
         requires opened { IsOpened self.now }
         requires there { i < self.now.header.tokens }

@@ -5,3 +5,4 @@ pub mod TextLists
 pub mod Lends
 pub mod Filling
 pub mod Traced
+pub mod Shown

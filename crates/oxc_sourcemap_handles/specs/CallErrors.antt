@@ -22,7 +22,7 @@ use Rattle.oxc_sourcemap_handles.specs.declared.numbers.call_error.CallError.The
 use Rattle.oxc_sourcemap_handles.specs.declared.numbers.call_error.CallError.TheVariants.{BadBase64}
 use Rattle.oxc_sourcemap_handles.specs.declared.numbers.call_error.CallError.TheVariants.{BadDataUtf8}
 use Rattle.oxc_sourcemap_handles.specs.declared.numbers.call_error.CallError.TheVariants.{Compiled}
-use Rattle.oxc_sourcemap_compiled.specs.Messages.{compiled_error_text}
+use Rattle.oxc_sourcemap_compiled.specs.CompiledMessages.{compiled_error_text}
 use Rattle.oxc_sourcemap_parts.specs.Record.{MapRecord}
 use Rattle.oxc_sourcemap_parts.specs.Sorted.{are_tokens_sorted}
 use Rattle.oxc_sourcemap_steps.specs.Simplified.{simplification}

@@ -69,7 +69,8 @@ pub fn put_bytes(
     fault: &mut Fault,
 ) -> u32
     ensures bytes { result ≡ 0 → MatchResult made
-        (λ bytes. (held_text handle.new.held ≡ Some bytes.items) × (fault.new ≡ no_fault)) (λ _. ⊥) }
+        (λ bytes. (held_text handle.new.held ≡ Some bytes.items) × (fault.new ≡ no_fault))
+        (λ _. ⊥) }
     ensures error { result ≢ 0 → (handle.new.held ≡ handle.old.held)
         × IsErrorAs result fault.new (λ r. made ≡ Err r) }
     ensures told { IfErr made (λ r. result ≡ code_of r) }

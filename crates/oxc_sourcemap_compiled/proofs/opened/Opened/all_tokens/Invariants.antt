@@ -1,6 +1,6 @@
 use Rattle.std.proofs.Common.{◌≡◌, map}
 use Rattle.std.specs.List.{range_with_len}
-use Rattle.oxc_sourcemap_compiled.specs.Meaning.{joined}
+use Rattle.oxc_sourcemap_compiled.specs.CompiledMeaning.{joined}
 use Rattle.oxc_sourcemap_compiled.specs.Words.{entry_tokens}
 use Rattle.oxc_sourcemap_compiled.proofs.opened.Opened.all_tokens.Given as goal
 

@@ -295,13 +295,6 @@ class Buffers(CompiledCase):
         self.assertRaisesRegex(ValueError, "not contiguous", CompiledMap, memoryview(wide)[::2])
         wide.clear()
 
-    def test_nothing_is_copied(self):
-        data = bytearray(DATA)
-        with CompiledMap(data) as map:
-            at = data.index(b"a.ts")
-            data[at : at + 1] = b"x"
-            self.assertEqual((map.sources[0], map.trace(0, 4).source), ("x.ts", "x.ts"))
-
     def test_held_until_closed(self):
         ends = [lambda it: it.pop().close(), lambda it: it.clear(), lambda it: it[0].__exit__()]
         for end in ends:
@@ -533,6 +526,19 @@ class Closing(CompiledCase):
         self.assertRaises(BufferError, data.clear)
         reads_on.set()
         self.assertTrue(closed.wait(10))
+        data.clear()
+
+    def test_a_close_that_is_interrupted(self):
+        def interrupts(address):
+            free(address)
+            raise KeyboardInterrupt
+
+        data, free = bytearray(DATA), _library.lib.smap_free_compiled
+        map = CompiledMap(data)
+        with mock.patch.object(_library.lib, "smap_free_compiled", interrupts):
+            self.assertRaises(KeyboardInterrupt, map.close)
+        self.assertTrue(map.closed)
+        map.close()
         data.clear()
 
     def test_what_interrupts_a_call(self):

@@ -93,6 +93,14 @@ class Memory(Case):
             ):  # fmt: skip
                 self.keeps_nothing(call)
 
+    def test_compiled_maps_copy_nothing(self):
+        with SourceMap.from_tokens([], sources=["a"], source_contents=["x" * 10_000_000]) as map:
+            data = map.compile()
+        before = held()
+        with CompiledMap(data) as map:
+            self.assertLess(held() - before, 100_000)
+            self.assertEqual(map.sources, ["a"])
+
     def test_compiled_maps(self):
         data = read().compile()
 

@@ -73,7 +73,8 @@ class CompiledMap(Handle):
     Until it is closed (by `close`, a `with` or the collector) the buffer cannot be resized or closed; its bytes must not be changed.
 
     Any bytes may be opened. Of such that `SourceMap.compile` did not make, a lookup finds some token of the line, or none, and a text
-    that is not UTF-8 counts as None: a token whose source is none has no source.
+    that is not UTF-8 counts as None: a token whose source is none has no source. `decompile`, `sources` and the like of such bytes may
+    take memory of the square of their length.
 
     Raises SourceMapError of NOT_COMPILED, COMPILED_VERSION, COMPILED_LENGTH or COMPILED_SIZES, and ValueError if the buffer is not
     contiguous.
@@ -132,10 +133,8 @@ class CompiledMap(Handle):
         >>> data.clear()
         """
         with suppress(ValueError):
-            self._exclusively(self._freed, closes=True)
-
-    def _freed(self, address: int) -> None:
-        lib.smap_free_compiled(address)
+            self._exclusively(lib.smap_free_compiled, closes=True)
+        # (nobody reads it any more, also if it is a call before this one that has closed it, and that was interrupted)
         self._view.release()
 
     def __del__(self, free: Callable[..., object] = lib.smap_free_compiled) -> None:

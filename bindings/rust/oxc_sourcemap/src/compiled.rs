@@ -288,7 +288,8 @@ impl<'a> CompiledMap<'a> {
         is == 1
     }
 
-    /// The map that was compiled; none if a text is not UTF-8. Fails with `OutOfMemory`.
+    /// The map that was compiled; none if a text is not UTF-8. Fails with `OutOfMemory`. Of bytes that [`SourceMap::compile`] did not make
+    /// it may have the square of their length.
     ///
     /// ```
     /// use oxc_sourcemap::{CompiledMap, SourceMap};

@@ -8,7 +8,7 @@ use std::path::PathBuf;
 use std::sync::Arc;
 use std::{fs, thread};
 
-const FULL: &str = r#"{"version":3,"file":"out.js","sourceRoot":"src/","names":["hi","größe"],"sources":["a.ts","ü/b.ts","c.ts"],"sourcesContent":["let hi;",null,""],"ignoreList":[2,0],"mappings":"AAAA,GAASA,K;;CCCTC,ECAA","debugId":"d-1"}"#;
+const FULL: &str = r#"{"version":3,"file":"out.js","sourceRoot":"src/","names":["hi","größe"],"sources":["a.ts","ü/b.ts","c.ts"],"sourcesContent":["let hi;",null,""],"ignoreList":[2,0,0,2],"mappings":"AAAA,GAASA,K;;CCCTC,ECAA","debugId":"d-1"}"#;
 const BIASES: [Bias; 3] = [Bias::Before, Bias::Clamped, Bias::After];
 const STAMP: [u8; 32] = *b"0123456789abcdef0123456789ABCDEF";
 
@@ -102,7 +102,7 @@ fn texts_and_numbers_are_those_of_the_map() {
         assert_eq!(compiled.is_ignored(id), map.get_ignore_list().unwrap().contains(&id));
     }
     let counts = (compiled.token_count(), compiled.source_count(), compiled.name_count(), compiled.ignored_count());
-    assert_eq!(counts, (5, 3, 2, Some(2)));
+    assert_eq!(counts, (5, 3, 2, Some(4)));
     assert_eq!((compiled.text_length(), compiled.stamp()), (u64::MAX - 7, STAMP));
     let shown = format!("{compiled:?}");
     assert_eq!(shown, r#"CompiledMap { file: Some("out.js"), tokens: 5, sources: 3, names: 2, .. }"#);

@@ -79,7 +79,7 @@ def room_for(folder):
     """A copy of the crates, beside which the rest of the repository stands."""
     (folder / "bindings").mkdir()
     shutil.copytree(TOP / "bindings/rust", folder / "bindings/rust", ignore=shutil.ignore_patterns("target"))
-    for name in ("bindings/c", "crates", "target"):
+    for name in ("bindings/c", "crates", "tests", "target"):
         (folder / name).symlink_to(TOP / name)
     return folder
 

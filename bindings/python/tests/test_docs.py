@@ -8,9 +8,9 @@ import unittest
 
 import support
 import oxc_sourcemap
-from oxc_sourcemap import SourceMap, SourceMapBuilder, SourceMapJoin
+from oxc_sourcemap import CompiledMap, SourceMap, SourceMapBuilder, SourceMapJoin
 
-MODULES = ("", "._contents", "._errors", "._handle", "._lookups", "._making", "._map", "._texts", "._values")
+MODULES = ("", "._compiled", "._contents", "._errors", "._handle", "._lookups", "._making", "._map", "._texts", "._values")
 
 
 def load_tests(loader: unittest.TestLoader, tests: unittest.TestSuite, pattern: object) -> unittest.TestSuite:
@@ -25,7 +25,7 @@ class Docs(unittest.TestCase):
         for name in oxc_sourcemap.__all__:
             value = getattr(oxc_sourcemap, name)
             self.assertTrue(name == "NO_ID" or value.__doc__, name)
-        for type in (SourceMap, SourceMapBuilder, SourceMapJoin):
+        for type in (CompiledMap, SourceMap, SourceMapBuilder, SourceMapJoin):
             for name, value in inspect.getmembers(type):
                 if not name.startswith("_"):
                     self.assertIn(">>>", value.__doc__, name)

@@ -10,13 +10,14 @@ from unittest import mock
 from support import TOP
 
 import oxc_sourcemap
-from oxc_sourcemap import _library
+from oxc_sourcemap import _library, _values
 
 HEADER = re.sub(r"/\*.*?\*/", "", (TOP / "bindings/c/oxc_sourcemap.h").read_text(encoding="utf-8"), flags=re.S)
-ENUMS = ("Code", "Field", "PlaceKind", "Bias", "Kind", "MendKind", "Direction", "Language")
-PREFIXES = {"Field": "FIELD_", "PlaceKind": "PLACE_", "MendKind": "MEND_"}
+ENUMS = ("Code", "Field", "PlaceKind", "Bias", "Kind", "MendKind", "Direction", "TextKind", "Language")
+PREFIXES = {"Field": "FIELD_", "PlaceKind": "PLACE_", "MendKind": "MEND_", "TextKind": "TEXT_"}
 STRUCTS = {"text": "Text", "fault": "Fault", "fault_place": "FaultPlace", "counts": "Counts", "token": "Token", "position": "Position",
-           "original": "Original", "piece": "Piece", "mend": "Mend"}  # fmt: skip
+           "original": "Original", "piece": "Piece", "mend": "Mend", "compiled_counts": "CompiledCounts"}  # fmt: skip
+HANDLES = ("smap_map*", "smap_builder*", "smap_join*", "smap_string*", "smap_mends*", "smap_compiled*", "smap_file*")
 NUMBERS = {"uint32_t": c_uint32, "uint64_t": c_uint64, "size_t": c_size_t}
 
 
@@ -37,9 +38,11 @@ def fields_of(body):
 def parameter(type, name, following):
     """The type of a parameter by ctypes, and whether it is followed by a length."""
     is_list, plain = following == f"{name}_len", type.replace("const ", "").replace(" ", "")
+    if plain == "unsignedchar*":
+        return c_void_p
     if plain == "char*":
         return c_char_p if type.startswith("const") else c_void_p
-    if plain in ("smap_map*", "smap_builder*", "smap_join*", "smap_string*", "smap_mends*") or plain == "smap_map*const*" or is_list:
+    if plain in HANDLES or plain == "smap_map*const*" or is_list:
         return c_void_p
     if plain.endswith("**"):
         return POINTER(c_void_p)
@@ -53,7 +56,7 @@ class Header(unittest.TestCase):
         self.assertEqual(len(blocks), len(ENUMS))
         for name, block in zip(ENUMS, blocks):
             listed = re.findall(rf"SMAP_{PREFIXES.get(name, '')}(\w+) = (\d+)", block)
-            members = getattr(oxc_sourcemap, name).__members__.items()
+            members = getattr(_values, name).__members__.items()
             self.assertEqual([(it, str(value.value)) for it, value in members], listed, name)
 
     def test_numbers(self):
@@ -74,7 +77,7 @@ class Header(unittest.TestCase):
 
     def test_sizes(self):
         sizes = re.findall(r"SMAP_HAS_SIZE\(smap_(\w+), (\d+), (\d+)\);", HEADER)
-        self.assertEqual(len(sizes), 8)
+        self.assertEqual(len(sizes), 9)
         for name, words, more in sizes:
             self.assertEqual(ctypes.sizeof(struct(name)), int(words) * ctypes.sizeof(c_void_p) + int(more), name)
 

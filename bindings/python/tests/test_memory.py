@@ -10,6 +10,7 @@ import weakref
 from support import BACK, FLAT, TEXT, Case, read, simple
 
 from oxc_sourcemap import (
+    CompiledMap,
     SourceMap,
     SourceMapBuilder,
     SourceMapError,
@@ -89,6 +90,31 @@ class Memory(Case):
                 lambda: SourceMap.decode_mappings("A", 0, 0), lambda: SourceMap.join([(map, 0, 0)]), lambda: SourceMap.evaluate("@0", [TEXT]),
                 lambda: one.compose(map), lambda: one.remap({"a.js": map}),
                 lambda: self.assertRaises(SourceMapError, map.compose, one), lambda: self.assertRaises(SourceMapError, one.compose, back),
+            ):  # fmt: skip
+                self.keeps_nothing(call)
+
+    def test_compiled_maps_copy_nothing(self):
+        with SourceMap.from_tokens([], sources=["a"], source_contents=["x" * 10_000_000]) as map:
+            data = map.compile()
+        before = held()
+        with CompiledMap(data) as map:
+            self.assertLess(held() - before, 100_000)
+            self.assertEqual(map.sources, ["a"])
+
+    def test_compiled_maps(self):
+        data = read().compile()
+
+        def closed():
+            with CompiledMap(data) as map:
+                map.close()
+
+        self.keeps_nothing(lambda: CompiledMap(data), 10_000)
+        self.keeps_nothing(closed, 10_000)
+        with read() as map, SourceMap.from_tokens(BACK) as back, CompiledMap(data) as compiled:
+            for call in (
+                map.compile, lambda: self.assertRaises(SourceMapError, back.compile), compiled.decompile, lambda: compiled.trace(0, 4),
+                lambda: compiled.trace_all([(0, 4)]), lambda: compiled.find_all([(0, 4)]), lambda: compiled.sources, lambda: compiled.stamp,
+                lambda: self.assertRaises(SourceMapError, CompiledMap, b"{}"), lambda: Node(map=CompiledMap(data)),
             ):  # fmt: skip
                 self.keeps_nothing(call)
 

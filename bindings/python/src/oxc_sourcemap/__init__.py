@@ -7,6 +7,7 @@
 a.ts 2 4 f
 """
 
+from ._compiled import CompiledMap
 from ._errors import SourceMapError
 from ._library import NO_ID
 from ._making import SourceMapBuilder, SourceMapJoin
@@ -15,6 +16,7 @@ from ._texts import decode_data_url, encode_mappings, source_mapping_url
 from ._values import (
     Bias,
     Code,
+    CompiledCounts,
     Counts,
     Direction,
     FaultPlace,
@@ -36,6 +38,8 @@ __all__ = [
     "NO_ID",
     "Bias",
     "Code",
+    "CompiledCounts",
+    "CompiledMap",
     "Counts",
     "Direction",
     "FaultPlace",

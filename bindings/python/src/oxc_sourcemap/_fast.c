@@ -1,5 +1,5 @@
-/* The answers of lookups, as _plain.py has them, for CPython of 3.10 and later (stable ABI). It calls no other function of the
- * library than smap_trace, whose address it is given, and holds the lock of the interpreter throughout. */
+/* The answers of lookups, as _plain.py has them, for CPython of 3.10 and later (stable ABI). It calls no other functions of
+ * the library than smap_trace and smap_compiled_trace, whose addresses it is given, and holds the lock of the interpreter throughout. */
 #define PY_SSIZE_T_CLEAN
 #define Py_LIMITED_API 0x030A0000
 #include <Python.h>
@@ -7,9 +7,11 @@
 #include "oxc_sourcemap.h"
 
 typedef uint32_t trace_call(const smap_map *, uint32_t, uint32_t, uint32_t, smap_original *, smap_fault *);
+typedef uint32_t compiled_call(const smap_compiled *, uint32_t, uint32_t, uint32_t, smap_original *);
 
 typedef struct {
     trace_call *call;
+    compiled_call *compiled;
     newfunc new_tuple;
     PyObject *original;
     PyObject *token;
@@ -82,19 +84,20 @@ static int read_number(PyObject *it, uint32_t *out) {
 
 static PyObject *bind(PyObject *module, PyObject *const *arguments, Py_ssize_t count) {
     state *my = of(module);
-    if (count != 3) return PyErr_Format(PyExc_TypeError, "bind takes 3 arguments");
-    void *call = PyLong_AsVoidPtr(arguments[0]);
-    if (!call) return PyErr_Occurred() ? NULL : PyErr_Format(PyExc_ValueError, "no address");
-    for (int i = 1; i < 3; i++)
+    if (count != 4) return PyErr_Format(PyExc_TypeError, "bind takes 4 arguments");
+    void *call = PyLong_AsVoidPtr(arguments[0]), *compiled = call ? PyLong_AsVoidPtr(arguments[1]) : NULL;
+    if (!compiled) return PyErr_Occurred() ? NULL : PyErr_Format(PyExc_ValueError, "no address");
+    for (int i = 2; i < 4; i++)
         if (!PyType_Check(arguments[i]) || !PyType_IsSubtype((PyTypeObject *)arguments[i], &PyTuple_Type))
             return PyErr_Format(PyExc_TypeError, "answers are tuples");
-    Py_INCREF(arguments[1]);
     Py_INCREF(arguments[2]);
+    Py_INCREF(arguments[3]);
     Py_XDECREF(my->original);
     Py_XDECREF(my->token);
-    my->original = arguments[1];
-    my->token = arguments[2];
+    my->original = arguments[2];
+    my->token = arguments[3];
     memcpy(&my->call, &call, sizeof call);
+    memcpy(&my->compiled, &compiled, sizeof compiled);
     return none();
 }
 
@@ -108,26 +111,35 @@ static PyObject *held_in(PyObject *leases) {
     return held;
 }
 
-/* A lookup. The caller holds the lease: what runs meanwhile, as __index__ or the collector may, finds that it is held. */
-static PyObject *traced(const state *my, PyObject *held, PyObject *const *numbers) {
+/* A lookup, in a compiled map or another one. The caller holds the lease: what runs meanwhile, as __index__ or the collector may,
+ * finds that it is held. */
+static PyObject *traced(const state *my, int is_compiled, PyObject *held, PyObject *const *numbers) {
     uint32_t line, column, bias;
     if (!read_number(numbers[0], &line) || !read_number(numbers[1], &column) || !read_number(numbers[2], &bias)) return NULL;
     PyObject *address = PyTuple_GetItem(held, 0);
-    const smap_map *map = address ? PyLong_AsVoidPtr(address) : NULL;
+    const void *map = address ? PyLong_AsVoidPtr(address) : NULL;
     if (!map && PyErr_Occurred()) return NULL;
     smap_original found;
-    uint32_t code = my->call(map, line, column, bias, &found, NULL);
+    uint32_t code =
+        is_compiled ? my->compiled(map, line, column, bias, &found) : my->call(map, line, column, bias, &found, NULL);
     return code ? number(code) : original_of(my, &found);
 }
 
-static PyObject *trace(PyObject *module, PyObject *const *arguments, Py_ssize_t count) {
-    const state *my = of(module);
+static PyObject *trace_in(const state *my, int is_compiled, PyObject *const *arguments, Py_ssize_t count) {
     if (count != 4 || !my->call) return PyErr_Format(PyExc_TypeError, "trace takes 4 arguments, after bind");
     PyObject *held = held_in(arguments[0]);
     if (!held) return PyErr_Occurred() ? NULL : number(SMAP_NULL_HANDLE);
-    PyObject *answer = traced(my, held, arguments + 1);
+    PyObject *answer = traced(my, is_compiled, held, arguments + 1);
     Py_DECREF(held);
     return answer;
+}
+
+static PyObject *trace(PyObject *module, PyObject *const *arguments, Py_ssize_t count) {
+    return trace_in(of(module), 0, arguments, count);
+}
+
+static PyObject *trace_compiled(PyObject *module, PyObject *const *arguments, Py_ssize_t count) {
+    return trace_in(of(module), 1, arguments, count);
 }
 
 static PyObject *originals(PyObject *module, PyObject *const *arguments, Py_ssize_t count) {
@@ -170,6 +182,7 @@ static int begin(PyObject *module) {
 
 static PyMethodDef calls[] = {{"bind", (PyCFunction)(void (*)(void))bind, METH_FASTCALL, NULL},
                               {"trace", (PyCFunction)(void (*)(void))trace, METH_FASTCALL, NULL},
+                              {"trace_compiled", (PyCFunction)(void (*)(void))trace_compiled, METH_FASTCALL, NULL},
                               {"originals", (PyCFunction)(void (*)(void))originals, METH_FASTCALL, NULL},
                               {NULL, NULL, 0, NULL}};
 

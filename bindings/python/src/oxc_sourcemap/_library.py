@@ -58,6 +58,11 @@ class Mend(Structure):
     _fields_ = [("kind", c_uint32), ("section", c_uint64), ("number", c_uint64)]
 
 
+class CompiledCounts(Structure):
+    _fields_ = [("tokens", c_uint64), ("sources", c_uint64), ("names", c_uint64), ("ignored", c_uint64), ("text_length", c_uint64),
+                ("has_ignore_list", c_uint32), ("rest", c_uint32)]  # fmt: skip
+
+
 # The types of parameters: a handle and an array go by their address, texts as bytes, and what is written by reference.
 _u32, _size, _handle, _array, _bytes = c_uint32, c_size_t, c_void_p, c_void_p, c_char_p
 _made, _number, _count, _fault = POINTER(c_void_p), POINTER(c_uint32), POINTER(c_size_t), POINTER(Fault)
@@ -97,6 +102,20 @@ PROTOTYPES: dict[str, tuple[Any, ...]] = {
     "smap_index_sources": (_u32, _handle, _fault),
     "smap_generated": (_u32, _handle, _u32, _u32, _u32, _u32, _number, _token),
     "smap_all_generated": (_u32, _handle, _u32, _u32, _u32, _u32, _array, _size, _count),
+    "smap_compile": (_u32, _handle, c_uint64, _array, _made, _fault),
+    "smap_open_compiled": (_u32, _array, _size, _made, _fault),
+    "smap_free_compiled": (None, _handle),
+    "smap_map_file": (_u32, _bytes, _made, _text, _fault),
+    "smap_free_file": (None, _handle),
+    "smap_compiled_get_counts": (_u32, _handle, POINTER(CompiledCounts)),
+    "smap_compiled_trace": (_u32, _handle, _u32, _u32, _u32, POINTER(Original)),
+    "smap_compiled_trace_all": (_u32, _handle, _array, _size, _u32, _array, _size),
+    "smap_compiled_find_all": (_u32, _handle, _array, _size, _u32, _array, _size),
+    "smap_compiled_get_token": (_u32, _handle, _u32, _token),
+    "smap_compiled_get_text": (_u32, _handle, _u32, _u32, _text),
+    "smap_compiled_get_stamp": (_u32, _handle, _text),
+    "smap_compiled_is_ignored": (_u32, _handle, _u32, _number),
+    "smap_decompile": (_u32, _handle, _made, _fault),
     "smap_set_file": (_u32, _handle, _bytes, _size, _fault),
     "smap_set_source_root": (_u32, _handle, _bytes, _size, _fault),
     "smap_set_debug_id": (_u32, _handle, _bytes, _size, _fault),

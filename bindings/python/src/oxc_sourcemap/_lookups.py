@@ -22,7 +22,13 @@ except ImportError:
 if TYPE_CHECKING:
     from _typeshed import ReadableBuffer as Buffer
 
-bind(ctypes.cast(cast(Any, lib.smap_trace), ctypes.c_void_p).value or 0, Original, Token)
+
+def _address_of(call: object) -> int:
+    """Where a call of the library is."""
+    return ctypes.cast(cast(Any, call), ctypes.c_void_p).value or 0
+
+
+bind(_address_of(lib.smap_trace), _address_of(lib.smap_compiled_trace), Original, Token)
 
 
 class Lookups(Handle):

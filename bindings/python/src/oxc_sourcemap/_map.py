@@ -5,7 +5,7 @@ from __future__ import annotations
 import ctypes
 from collections.abc import Callable, Iterable, Mapping
 from ctypes import byref
-from typing import Any, NoReturn, Optional, Union, cast, final
+from typing import TYPE_CHECKING, Any, NoReturn, Optional, Union, cast, final
 
 from . import _library
 from ._contents import Contents
@@ -22,13 +22,18 @@ from ._numbers import (
     entries_of,
     ids_of,
     limit_of,
+    long_number,
     number,
     positions_of,
+    stamp_of,
     texts_in,
     tokens_of,
 )
-from ._texts import written
+from ._texts import written, written_bytes
 from ._values import Code, Found, Mend, MendKind, Position, Text, named
+
+if TYPE_CHECKING:
+    from _typeshed import ReadableBuffer as Buffer
 
 
 @final
@@ -360,6 +365,19 @@ class SourceMap(Contents, Lookups):
         'IAEA'
         """
         return self._written_within(lib.smap_get_mappings, lib.smap_get_mappings_within, limit)
+
+    def compile(self, text_length: int = 0, stamp: Buffer = bytes(32)) -> bytes:
+        """The bytes of the compiled map, which `CompiledMap` opens. They mean the map, but that a content past the last source is dropped.
+        `text_length` is the number of bytes of the map's text, and the stamp 32 bytes that are kept, as the SHA-256 of that text.
+
+        Raises SourceMapError of UNSORTED or TOO_LARGE.
+
+        >>> data = SourceMap.from_tokens([Token(0, 4, 2, 0, 0, None)], sources=["a.ts"]).compile()
+        >>> CompiledMap(data).trace(0, 4).source
+        'a.ts'
+        """
+        length, given = long_number(text_length), stamp_of(stamp)
+        return written_bytes(lambda *out: self._read(lambda at: lib.smap_compile(at, length, given, *out))) or b""
 
     def visualize(self, code: Text) -> str:
         """The text of a code beside its sources, token by token.

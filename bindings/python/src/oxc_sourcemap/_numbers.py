@@ -41,6 +41,25 @@ def number(value: int) -> int:
     return value
 
 
+def long_number(value: int) -> int:
+    """The same, if it has 64 bits."""
+    value = index(value)
+    if not 0 <= value < 1 << 64:
+        raise OverflowError(f"{value} is not from 0 to {(1 << 64) - 1}")
+    return value
+
+
+def stamp_of(stamp: Buffer) -> bytes:
+    """A stamp of a compiled map."""
+    try:
+        data = memoryview(stamp).tobytes()
+    except TypeError as error:
+        raise TypeError(f"stamp: {error}") from None
+    if len(data) != 32:
+        raise ValueError(f"a stamp has 32 bytes, not {len(data)}")
+    return data
+
+
 def limit_of(limit: int) -> int:
     """A limit of bytes, for the library."""
     limit = index(limit)

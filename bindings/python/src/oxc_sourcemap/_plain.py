@@ -3,7 +3,7 @@
 from __future__ import annotations
 
 import ctypes
-from collections.abc import Mapping
+from collections.abc import Callable, Mapping
 from threading import get_ident
 from typing import Optional, Union
 
@@ -13,8 +13,8 @@ from ._numbers import number, text_at
 from ._values import Code, Kind, Original, Token, token_of
 
 
-def bind(call: int, original: type[Original], token: type[Token]) -> None:
-    """Takes the address of `smap_trace` and the types of answers, which this module knows."""
+def bind(call: int, compiled: int, original: type[Original], token: type[Token]) -> None:
+    """Takes the addresses of `smap_trace` and `smap_compiled_trace` and the types of answers, which this module knows."""
 
 
 def original_of(found: _library.Original) -> Optional[Original]:
@@ -31,6 +31,19 @@ def original_of(found: _library.Original) -> Optional[Original]:
 
 def trace(leases: Mapping[int, tuple[int, object]], line: int, column: int, bias: int) -> Union[Original, int, None]:
     """What a lookup finds in the map that this thread reads by one of these, or the code of an error; NULL_HANDLE without one."""
+    return _traced(lambda *asked: lib.smap_trace(*asked, None), leases, line, column, bias)
+
+
+def trace_compiled(
+    leases: Mapping[int, tuple[int, object]], line: int, column: int, bias: int
+) -> Union[Original, int, None]:
+    """The same in a compiled map. Raises UnicodeDecodeError of a text that is not UTF-8."""
+    return _traced(lib.smap_compiled_trace, leases, line, column, bias)
+
+
+def _traced(
+    call: Callable[..., int], leases: Mapping[int, tuple[int, object]], line: int, column: int, bias: int
+) -> Union[Original, int, None]:
     held = None
     try:
         held = leases.get(get_ident())
@@ -38,7 +51,7 @@ def trace(leases: Mapping[int, tuple[int, object]], line: int, column: int, bias
             return int(Code.NULL_HANDLE)
         found = _library.Original()
         numbers = number(line), number(column), number(bias)
-        code: int = lib.smap_trace(held[0], *numbers, ctypes.byref(found), None)
+        code = call(held[0], *numbers, ctypes.byref(found))
         return code or original_of(found)
     finally:
         # A traceback may outlive the call, and who changes the map waits for its leases.

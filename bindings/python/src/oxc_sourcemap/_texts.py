@@ -14,8 +14,8 @@ from ._numbers import Tokens, bytes_of, limit_of, number, text_at, tokens_of
 from ._values import Code, Language, Text
 
 
-def written_or_none(call: Callable[..., int]) -> Optional[str]:
-    """The text that a call makes, which gets where it puts the string and the fault; None where it says that there is none."""
+def written_bytes(call: Callable[..., int]) -> Optional[bytes]:
+    """The bytes that a call makes, which gets where it puts the string and the fault; None where it says that there are none."""
     string, fault, text = ctypes.c_void_p(), _library.Fault(), _library.Text()
     try:
         code = call(byref(string), byref(fault))
@@ -23,9 +23,15 @@ def written_or_none(call: Callable[..., int]) -> Optional[str]:
             return None
         check(code, fault)
         check_code(lib.smap_get_text(string, byref(text)))
-        return text_at(text.at, text.len)
+        return ctypes.string_at(text.at, text.len) if text.len else b""
     finally:
         lib.smap_free_string(string)
+
+
+def written_or_none(call: Callable[..., int]) -> Optional[str]:
+    """The same as a text."""
+    data = written_bytes(call)
+    return None if data is None else data.decode()
 
 
 def written(call: Callable[..., int]) -> str:

@@ -22,7 +22,8 @@ Text = Union[str, "Buffer"]
 class Code(IntEnum):
     """What is wrong, as `SourceMapError.code`. The names are those of oxc_sourcemap.h, without `SMAP_`.
 
-    OUT_OF_MEMORY is raised as MemoryError, and NULL_HANDLE as ValueError; no call raises NO_ENTRY, which is None.
+    OUT_OF_MEMORY is raised as MemoryError, and NULL_HANDLE as ValueError; no call raises NO_ENTRY, which is None, and NO_FILE, which is
+    OSError.
 
     >>> Code.LINE_ORDER.value
     12
@@ -51,12 +52,17 @@ class Code(IntEnum):
     INPUT_LINE_ORDER = 20
     BAD_BASE64 = 21
     BAD_DATA_UTF8 = 22
+    NOT_COMPILED = 23
+    COMPILED_VERSION = 24
+    COMPILED_LENGTH = 25
+    COMPILED_SIZES = 26
     NULL_HANDLE = 100
     NOT_UTF8 = 101
     LENGTHS = 102
     NO_ENTRY = 103
     NO_INDEX = 104
     BAD_OPTION = 105
+    NO_FILE = 106
 
 
 class Field(IntEnum):
@@ -114,6 +120,17 @@ class Direction(IntEnum):
     FOR = 1
     FROM = 2
     ON_LINE = 3
+
+
+class TextKind(IntEnum):
+    """A text of a compiled map."""
+
+    NAME = 0
+    SOURCE = 1
+    SOURCE_CONTENT = 2
+    FILE = 3
+    SOURCE_ROOT = 4
+    DEBUG_ID = 5
 
 
 class Language(IntEnum):
@@ -224,6 +241,15 @@ class Counts(NamedTuple):
     ignore_list: int
     lines: int
     bytes: int
+
+
+class CompiledCounts(NamedTuple):
+    """The number of entries of each list of a compiled map; `ignored` is None if it has no ignore list."""
+
+    tokens: int
+    sources: int
+    names: int
+    ignored: Optional[int]
 
 
 class Mend(NamedTuple):

@@ -60,12 +60,17 @@ pub const SMAP_SECTION_ORDER: u32 = 19;
 pub const SMAP_INPUT_LINE_ORDER: u32 = 20;
 pub const SMAP_BAD_BASE64: u32 = 21;
 pub const SMAP_BAD_DATA_UTF8: u32 = 22;
+pub const SMAP_NOT_COMPILED: u32 = 23;
+pub const SMAP_COMPILED_VERSION: u32 = 24;
+pub const SMAP_COMPILED_LENGTH: u32 = 25;
+pub const SMAP_COMPILED_SIZES: u32 = 26;
 pub const SMAP_NULL_HANDLE: u32 = 100;
 pub const SMAP_NOT_UTF8: u32 = 101;
 pub const SMAP_LENGTHS: u32 = 102;
 pub const SMAP_NO_ENTRY: u32 = 103;
 pub const SMAP_NO_INDEX: u32 = 104;
 pub const SMAP_BAD_OPTION: u32 = 105;
+pub const SMAP_NO_FILE: u32 = 106;
 
 // Fields of JSON maps.
 pub const SMAP_FIELD_OBJECT: u32 = 0;
@@ -126,6 +131,14 @@ pub const SMAP_FOR: u32 = 1;
 pub const SMAP_FROM: u32 = 2;
 pub const SMAP_ON_LINE: u32 = 3;
 
+// The texts of a compiled map.
+pub const SMAP_TEXT_NAME: u32 = 0;
+pub const SMAP_TEXT_SOURCE: u32 = 1;
+pub const SMAP_TEXT_SOURCE_CONTENT: u32 = 2;
+pub const SMAP_TEXT_FILE: u32 = 3;
+pub const SMAP_TEXT_SOURCE_ROOT: u32 = 4;
+pub const SMAP_TEXT_DEBUG_ID: u32 = 5;
+
 // The languages of codes.
 pub const SMAP_JAVASCRIPT: u32 = 0;
 pub const SMAP_CSS: u32 = 1;
@@ -164,6 +177,20 @@ pub struct smap_join {
 /// What was mended in a map.
 #[repr(C)]
 pub struct smap_mends {
+    _own: [u8; 0],
+    _marker: Own,
+}
+
+/// A compiled map that is open.
+#[repr(C)]
+pub struct smap_compiled {
+    _own: [u8; 0],
+    _marker: Own,
+}
+
+/// A file in memory.
+#[repr(C)]
+pub struct smap_file {
     _own: [u8; 0],
     _marker: Own,
 }
@@ -260,6 +287,19 @@ pub struct smap_mend {
     pub kind: u32,
     pub section: u64,
     pub number: u64,
+}
+
+/// The numbers of entries of a compiled map, whether it has an ignore list, and the length of its text.
+#[repr(C)]
+#[derive(Clone, Copy, Debug, Default, PartialEq, Eq)]
+pub struct smap_compiled_counts {
+    pub tokens: u64,
+    pub sources: u64,
+    pub names: u64,
+    pub ignored: u64,
+    pub text_length: u64,
+    pub has_ignore_list: u32,
+    pub rest: u32,
 }
 
 unsafe extern "C" {
@@ -371,6 +411,56 @@ unsafe extern "C" {
         out_len: usize,
         count: *mut usize,
     ) -> u32;
+    pub fn smap_compile(
+        map: *const smap_map,
+        text_length: u64,
+        stamp: *const u8,
+        out: *mut *mut smap_string,
+        fault: *mut smap_fault,
+    ) -> u32;
+    pub fn smap_open_compiled(
+        bytes: *const u8,
+        len: usize,
+        out: *mut *mut smap_compiled,
+        fault: *mut smap_fault,
+    ) -> u32;
+    pub fn smap_free_compiled(compiled: *mut smap_compiled);
+    pub fn smap_map_file(
+        path: *const c_char,
+        out: *mut *mut smap_file,
+        bytes: *mut smap_text,
+        fault: *mut smap_fault,
+    ) -> u32;
+    pub fn smap_free_file(file: *mut smap_file);
+    pub fn smap_compiled_get_counts(compiled: *const smap_compiled, out: *mut smap_compiled_counts) -> u32;
+    pub fn smap_compiled_trace(
+        compiled: *const smap_compiled,
+        line: u32,
+        column: u32,
+        bias: u32,
+        out: *mut smap_original,
+    ) -> u32;
+    pub fn smap_compiled_trace_all(
+        compiled: *const smap_compiled,
+        positions: *const smap_position,
+        positions_len: usize,
+        bias: u32,
+        out: *mut smap_original,
+        out_len: usize,
+    ) -> u32;
+    pub fn smap_compiled_find_all(
+        compiled: *const smap_compiled,
+        positions: *const smap_position,
+        positions_len: usize,
+        bias: u32,
+        out: *mut u32,
+        out_len: usize,
+    ) -> u32;
+    pub fn smap_compiled_get_token(compiled: *const smap_compiled, index: u32, out: *mut smap_token) -> u32;
+    pub fn smap_compiled_get_text(compiled: *const smap_compiled, kind: u32, id: u32, out: *mut smap_text) -> u32;
+    pub fn smap_compiled_get_stamp(compiled: *const smap_compiled, out: *mut smap_text) -> u32;
+    pub fn smap_compiled_is_ignored(compiled: *const smap_compiled, id: u32, out: *mut u32) -> u32;
+    pub fn smap_decompile(compiled: *const smap_compiled, out: *mut *mut smap_map, fault: *mut smap_fault) -> u32;
     pub fn smap_set_file(map: *mut smap_map, file: *const c_char, file_len: usize, fault: *mut smap_fault) -> u32;
     pub fn smap_set_source_root(
         map: *mut smap_map,

@@ -224,6 +224,73 @@ fn writers_tell_null_handles_first() {
 }
 
 #[test]
+fn compiled_maps_tell_null_handles_first() {
+    let mut out = outputs();
+    let mut counts = smap_compiled_counts { rest: 7, ..smap_compiled_counts::default() };
+    // SAFETY: pointers are null or to live values, and lengths are theirs.
+    let codes = unsafe {
+        [
+            smap_compiled_get_counts(null(), &mut counts),
+            smap_compiled_trace(null(), 0, 0, 99, &mut out.mapped),
+            smap_compiled_trace_all(null(), &NOWHERE, 1, 99, null_mut(), 0),
+            smap_compiled_find_all(null(), &NOWHERE, 1, 99, null_mut(), 0),
+            smap_compiled_get_token(null(), 0, &mut out.token),
+            smap_compiled_get_text(null(), 99, 0, &mut out.lent),
+            smap_compiled_get_stamp(null(), &mut out.lent),
+            smap_compiled_is_ignored(null(), 0, &mut out.number),
+            smap_compile(null(), 0, null(), &mut out.string, &mut out.fault),
+            smap_decompile(null(), &mut out.map, &mut out.fault),
+        ]
+    };
+    are_of_null_handles(&codes, &out);
+    assert_eq!((out.fault.code, counts.rest), (SMAP_NULL_HANDLE, 7));
+}
+
+#[test]
+fn a_compiled_map_says_what_it_was_made_of() {
+    let (map, mut string, mut compiled, mut out) = (read(JSON), null_mut(), null_mut(), text(""));
+    let mut mapped =
+        smap_original { kind: 7, index: 7, token: smap_token::default(), source: text(""), name: text("") };
+    let (mut found, positions, mut stamp) = ([7, 7], [smap_position::default(); 2], text(""));
+    // SAFETY: pointers are null or to live values, lengths are theirs, and handles are freed once, that of the bytes last.
+    unsafe {
+        // (a stamp that is null stands for zero bytes)
+        assert_eq!(smap_compile(map, 0, null(), &mut string, null_mut()), SMAP_OK);
+        assert_eq!(smap_get_text(string, &mut out), SMAP_OK);
+        assert_eq!(smap_open_compiled(out.at.cast(), out.len, &mut compiled, null_mut()), SMAP_OK);
+        assert_eq!((smap_compiled_get_stamp(compiled, &mut stamp), lent(stamp)), (SMAP_OK, "\0".repeat(32)));
+        assert_eq!((smap_compiled_trace(compiled, 0, 5, SMAP_BEFORE, &mut mapped), mapped.index), (SMAP_OK, 1));
+        assert_eq!(smap_compiled_trace(compiled, 0, 5, 3, &mut mapped), SMAP_BAD_OPTION);
+        let at = positions.as_ptr();
+        assert_eq!(smap_compiled_trace_all(compiled, at, 2, 3, &mut mapped, 1), SMAP_LENGTHS);
+        assert_eq!(smap_compiled_trace_all(compiled, at, 1, 3, &mut mapped, 1), SMAP_BAD_OPTION);
+        assert_eq!(smap_compiled_find_all(compiled, at, 1, 3, found.as_mut_ptr(), 2), SMAP_LENGTHS);
+        assert_eq!(smap_compiled_find_all(compiled, at, 2, 3, found.as_mut_ptr(), 2), SMAP_BAD_OPTION);
+        assert_eq!(smap_compiled_get_text(compiled, 6, 0, &mut out), SMAP_BAD_OPTION);
+        assert_eq!(smap_compiled_get_text(compiled, SMAP_TEXT_SOURCE, 2, &mut out), SMAP_NO_ENTRY);
+        assert_eq!((found, mapped.index), ([7, 7], 1));
+        smap_free_compiled(compiled);
+        smap_free_string(string);
+        smap_free_map(map);
+    }
+}
+
+#[test]
+fn a_file_that_is_there_and_one_that_is_not() {
+    let (mut file, mut bytes, mut fault) = (null_mut(), text("x"), smap_fault::default());
+    // SAFETY: paths end with a zero byte, pointers are null or to live values, and the file is freed once.
+    unsafe {
+        assert_eq!(smap_map_file(c"/no/such/file".as_ptr(), &mut file, &mut bytes, &mut fault), SMAP_NO_FILE);
+        assert_eq!((fault.code, fault.detail, file.is_null(), bytes.len), (SMAP_NO_FILE, 2, true, 1));
+        assert_eq!(smap_map_file(c"/".as_ptr(), &mut file, &mut bytes, &mut fault), SMAP_NO_FILE);
+        assert_eq!(fault.detail, 0);
+        assert_eq!(smap_map_file(c"/proc/self/cmdline".as_ptr(), &mut file, &mut bytes, null_mut()), SMAP_OK);
+        assert_eq!(bytes.len, 0);
+        smap_free_file(file);
+    }
+}
+
+#[test]
 fn nothing_is_freed_of_null() {
     // SAFETY: null may be freed.
     unsafe {
@@ -232,6 +299,8 @@ fn nothing_is_freed_of_null() {
         smap_free_builder(null_mut());
         smap_free_join(null_mut());
         smap_free_mends(null_mut());
+        smap_free_compiled(null_mut());
+        smap_free_file(null_mut());
     }
 }
 
@@ -429,7 +498,8 @@ fn each_code_has_its_name() {
         SMAP_OK SMAP_VLQ_LEFTOVER SMAP_VLQ_NO_VALUES SMAP_VLQ_OVERFLOW SMAP_JSON_READING SMAP_JSON_SHAPE SMAP_JSON_VERSION
         SMAP_BAD_SEGMENT_SIZE SMAP_BAD_SOURCE_REFERENCE SMAP_BAD_NAME_REFERENCE SMAP_OUT_OF_MEMORY SMAP_TOO_LARGE SMAP_LINE_ORDER
         SMAP_BAD_CHUNKS SMAP_SEVERAL_SOURCES SMAP_UNSORTED SMAP_TOO_DEEP SMAP_WORDS SMAP_NO_TEXT SMAP_SECTION_ORDER
-        SMAP_INPUT_LINE_ORDER SMAP_BAD_BASE64 SMAP_BAD_DATA_UTF8 SMAP_NULL_HANDLE SMAP_NOT_UTF8 SMAP_LENGTHS SMAP_NO_ENTRY
-        SMAP_NO_INDEX SMAP_BAD_OPTION
+        SMAP_INPUT_LINE_ORDER SMAP_BAD_BASE64 SMAP_BAD_DATA_UTF8 SMAP_NOT_COMPILED SMAP_COMPILED_VERSION
+        SMAP_COMPILED_LENGTH SMAP_COMPILED_SIZES SMAP_NULL_HANDLE SMAP_NOT_UTF8 SMAP_LENGTHS SMAP_NO_ENTRY
+        SMAP_NO_INDEX SMAP_BAD_OPTION SMAP_NO_FILE
     }
 }

@@ -26,4 +26,7 @@ fn layouts() {
     layout!(smap_original, 64, 8, { kind: 0, index: 4, token: 8, source: 32, name: 48, });
     layout!(smap_piece, 20, 4, { begin: 0, end: 8, index: 16, });
     layout!(smap_mend, 24, 8, { kind: 0, section: 8, number: 16, });
+    layout!(smap_compiled_counts, 48, 8, {
+        tokens: 0, sources: 8, names: 16, ignored: 24, text_length: 32, has_ignore_list: 40, rest: 44,
+    });
 }

@@ -61,12 +61,16 @@ pub enum Error {
     BadBase64(usize),
     /// How many bytes of the text in a data URL come before the first that is not UTF-8.
     BadDataUtf8(usize),
+    /// Bytes are not a compiled map.
+    Compiled(CompiledError),
     /// How many bytes come before the first that is not UTF-8.
     NotUtf8(usize),
     /// The lengths of two lists differ.
     Lengths,
     /// The map has no index of sources: [`SourceMap::index_sources`](crate::SourceMap::index_sources) makes it.
     NoIndex,
+    /// A file cannot be read: the error of the system, or 0 if it is no plain file.
+    NoFile(i32),
     /// Another code of the library, which this crate does not know.
     Unknown(u32),
 }
@@ -81,6 +85,20 @@ pub enum JsonFault {
     Shape(Field),
     /// The version, which is not 3.
     Version(u32),
+}
+
+/// Why bytes are not a compiled map.
+#[derive(Clone, Copy, Debug, PartialEq, Eq, Hash)]
+#[non_exhaustive]
+pub enum CompiledError {
+    /// They do not begin as a compiled map does, or are fewer than 8.
+    NotCompiled,
+    /// The version, which is not 1.
+    Version(u32),
+    /// There are not as many bytes as they say, as where a file is cut.
+    Length,
+    /// The parts take more bytes than there are.
+    Sizes,
 }
 
 /// A field of the JSON text of a map.
@@ -175,9 +193,14 @@ impl Error {
             sys::SMAP_INPUT_LINE_ORDER => Error::InputLineOrder(index),
             sys::SMAP_BAD_BASE64 => Error::BadBase64(index),
             sys::SMAP_BAD_DATA_UTF8 => Error::BadDataUtf8(index),
+            sys::SMAP_NOT_COMPILED => Error::Compiled(CompiledError::NotCompiled),
+            sys::SMAP_COMPILED_VERSION => Error::Compiled(CompiledError::Version(number)),
+            sys::SMAP_COMPILED_LENGTH => Error::Compiled(CompiledError::Length),
+            sys::SMAP_COMPILED_SIZES => Error::Compiled(CompiledError::Sizes),
             sys::SMAP_NOT_UTF8 => Error::NotUtf8(index),
             sys::SMAP_LENGTHS => Error::Lengths,
             sys::SMAP_NO_INDEX => Error::NoIndex,
+            sys::SMAP_NO_FILE => Error::NoFile(number as i32),
             code => Error::Unknown(code),
         }
     }
@@ -206,9 +229,11 @@ impl Error {
             Error::InputLineOrder(index) => fault(sys::SMAP_INPUT_LINE_ORDER, index as u64),
             Error::BadBase64(index) => fault(sys::SMAP_BAD_BASE64, index as u64),
             Error::BadDataUtf8(index) => fault(sys::SMAP_BAD_DATA_UTF8, index as u64),
+            Error::Compiled(error) => error.told(),
             Error::NotUtf8(index) => fault(sys::SMAP_NOT_UTF8, index as u64),
             Error::Lengths => fault(sys::SMAP_LENGTHS, 0),
             Error::NoIndex => fault(sys::SMAP_NO_INDEX, 0),
+            Error::NoFile(reason) => fault(sys::SMAP_NO_FILE, reason as u64),
             Error::Unknown(code) => fault(code, 0),
         }
     }
@@ -222,6 +247,18 @@ impl JsonFault {
             JsonFault::Version(version) => (sys::SMAP_JSON_VERSION, 0, version.into()),
         };
         smap_fault { code, field, detail, ..smap_fault::default() }
+    }
+}
+
+impl CompiledError {
+    fn told(self) -> smap_fault {
+        let (code, detail) = match self {
+            CompiledError::NotCompiled => (sys::SMAP_NOT_COMPILED, 0),
+            CompiledError::Version(version) => (sys::SMAP_COMPILED_VERSION, version.into()),
+            CompiledError::Length => (sys::SMAP_COMPILED_LENGTH, 0),
+            CompiledError::Sizes => (sys::SMAP_COMPILED_SIZES, 0),
+        };
+        smap_fault { code, detail, ..smap_fault::default() }
     }
 }
 
@@ -274,6 +311,14 @@ impl fmt::Display for JsonFault {
 }
 
 impl error::Error for JsonFault {}
+
+impl fmt::Display for CompiledError {
+    fn fmt(&self, f: &mut fmt::Formatter<'_>) -> fmt::Result {
+        f.write_str(&message(&self.told()))
+    }
+}
+
+impl error::Error for CompiledError {}
 
 impl From<Told> for Error {
     fn from(told: Told) -> Error {
@@ -399,13 +444,13 @@ mod tests {
     // Codes that no call answers to this crate are still told apart, with their messages.
     #[test]
     fn every_code_has_its_error() {
-        for code in (1..=22).chain([101, 102, 104]) {
+        for code in (1..=26).chain([101, 102, 104, 106]) {
             let fault = smap_fault { code, ..smap_fault::default() };
             let error = Error::of(&fault);
             assert!(!matches!(error, Error::Unknown(_)), "{code}");
             assert_eq!(error.told(), fault, "{code}");
         }
-        for code in [23, 100, 103, 105, 4_000_000_000] {
+        for code in [27, 100, 103, 105, 4_000_000_000] {
             assert_eq!(Error::of(&smap_fault { code, ..smap_fault::default() }), Error::Unknown(code));
             assert_eq!(Error::Unknown(code).told().code, code);
         }

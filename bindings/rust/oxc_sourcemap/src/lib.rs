@@ -30,6 +30,7 @@
 #![deny(missing_docs, unsafe_op_in_unsafe_fn)]
 #![warn(clippy::undocumented_unsafe_blocks)]
 
+mod compiled;
 mod concat_sourcemap_builder;
 mod error;
 mod found;
@@ -46,8 +47,11 @@ mod sourcemap_visualizer;
 mod texts;
 mod token;
 
+#[cfg(unix)]
+pub use compiled::CompiledFile;
+pub use compiled::{CompiledMap, compile};
 pub use concat_sourcemap_builder::ConcatSourceMapBuilder;
-pub use error::{Error, Fault, Field, JsonFault, Place, Result, Spot};
+pub use error::{CompiledError, Error, Fault, Field, JsonFault, Place, Result, Spot};
 pub use found::{Mend, MendKind};
 pub use json::JSONSourceMap;
 pub use lookup::{Bias, Direction, Found, Original, Piece, Traced};

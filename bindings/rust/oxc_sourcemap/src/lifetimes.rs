@@ -29,6 +29,16 @@ macro_rules! owner {
     (owned) => {
         "let mut owner = OwnedSourceMap::from_json_string(TEXT).unwrap();\nowner.set_file(\"o\");\n"
     };
+    (bytes) => {
+        "let owner = other.compile(0, &[0; 32]).unwrap();\n"
+    };
+    (file) => {
+        r##"# let path = std::env::temp_dir().join(format!("{}-{:?}.smap", std::process::id(), std::thread::current().id()));
+# std::fs::write(&path, other.compile(0, &[0; 32]).unwrap()).unwrap();
+let owner = unsafe { CompiledFile::open(&path) }.unwrap();
+# std::fs::remove_file(&path).unwrap();
+"##
+    };
     (text) => {
         "let owner = \"//# sourceMappingURL=a.map\".to_string();\n"
     };
@@ -72,6 +82,21 @@ lent! {
     VisualizerMap: map, "SourcemapVisualizer::new(\"\", &owner)";
     VisualizerCode: text, "SourcemapVisualizer::new(&owner, &other)";
     MappingUrl: text, "source_mapping_url(&owner, Language::JavaScript).unwrap()";
+
+    // (what a compiled map lends is lent by the bytes: each twin lets go of the map)
+    Compiled: bytes, "CompiledMap::open(&owner).unwrap()";
+    CompiledName: bytes, "CompiledMap::open(&owner).unwrap().get_name(0).unwrap()";
+    CompiledSource: bytes, "CompiledMap::open(&owner).unwrap().get_source(0).unwrap()";
+    CompiledSourceContent: bytes, "CompiledMap::open(&owner).unwrap().get_source_content(0).unwrap()";
+    CompiledFileName: bytes, "CompiledMap::open(&owner).unwrap().get_file().unwrap()";
+    CompiledSourceRoot: bytes, "CompiledMap::open(&owner).unwrap().get_source_root().unwrap()";
+    CompiledDebugId: bytes, "CompiledMap::open(&owner).unwrap().get_debug_id().unwrap()";
+    CompiledTrace: bytes, "CompiledMap::open(&owner).unwrap().trace(0, 0, Bias::Before)";
+    CompiledTraceAll: bytes, "CompiledMap::open(&owner).unwrap().trace_all(&[Position::new(0, 0)], Bias::Before).unwrap()";
+
+    CompiledInFile: file, "owner.map()";
+    CompiledFileSource: file, "owner.map().get_source(0).unwrap()";
+    CompiledFileTrace: file, "owner.map().trace(0, 0, Bias::Before)";
 
     OwnedMap: owned, "owner.as_source_map()";
     OwnedMapMut: owned, "owner.as_source_map_mut()";

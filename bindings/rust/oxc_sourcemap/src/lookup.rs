@@ -20,7 +20,7 @@ pub enum Bias {
 }
 
 impl Bias {
-    fn raw(self) -> u32 {
+    pub(crate) fn raw(self) -> u32 {
         match self {
             Bias::Before => sys::SMAP_BEFORE,
             Bias::Clamped => sys::SMAP_CLAMPED,
@@ -108,15 +108,24 @@ impl<'m> Traced<'m> {
     ///
     /// A lookup wrote this, and its map is not changed or freed for this long.
     unsafe fn of(raw: &sys::smap_original) -> Traced<'m> {
+        // SAFETY: as the caller states.
+        Traced::with(raw, |text| Some(unsafe { lent(text) }))
+    }
+
+    /// What a lookup wrote. Of its texts only those count that are given; without its source a token is unmapped.
+    pub(crate) fn with(raw: &sys::smap_original, text: impl Fn(sys::smap_text) -> Option<&'m str>) -> Traced<'m> {
         let (index, token) = (raw.index, Token::of(raw.token));
-        match raw.kind {
-            sys::SMAP_NOTHING => Traced::Nothing,
-            sys::SMAP_UNMAPPED => Traced::Unmapped(Found { index, token }),
-            // SAFETY: as the caller states.
-            kind => unsafe {
-                let name = (kind == sys::SMAP_NAMED).then(|| lent(raw.name));
-                Traced::Mapped(Original { index, token, source: lent(raw.source), name })
-            },
+        let source = match raw.kind {
+            sys::SMAP_NOTHING => return Traced::Nothing,
+            sys::SMAP_UNMAPPED => None,
+            _ => text(raw.source),
+        };
+        match source {
+            Some(source) => {
+                let name = if raw.kind == sys::SMAP_NAMED { text(raw.name) } else { None };
+                Traced::Mapped(Original { index, token, source, name })
+            }
+            None => Traced::Unmapped(Found { index, token }),
         }
     }
 }

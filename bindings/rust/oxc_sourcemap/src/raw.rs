@@ -4,7 +4,9 @@ use std::alloc::{Layout, handle_alloc_error};
 use std::ptr::{NonNull, null};
 
 use oxc_sourcemap_sys as sys;
-pub(crate) use sys::{smap_builder, smap_fault, smap_join, smap_map, smap_mends, smap_string, smap_text};
+pub(crate) use sys::{
+    smap_builder, smap_compiled, smap_fault, smap_file, smap_join, smap_map, smap_mends, smap_string, smap_text,
+};
 
 use crate::error::{Error, Result};
 
@@ -39,6 +41,8 @@ handled! {
     smap_builder by smap_free_builder,
     smap_join by smap_free_join,
     smap_mends by smap_free_mends,
+    smap_compiled by smap_free_compiled,
+    smap_file by smap_free_file,
 }
 
 /// A handle, which is freed when this is dropped.
@@ -138,11 +142,21 @@ pub(crate) fn texts<'t>(list: impl Iterator<Item = Option<&'t str>>) -> Vec<smap
 ///
 /// The library lent it, and its handle is not changed or freed for this long.
 pub(crate) unsafe fn lent<'t>(text: smap_text) -> &'t str {
-    if text.at.is_null() {
-        return "";
-    }
     // SAFETY: as the caller states; texts of the library are UTF-8.
-    unsafe { std::str::from_utf8_unchecked(std::slice::from_raw_parts(text.at.cast(), text.len)) }
+    unsafe { std::str::from_utf8_unchecked(lent_bytes(text)) }
+}
+
+/// The bytes of a text that the library lent, which need not be UTF-8.
+///
+/// # Safety
+///
+/// As for `lent`.
+pub(crate) unsafe fn lent_bytes<'t>(text: smap_text) -> &'t [u8] {
+    if text.at.is_null() {
+        return &[];
+    }
+    // SAFETY: as the caller states.
+    unsafe { std::slice::from_raw_parts(text.at.cast(), text.len) }
 }
 
 /// A text that is there or not: a call that has no entry, or whose entry has no address, gives none.

@@ -166,9 +166,16 @@ impl<'a> SourceMap<'a> {
 
     /// The same. Fails with `TooLarge` if a list has more than 4294967295 entries, or with `OutOfMemory`.
     pub fn try_from_parts(parts: SourceMapParts<'a>) -> Result<Self> {
-        let map = match map_of_lists(&parts.tokens, &parts) {
+        let mut map = SourceMap::try_of_lists(&parts)?;
+        map.token_chunks = parts.token_chunks;
+        Ok(map)
+    }
+
+    /// The same of parts that stay, without their chunks.
+    pub(crate) fn try_of_lists(parts: &SourceMapParts<'_>) -> Result<Self> {
+        let map = match map_of_lists(&parts.tokens, parts) {
             Err(told) if matches!(told.0.code, sys::SMAP_BAD_SOURCE_REFERENCE | sys::SMAP_BAD_NAME_REFERENCE) => {
-                map_of_loose_lists(&parts)?
+                map_of_loose_lists(parts)?
             }
             map => map?,
         };
@@ -185,7 +192,6 @@ impl<'a> SourceMap<'a> {
         if let Some(list) = &parts.ignore_list {
             map.try_set_ignore_list(list)?;
         }
-        map.token_chunks = parts.token_chunks;
         Ok(map)
     }
 

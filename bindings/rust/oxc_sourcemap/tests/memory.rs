@@ -110,6 +110,17 @@ fn loose() -> Result<SourceMap<'static>> {
     builder.try_into_sourcemap()
 }
 
+fn compiled() -> Vec<u8> {
+    map().compile(0, &[0; 32]).unwrap()
+}
+
+/// A file with that map, whose path has this word.
+fn file(word: &str) -> std::path::PathBuf {
+    let path = std::env::temp_dir().join(format!("{}-{word}.smap", std::process::id()));
+    std::fs::write(&path, compiled()).unwrap();
+    path
+}
+
 /// Does a thing, and counts the blocks that it leaves. What is done before is done once, to pass over what is taken only once.
 fn leaves(mut act: impl FnMut()) -> isize {
     act();
@@ -188,7 +199,31 @@ fn nothing_is_left_behind() {
         decode_data_url("data:application/json,{}");
         decode_data_url("data:application/json,%ff");
         Error::LineOrder(7).to_string();
+        map().compile(7, &[7; 32]);
+        back().compile(7, &[7; 32]);
+        compile(&map().into_parts(), 7, &[7; 32]);
+        CompiledMap::open(&compiled()).map(|it| it.token_count());
+        CompiledMap::open(b"smap").map(|it| it.token_count());
+        CompiledMap::open(&compiled()).map(|it| it.decompile());
     }
+}
+
+#[test]
+fn files_leave_nothing_behind() {
+    let path = file("kept");
+    // SAFETY: nobody changes the file while it is open.
+    let open = || unsafe { CompiledFile::open(&path) };
+    leave_nothing! {
+        open();
+        open().map(|it| it.map().decompile());
+        // SAFETY: there is no such file.
+        unsafe { CompiledFile::open("/no/such/file") };
+    }
+    std::fs::write(&path, b"{}").unwrap();
+    leave_nothing! {
+        open();
+    }
+    std::fs::remove_file(&path).unwrap();
 }
 
 #[test]
@@ -261,7 +296,21 @@ fn want_of_memory_is_an_error() {
         decode_data_url("data:application/json;base64,e30=");
         SourcemapVisualizer::new("code", &one).try_get_text();
         SourcemapVisualizer::new("code", &one).try_get_url();
+        one.compile(0, &[0; 32]);
     }
+}
+
+#[test]
+fn want_of_memory_is_an_error_of_compiled_maps() {
+    let (bytes, path) = (compiled(), file("refused"));
+    let one = CompiledMap::open(&bytes).unwrap();
+    refuse_each! {
+        CompiledMap::open(&bytes);
+        one.decompile();
+        // SAFETY: nobody changes the file.
+        unsafe { CompiledFile::open(&path) };
+    }
+    std::fs::remove_file(&path).unwrap();
 }
 
 #[test]

@@ -1,7 +1,7 @@
 //! Errors: their messages, and where in a text they are.
 
 use super::json;
-use oxc_sourcemap::{Error, Fault, Field, JsonFault, Place, SourceMap, Spot, decode_mappings};
+use oxc_sourcemap::{CompiledError, Error, Fault, Field, JsonFault, Place, SourceMap, Spot, decode_mappings};
 use std::error::Error as _;
 
 #[test]
@@ -28,6 +28,11 @@ fn messages_are_those_of_the_library() {
         (Error::InputLineOrder(2), "The tokens of input 2 go back in lines"),
         (Error::BadBase64(5), "The data URL has bad base64 at byte 5 of its data"),
         (Error::BadDataUtf8(6), "The data URL has bad UTF-8 at byte 6 of its text"),
+        (Error::Compiled(CompiledError::NotCompiled), "not a compiled source map"),
+        (Error::Compiled(CompiledError::Version(7)), "unsupported version of a compiled source map: 7"),
+        (Error::Compiled(CompiledError::Length), "a compiled source map has another length than it says"),
+        (Error::Compiled(CompiledError::Sizes), "the sizes in a compiled source map do not add up"),
+        (Error::NoFile(2), "No such file or directory"),
     ];
     for (error, wanted) in rows {
         assert_eq!(error.to_string(), wanted);
@@ -52,7 +57,8 @@ fn messages_are_those_of_the_library() {
         assert_eq!(Error::BadJson(JsonFault::Shape(field)).to_string(), wanted);
     }
     // Errors that are not the library's have messages too, each its own.
-    let others = [Error::Words, Error::NotUtf8(1), Error::Lengths, Error::NoIndex].map(|error| error.to_string());
+    let others = [Error::Words, Error::NotUtf8(1), Error::Lengths, Error::NoIndex, Error::NoFile(0)]
+        .map(|error| error.to_string());
     assert!(others.iter().enumerate().all(|(at, text)| !text.is_empty() && !others[..at].contains(text)), "{others:?}");
 }
 
@@ -61,6 +67,11 @@ fn only_faults_of_json_have_a_source() {
     let error = Error::BadJson(JsonFault::Version(2));
     assert_eq!(error.source().unwrap().to_string(), "unsupported source map version: 2");
     assert!(Error::VlqLeftover.source().is_none() && Error::BadSegmentSize(1).source().is_none());
+    // The text of this one is that of the error in it.
+    let compiled = CompiledError::Version(2);
+    assert!(
+        Error::Compiled(compiled).source().is_none() && compiled.to_string() == Error::Compiled(compiled).to_string()
+    );
 }
 
 fn fault(text: &str) -> Fault {

@@ -2,6 +2,7 @@
 //! docs/FORMAT.md worked by hand, or answers of tests/reference/peer.py, which shares no code with the library.
 
 mod builders;
+mod compiled;
 mod compositions;
 mod drawing;
 mod examples;

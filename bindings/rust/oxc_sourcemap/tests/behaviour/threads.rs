@@ -1,7 +1,8 @@
 //! Maps are shared between threads and move between them.
 
 use oxc_sourcemap::{
-    Bias, ConcatSourceMapBuilder, Direction, Error, Fault, OwnedSourceMap, Position, SourceMap, SourceMapBuilder,
+    Bias, CompiledError, CompiledFile, CompiledMap, ConcatSourceMapBuilder, Direction, Error, Fault, OwnedSourceMap,
+    Position, SourceMap, SourceMapBuilder,
 };
 use std::panic::{RefUnwindSafe, UnwindSafe};
 use std::sync::Arc;
@@ -22,6 +23,9 @@ fn types_are_send_and_sync() {
     is_shared::<OwnedSourceMap>();
     is_shared::<SourceMapBuilder<'_>>();
     is_shared::<ConcatSourceMapBuilder<'_>>();
+    is_shared::<CompiledMap<'_>>();
+    is_shared::<CompiledFile>();
+    is_shared::<CompiledError>();
     is_shared::<Error>();
     is_shared::<Fault>();
     let map = shortened(SourceMap::default());

@@ -54,7 +54,7 @@ static struct {
 } it;
 
 static void open_bytes(smap_compiled **out) {
-    must(!smap_open_compiled((const unsigned char *)it.bytes.at, it.bytes.len, out, NULL));
+    must(!smap_open_compiled(it.bytes.at, it.bytes.len, out, NULL));
 }
 
 /* ---- the same answers ---- */

@@ -389,7 +389,7 @@ static void damage(const smap_text *from) {
         bytes.at[at] = (char)(below(2) ? below(256) : (size_t)(unsigned char)bytes.at[at] + below(3) - 1);
     }
     for (size_t i = 0; below(8) && i < 8 && bytes.len > 15; i++) bytes.at[8 + i] = (char)((uint64_t)bytes.len >> 8 * i);
-    uint32_t code = smap_open_compiled((const unsigned char *)bytes.at, bytes.len, &compiled, &fault);
+    uint32_t code = smap_open_compiled(bytes.at, bytes.len, &compiled, &fault);
     told(code, &fault);
     if (code) return;
     ask_damaged(compiled, &bytes);

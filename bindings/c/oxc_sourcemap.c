@@ -299,10 +299,10 @@ uint32_t smap_compile(const smap_map *map, uint64_t text_length, const unsigned 
     return code;
 }
 
-uint32_t smap_open_compiled(const unsigned char *bytes, size_t len, smap_compiled **out, smap_fault *fault) {
+uint32_t smap_open_compiled(const void *bytes, size_t len, smap_compiled **out, smap_fault *fault) {
     smap_fault own;
     proved_handle made = { NULL };
-    uint32_t code = proved_open_compiled(OR((const char *)bytes, ""), len, &made, OR(fault, &own));
+    uint32_t code = proved_open_compiled(OR(bytes, ""), len, &made, OR(fault, &own));
     if (code == SMAP_OK) *out = made.at;
     return code;
 }

@@ -264,7 +264,7 @@ int main(int argc, char **argv) {
     must(smap_to_json_string(made, &text, NULL));
     must(smap_compile(made, 7, NULL, &bytes, NULL));
     must(smap_get_text(bytes, &lent));
-    must(smap_open_compiled((const unsigned char *)lent.at, lent.len, &opened, NULL));
+    must(smap_open_compiled(lent.at, lent.len, &opened, NULL));
     map = made, input = other, string = text, mends = told, compiled = opened;
     reads(&wanted);
     run(reads, sums, sizeof *sums);

@@ -11,7 +11,7 @@ typedef struct trio {
 
 static uint32_t open_bytes(const smap_text *bytes, smap_compiled **out) {
     smap_fault fault = junk();
-    uint32_t code = smap_open_compiled((const unsigned char *)bytes->at, bytes->len, out, &fault);
+    uint32_t code = smap_open_compiled(bytes->at, bytes->len, out, &fault);
     CHECK(code == SMAP_OK ? is_none(&fault) : fault.code == code);
     return code;
 }

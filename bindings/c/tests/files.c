@@ -72,7 +72,7 @@ static void compiled_map_in(const char *path) {
     write_file(path, &written);
     HOLDS(smap_map_file(path, &file, &bytes, &fault) == SMAP_OK && is_none(&fault) && next_file() == before);
     HOLDS(bytes.len == written.len && memcmp(bytes.at, written.at, bytes.len) == 0);
-    HOLDS(smap_open_compiled((const unsigned char *)bytes.at, bytes.len, &compiled, NULL) == SMAP_OK);
+    HOLDS(smap_open_compiled(bytes.at, bytes.len, &compiled, NULL) == SMAP_OK);
     HOLDS(smap_compiled_trace(compiled, 0, 4, SMAP_BEFORE, &p) == SMAP_OK && p.kind == SMAP_NAMED && is(&p.name, "hi"));
     HOLDS(is(&p.source, "a.ts") && p.name.at > bytes.at && p.name.at < bytes.at + bytes.len);
     smap_free_compiled(compiled);
@@ -111,7 +111,7 @@ static void empty_file(const char *path) {
     smap_text none = { "", 0 }, bytes = text_of("kept");
     write_file(path, &none);
     HOLDS(smap_map_file(path, &file, &bytes, NULL) == SMAP_OK && file != NULL && bytes.at != NULL && bytes.len == 0);
-    HOLDS(smap_open_compiled((const unsigned char *)bytes.at, 0, &compiled, NULL) == SMAP_NOT_COMPILED);
+    HOLDS(smap_open_compiled(bytes.at, 0, &compiled, NULL) == SMAP_NOT_COMPILED);
     smap_free_file(file);
 }
 

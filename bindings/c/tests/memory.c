@@ -69,7 +69,7 @@ static uint32_t compile_all(made_all *m, smap_fault *f) {
     smap_text bytes;
     MAKES(smap_compile(m->maps[2], 0, NULL, &m->strings[11], f));
     CHECK(smap_get_text(m->strings[11], &bytes) == SMAP_OK);
-    MAKES(smap_open_compiled((const unsigned char *)bytes.at, bytes.len, &m->compiled, f));
+    MAKES(smap_open_compiled(bytes.at, bytes.len, &m->compiled, f));
     MAKES(smap_decompile(m->compiled, &m->maps[12], f));
     return SMAP_OK;
 }
@@ -210,7 +210,7 @@ static void nothing_is_compiled(void) {
     CHECK(n > 0 && n < 1000 && (void *)(out) != (void *)&failed)
     UNTIL_MADE(string, smap_compile(map, 0, NULL, &string, NULL));
     CHECK(smap_get_text(string, &bytes) == SMAP_OK);
-    UNTIL_MADE(compiled, smap_open_compiled((const unsigned char *)bytes.at, bytes.len, &compiled, NULL));
+    UNTIL_MADE(compiled, smap_open_compiled(bytes.at, bytes.len, &compiled, NULL));
     UNTIL_MADE(back, smap_decompile(compiled, &back, NULL));
     smap_free_compiled(compiled);
     smap_free_string(string);
@@ -234,7 +234,7 @@ static void no_memory_is_taken(void) {
     size_t count;
     CHECK(smap_index_sources(map, NULL) == SMAP_OK);
     CHECK(smap_compile(map, 0, NULL, &string, NULL) == SMAP_OK && smap_get_text(string, texts) == SMAP_OK);
-    CHECK(smap_open_compiled((const unsigned char *)texts[0].at, texts[0].len, &compiled, NULL) == SMAP_OK);
+    CHECK(smap_open_compiled(texts[0].at, texts[0].len, &compiled, NULL) == SMAP_OK);
     left = 0;
     CHECK(smap_trace(map, 0, 4, SMAP_BEFORE, &p, NULL) == SMAP_OK &&
           smap_trace_all(map, &one, 1, SMAP_AFTER, &p, 1, NULL) == SMAP_OK);

@@ -26,7 +26,7 @@
 #![allow(non_camel_case_types)]
 #![deny(unsafe_op_in_unsafe_fn)]
 
-use core::ffi::c_char;
+use core::ffi::{c_char, c_void};
 use core::marker::{PhantomData, PhantomPinned};
 
 /// The version of the interface that is declared here.
@@ -419,7 +419,7 @@ unsafe extern "C" {
         fault: *mut smap_fault,
     ) -> u32;
     pub fn smap_open_compiled(
-        bytes: *const u8,
+        bytes: *const c_void,
         len: usize,
         out: *mut *mut smap_compiled,
         fault: *mut smap_fault,

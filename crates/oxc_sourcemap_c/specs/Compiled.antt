@@ -1,9 +1,9 @@
 -- Calls on compiled maps.
 use Rattle.std.specs.Prelude.{◌≡◌, ◌≢◌, ◌⊎◌, ℕ, List, [], length, option_map, Option, Some, None}
 use Rattle.std.specs.Prelude.{Result, Ok, Err, MatchOption, MatchResult, slice_get, ◌==◌, false}
-use Rattle.std.specs.Prelude.{if◌then◌else◌, is_some}
+use Rattle.std.specs.Prelude.{if◌then◌else◌, is_some, ⊤}
 use Rattle.std.specs.List.{Contains}
-use Rattle.std.specs.Option.{unwrap_or}
+use Rattle.std.specs.Option.{option_map_or, unwrap_or}
 use Rattle.oxc_sourcemap_tokens.specs.Token.{TokenRecord}
 use Rattle.oxc_sourcemap_tokens.specs.declared.errors.error.Error.TheVariants.{TooLarge}
 use Rattle.oxc_sourcemap_tokens.specs.declared.errors.plan_error.PlanError.TheVariants.{Map}
@@ -44,7 +44,7 @@ HoldsCompiled held P = MatchOption (held_compiled held) ⊥ P
 pub record IsCompiledFrom (m : MapRecord) (text_length : ℕ) (stamp bytes : List ℕ) : Type 0 where
   pub meaning : compiled_meaning bytes ≡ Ok (compiled_of m text_length stamp)
   pub order : IsInOrder bytes
-  pub bytes : AreBytesOf m text_length stamp bytes
+  pub written : AreBytesOf m text_length stamp bytes
 
 -- an error of compiling what a handle holds: there is no map, the stamp has not 32 bytes, tokens are not sorted, or it is too large
 abbrev pub IsCompileError : Option MapRecord → List ℕ → CallError → Type 0
@@ -90,7 +90,7 @@ abbrev pub IsCompiledToken : Option Held → ℕ → Result TokenNumbers CallErr
 IsCompiledToken held index answer =
     MatchOption (held_compiled held) (answer ≡ Err NullHandle)
     (λ bytes. (found : Option TokenRecord)
-    × (answer ≡ MatchOption found (Err NoEntry) (λ t. Ok (numbers_of t)))
+    × (answer ≡ option_map_or (λ t. Ok (numbers_of t)) found (Err NoEntry))
     × (IsInOrder bytes → found ≡ slice_get (compiled_in bytes).content.tokens index)
     × MatchOption found ⊤ (IsTokenAt bytes (header_in bytes) index))
 

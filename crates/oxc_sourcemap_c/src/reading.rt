@@ -1,8 +1,8 @@
 //! The calls for C that read what handles hold, and the messages of errors.
 
-mod asked;
+pub(crate) mod asked;
 mod getters;
-mod lookups;
+pub(crate) mod lookups;
 mod mends;
 mod messages;
 mod reverse;

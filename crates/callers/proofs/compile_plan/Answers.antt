@@ -1,3 +1,25 @@
-use Rattle.std.proofs.Common.{sym, subst}
+use Rattle.std.proofs.Common.{refl, sym, subst, ap, ◌∙◌, Ok}
+use Rattle.std.proofs.lemmas.Result.{IfOk-weaker}
 use Rattle.oxc_sourcemap.specs.Words.{HaveSameTraces, EqualUpToRepeats, compiled_of}
 use Rattle.callers.proofs.compile_plan.Goals as goal
+
+pub returns-clause-means : goal.returns-clause-means
+returns-clause-means c =
+    let is = c.in_ok-map.ensures.map in
+    let m = c.in_ok-map.map in
+    let stored = c.compiled_means_map.ensures.stored m in
+    let same = c.parts_of.ensures ∙ c.as_source_map.ensures in
+    let len = c.args.text_length in
+    let stamp = c.args.stamp.now in
+    IfOk-weaker c.compile.result _ _
+    (λ bytes meaning. (
+      compiled_of m len stamp,
+      is.decoded_map,
+      meaning ∙ ap (λ r. Ok (compiled_of r len stamp)) same,
+      is.means,
+      subst (λ d. HaveSameTraces d is.decoded_map) (sym stored) is.traces,
+      subst (λ d. EqualUpToRepeats d is.decoded_map) (sym stored) is.up_to_repeats,
+      refl,
+      refl,
+    ))
+    c.compile.ensures.meaning

@@ -28,12 +28,17 @@ const Code = Object.freeze({
   INPUT_LINE_ORDER: 20,
   BAD_BASE64: 21,
   BAD_DATA_UTF8: 22,
+  NOT_COMPILED: 23,
+  COMPILED_VERSION: 24,
+  COMPILED_LENGTH: 25,
+  COMPILED_SIZES: 26,
   NULL_HANDLE: 100,
   NOT_UTF8: 101,
   LENGTHS: 102,
   NO_ENTRY: 103,
   NO_INDEX: 104,
   BAD_OPTION: 105,
+  NO_FILE: 106,
 });
 
 const Field = Object.freeze({
@@ -101,6 +106,15 @@ const Direction = Object.freeze({
   ON_LINE: 3,
 });
 
+const Text = Object.freeze({
+  NAME: 0,
+  SOURCE: 1,
+  SOURCE_CONTENT: 2,
+  FILE: 3,
+  SOURCE_ROOT: 4,
+  DEBUG_ID: 5,
+});
+
 const Language = Object.freeze({
   JAVASCRIPT: 0,
   CSS: 1,
@@ -114,4 +128,4 @@ const Words = Object.freeze({
   MEND: 6,
 });
 
-module.exports = { NO_ID, Code, Field, Place, Bias, Kind, Mend, Direction, Language, Words };
+module.exports = { NO_ID, Code, Field, Place, Bias, Kind, Mend, Direction, Text, Language, Words };

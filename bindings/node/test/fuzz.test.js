@@ -45,6 +45,8 @@ const TEXTS = [
   `${'é'.repeat(40_000)}`,
 ];
 
+const COMPILED = Uint8Array.from(new SourceMap(TEXT).compile());
+
 /** Makers of arguments, by their kind. */
 const makers = {
   number: (next) => [0, 1, 2, 3, 4, 5, 7, 200, 65535, NO_ID, -1, 1.5, NaN, Infinity, 2 ** 40][next(15)],
@@ -75,7 +77,7 @@ const makers = {
 };
 
 function bytes(next) {
-  const it = Buffer.from(TEXTS[next(TEXTS.length)]);
+  const it = next(4) === 0 ? COMPILED : Buffer.from(TEXTS[next(TEXTS.length)]);
   const memory = next(3) === 0 ? SharedArrayBuffer : ArrayBuffer;
   const out = new Uint8Array(new memory(it.length));
   out.set(it);
@@ -87,7 +89,7 @@ function bytes(next) {
 class Pool {
   constructor(next) {
     this.next = next;
-    this.handles = [native.fromJson(TEXT), native.builderNew(), native.joinNew()];
+    this.handles = [native.fromJson(TEXT), native.builderNew(), native.joinNew(), native.openCompiled(COMPILED.slice())];
   }
 
   one() {
@@ -96,7 +98,7 @@ class Pool {
 
   keep(handle) {
     if (typeof handle !== 'object' || handle === null || Array.isArray(handle) || ArrayBuffer.isView(handle) || handle instanceof Promise) return;
-    this.handles[this.next(8) === 0 ? this.next(3) : this.next(40)] = handle;
+    this.handles[this.next(8) === 0 ? this.next(4) : this.next(40)] = handle;
     this.handles = [...this.handles].map((it) => it ?? handle);
   }
 
@@ -129,6 +131,7 @@ const SHAPES = {
   compose: 'hh', remap: 'hbwa', joinAll: 'aw', evaluate: 'bwbw', joinNew: '', joinAdd: 'hhnn', joinFinish: 'h',
   builderNew: '', builderAddName: 'ht', builderAddSource: 'htt', builderAddTokens: 'hw', builderSetFile: 'ht', builderFinish: 'h',
   write: 'hnt', writeBytes: 'hnt', encodeMappings: 'w', sourceMappingURL: 'tn', decodeDataURL: 't',
+  compile: 'hnnb', openCompiled: 'b', compiledCounts: 'h', stamp: 'h', isIgnored: 'hn', decompile: 'h',
   message: 'w', placeMessage: 'w', mendMessage: 'w', reasonMessage: 'tw', codeName: 'n',
 };
 

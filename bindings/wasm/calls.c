@@ -1,5 +1,5 @@
 /* What the loader calls beside the functions of oxc_sourcemap.h: lookups whose answers are words alone, lists of texts as bytes and lengths,
- * and a map as one block of bytes, by which it moves from one instance of the module to another. */
+ * compiled maps with their bytes, and a map as one block of bytes, by which it moves from one instance of the module to another. */
 #include "oxc_sourcemap.h"
 
 #include <stddef.h>
@@ -70,6 +70,97 @@ uint32_t loader_pieces(const smap_map *map, uint32_t line, uint32_t column, uint
     smap_position begin = { line, column };
     smap_position end = { end_line, end_column };
     return smap_pieces(map, begin, end, out, len, &answers.count);
+}
+
+/* ---- compiled maps ---- */
+
+/* A compiled map, and its bytes behind it: one block, which the loader has made. */
+typedef struct opened {
+    smap_compiled *map;
+    size_t len;
+} opened;
+
+/* Where loader/compiled.js puts the bytes. */
+_Static_assert(sizeof(opened) == 16, "opened");
+
+/* The code of a call that tells no more of its fault. */
+static uint32_t told(uint32_t code) {
+    static const smap_fault none;
+    if (code == SMAP_OK) return code;
+    answers.fault = none;
+    return answers.fault.code = code;
+}
+
+/* The length of the text in two words; the stamp may be null. */
+uint32_t loader_compile(const smap_map *map, uint32_t low, uint32_t high, const unsigned char *stamp);
+uint32_t loader_compile(const smap_map *map, uint32_t low, uint32_t high, const unsigned char *stamp) {
+    smap_string *made = NULL;
+    uint32_t code = smap_compile(map, low | (uint64_t)high << 32, stamp, &made, &answers.fault);
+    answers.made = made;
+    return code;
+}
+
+/* Opens a block of so many bytes of a map. */
+uint32_t loader_open_compiled(opened *it, size_t len);
+uint32_t loader_open_compiled(opened *it, size_t len) {
+    it->len = len;
+    return smap_open_compiled((const unsigned char *)(it + 1), len, &it->map, &answers.fault);
+}
+
+void loader_free_compiled(opened *it);
+void loader_free_compiled(opened *it) {
+    smap_free_compiled(it->map);
+    free(it);
+}
+
+uint32_t loader_compiled_counts(const opened *it);
+uint32_t loader_compiled_counts(const opened *it) { return told(smap_compiled_get_counts(it->map, (smap_compiled_counts *)answers.words)); }
+
+uint32_t loader_compiled_trace(const opened *it, uint32_t line, uint32_t column, uint32_t bias);
+uint32_t loader_compiled_trace(const opened *it, uint32_t line, uint32_t column, uint32_t bias) {
+    smap_original found;
+    uint32_t code = told(smap_compiled_trace(it->map, line, column, bias, &found));
+    if (code == SMAP_OK) memcpy(answers.words, &found, 4 * WORDS);
+    return code;
+}
+
+uint32_t loader_compiled_trace_all(const opened *it, const smap_position *positions, size_t count, uint32_t bias, uint32_t *out);
+uint32_t loader_compiled_trace_all(const opened *it, const smap_position *positions, size_t count, uint32_t bias, uint32_t *out) {
+    smap_original found[BLOCK];
+    size_t done = 0;
+    do {
+        size_t len = count - done < BLOCK ? count - done : BLOCK;
+        uint32_t code = told(smap_compiled_trace_all(it->map, positions + done, len, bias, found, len));
+        if (code != SMAP_OK) return code;
+        for (size_t i = 0; i < len; i++) memcpy(out + WORDS * (done + i), &found[i], 4 * WORDS);
+        done += len;
+    } while (done < count);
+    return SMAP_OK;
+}
+
+uint32_t loader_compiled_find_all(const opened *it, const smap_position *positions, size_t count, uint32_t bias, uint32_t *out);
+uint32_t loader_compiled_find_all(const opened *it, const smap_position *positions, size_t count, uint32_t bias, uint32_t *out) {
+    return told(smap_compiled_find_all(it->map, positions, count, bias, out, count));
+}
+
+uint32_t loader_compiled_token(const opened *it, uint32_t index);
+uint32_t loader_compiled_token(const opened *it, uint32_t index) { return told(smap_compiled_get_token(it->map, index, (smap_token *)answers.words)); }
+
+uint32_t loader_compiled_text(const opened *it, uint32_t kind, uint32_t id);
+uint32_t loader_compiled_text(const opened *it, uint32_t kind, uint32_t id) { return told(smap_compiled_get_text(it->map, kind, id, &answers.text)); }
+
+uint32_t loader_compiled_stamp(const opened *it);
+uint32_t loader_compiled_stamp(const opened *it) { return told(smap_compiled_get_stamp(it->map, &answers.text)); }
+
+uint32_t loader_compiled_is_ignored(const opened *it, uint32_t id);
+uint32_t loader_compiled_is_ignored(const opened *it, uint32_t id) { return told(smap_compiled_is_ignored(it->map, id, answers.words)); }
+
+uint32_t loader_decompile(const opened *it);
+uint32_t loader_decompile(const opened *it) {
+    smap_map *made = NULL;
+    uint32_t code = smap_decompile(it->map, &made, &answers.fault);
+    answers.made = made;
+    return code;
 }
 
 /* ---- lists of texts ---- */

@@ -150,11 +150,11 @@ static int stretch_last(size_t size) {
     return 1;
 }
 
-/* A block at the end of the row. */
+/* A block at the end of the row. A free one there may be large enough, as lists of its size have smaller ones too. */
 static block *append(size_t size) {
     if (is_free(last)) {
         take_from_list(last);
-        if (stretch_last(size)) return last;
+        if (size_of(last) >= size || stretch_last(size)) return last;
         put_in_list(last);
         return NULL;
     }

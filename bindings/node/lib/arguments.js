@@ -8,6 +8,11 @@ const tagOf = Object.getOwnPropertyDescriptor(Object.getPrototypeOf(Uint8Array.p
 const isBytes = (it) => tagOf.call(it) === 'Uint8Array';
 const isWords = (it) => tagOf.call(it) === 'Uint32Array';
 
+// Some browsers have no shared memory.
+const byteLengths = [ArrayBuffer, globalThis.SharedArrayBuffer]
+  .filter((it) => it !== undefined)
+  .map((it) => Object.getOwnPropertyDescriptor(it.prototype, 'byteLength').get);
+
 const encoder = new TextEncoder();
 
 /** A text, as it is. */
@@ -40,10 +45,44 @@ function word(it, what) {
   return it;
 }
 
+/** A number of up to 53 bits, low word first. */
+function longWords(it, what) {
+  const noLong = `${what} is ${shown(it)}, and not an integer from 0 to ${Number.MAX_SAFE_INTEGER}`;
+  if (typeof it !== 'number') throw new TypeError(noLong);
+  if (!Number.isSafeInteger(it) || it < 0) throw new RangeError(noLong);
+  return [it >>> 0, Math.floor(it / 2 ** 32)];
+}
+
 /** The limit of bytes that options have, if there is one. */
 function limitOf(options) {
   const limit = options?.limit;
   return limit === undefined ? undefined : word(limit, 'limit');
+}
+
+/** Whether it is an ArrayBuffer or a SharedArrayBuffer, of any realm. */
+function isBuffer(it) {
+  return byteLengths.some((of) => {
+    try {
+      return of.call(it) >= 0;
+    } catch {
+      return false;
+    }
+  });
+}
+
+/** Bytes where they are: those of an array, a DataView, or a whole buffer, as it is now. */
+function bytesOf(it, what) {
+  if (isBytes(it)) return it;
+  if (ArrayBuffer.isView(it)) return new Uint8Array(it.buffer, it.byteOffset, it.byteLength);
+  if (!isBuffer(it)) throw new TypeError(`${what} are neither an array of bytes, a DataView nor a buffer`);
+  return new Uint8Array(it, 0, it.byteLength);
+}
+
+/** Bytes of this length. */
+function fixedBytes(it, length, what) {
+  if (!isBytes(it)) throw new TypeError(`${what} is not a Uint8Array`);
+  if (it.length !== length) throw new RangeError(`${what} has ${it.length} bytes, and not ${length}`);
+  return it;
 }
 
 /** An id, or what stands for none. */
@@ -124,4 +163,21 @@ function contents(it, what) {
   return texts(it, what, (one) => (one === null ? null : text(one, what)));
 }
 
-module.exports = { text, shown, noWord, word, limitOf, idWord, idOf, list, checkWords, words, tokens, texts, contents };
+module.exports = {
+  text,
+  shown,
+  noWord,
+  word,
+  longWords,
+  limitOf,
+  bytesOf,
+  fixedBytes,
+  idWord,
+  idOf,
+  list,
+  checkWords,
+  words,
+  tokens,
+  texts,
+  contents,
+};

@@ -8,7 +8,8 @@ const { NO_ID, Bias, Direction, Language, Kind, Words } = header;
 /** Beside those of the library two of native.d.ts. */
 const Code = Object.freeze({ ...header.Code, SHARED: 200, NO_THREADS: 201 });
 
-const Which = Object.freeze({ NAME: 0, SOURCE: 1, CONTENT: 2, FILE: 3, SOURCE_ROOT: 4, DEBUG_ID: 5 });
+const { NAME, SOURCE, SOURCE_CONTENT: CONTENT, FILE, SOURCE_ROOT, DEBUG_ID } = header.Text;
+const Which = Object.freeze({ NAME, SOURCE, CONTENT, FILE, SOURCE_ROOT, DEBUG_ID });
 const Form = Object.freeze({ JSON: 0, DATA_URL: 1, MAPPINGS: 2, DRAWING: 3, DRAWING_URL: 4 });
 
 /** So many words are there for what calls answer, and in these places those of `select` and `trace`. */

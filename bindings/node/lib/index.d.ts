@@ -281,12 +281,17 @@ export type Code =
   | "SMAP_INPUT_LINE_ORDER"
   | "SMAP_BAD_BASE64"
   | "SMAP_BAD_DATA_UTF8"
+  | "SMAP_NOT_COMPILED"
+  | "SMAP_COMPILED_VERSION"
+  | "SMAP_COMPILED_LENGTH"
+  | "SMAP_COMPILED_SIZES"
   | "SMAP_NULL_HANDLE"
   | "SMAP_NOT_UTF8"
   | "SMAP_LENGTHS"
   | "SMAP_NO_ENTRY"
   | "SMAP_NO_INDEX"
   | "SMAP_BAD_OPTION"
+  | "SMAP_NO_FILE"
   | "SMAP_UNKNOWN"
   /** The map is shared with other threads, and takes no change. */
   | "SMAP_SHARED"
@@ -579,12 +584,73 @@ export class SourceMap {
   toJSON(): RawSourceMap;
   /** The JSON text as a data URL, of at most `limit` bytes. */
   toDataURL(options?: { readonly limit?: number | undefined }): string;
+  /**
+   * The bytes of a compiled map, which CompiledMap opens in constant time and looks up where they lie; in Node a Buffer. A content past
+   * the last source is dropped. `textLength` is the number of bytes of the map's text, and `stamp` 32 bytes that are kept as they are, as
+   * the SHA-256 of that text; 0 and zero bytes if they are not said. Throws SourceMapError of SMAP_UNSORTED or SMAP_TOO_LARGE.
+   */
+  compile(options?: { readonly textLength?: number | undefined; readonly stamp?: Uint8Array | undefined }): Uint8Array;
   /** The mappings text alone. Throws as `toString` does. */
   readonly mappings: string;
   /** The text of a code beside its sources, token by token. */
   visualize(code: Text): string;
   /** A link to a page that shows a code beside its sources. Throws as `toString` does. */
   visualizerURL(code: Text): string;
+}
+
+/** The number of entries of each list of a compiled map. */
+export interface CompiledCounts {
+  tokens: number;
+  names: number;
+  sources: number;
+  ignoreList: number;
+}
+
+/**
+ * A compiled map, open in bytes of `SourceMap.compile`, a file or any other, whose members are as those of SourceMap.
+ *
+ * The bytes are kept, and nobody may change them before `free`: what is then answered is not said. In Node by the addon they are not
+ * copied, so that workers share those in a SharedArrayBuffer. If their buffer is transferred, or made shorter, all calls fail with
+ * SMAP_NULL_HANDLE, as after `free`. The WebAssembly module copies them into its memory.
+ *
+ * Of bytes that `compile` did not make, lookups answer some token of the line, or none, and texts that are not UTF-8 have U+FFFD.
+ *
+ * @example
+ * const map = new CompiledMap(fs.readFileSync("app.js.smap"));
+ * map.trace(0, 5); // { source: "a.ts", line: 2, column: 4, name: "f", index: 1 }
+ */
+export class CompiledMap {
+  /** Opens a compiled map. Throws SourceMapError of SMAP_NOT_COMPILED, SMAP_COMPILED_VERSION, SMAP_COMPILED_LENGTH or
+   *  SMAP_COMPILED_SIZES. */
+  constructor(bytes: ArrayBufferView | ArrayBufferLike);
+  /** Frees the map, and lets go of the bytes. */
+  free(): void;
+  [Symbol.dispose](): void;
+  /** The map that was compiled. Throws SourceMapError of SMAP_NO_ENTRY if a text is not UTF-8. */
+  decompile(): SourceMap;
+
+  readonly counts: CompiledCounts;
+  /** What was given as the length of the map's text, and a copy of the stamp of 32 bytes. */
+  readonly textLength: number;
+  readonly stamp: Uint8Array;
+  getName(id: number): string | null;
+  getSource(id: number): string | null;
+  getSourceContent(id: number): string | null;
+  readonly file: string | null;
+  readonly sourceRoot: string | null;
+  readonly debugId: string | null;
+  readonly hasIgnoreList: boolean;
+  /** Whether the ignore list has the id of a source. */
+  isIgnored(id: number): boolean;
+  /** The token at an index, for which the lines are halved; null past the last one. */
+  token(index: number): FoundToken | null;
+
+  trace(line: number, column: number, bias?: Bias): Original | null;
+  trace(position: Position & { bias?: Bias | undefined }): Original | null;
+  traceToken(line: number, column: number, bias?: Bias): FoundToken | null;
+  traceToken(position: Position & { bias?: Bias | undefined }): FoundToken | null;
+  traceAll<Out extends Uint32Array = Uint32Array>(positions: Uint32Array, bias?: Bias, out?: Out): Out;
+  findAll<Out extends Uint32Array = Uint32Array>(positions: Uint32Array, bias?: Bias, out?: Out): Out;
 }
 
 /**

@@ -3,6 +3,7 @@
 const { NO_ID, Bias, Direction, Language } = require('./constants.js');
 const { SourceMapError } = require('./errors.js');
 const { SourceMap } = require('./map.js');
+const { CompiledMap } = require('./compiled.js');
 const { SourceMapBuilder, ConcatSourceMapBuilder } = require('./builders.js');
 const { evaluate, encodeMappings, decodeMappings, sourceMappingURL, decodeDataURL } = require('./functions.js');
 
@@ -12,6 +13,7 @@ module.exports = {
   Direction,
   Language,
   SourceMap,
+  CompiledMap,
   SourceMapBuilder,
   ConcatSourceMapBuilder,
   SourceMapError,

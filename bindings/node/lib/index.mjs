@@ -6,6 +6,7 @@ export const {
   Direction,
   Language,
   SourceMap,
+  CompiledMap,
   SourceMapBuilder,
   ConcatSourceMapBuilder,
   SourceMapError,

@@ -4,7 +4,7 @@
 const native = require('./native.js');
 const { NO_ID, Bias, Direction, Kind, Code, Which, Form, Slot, MENDS } = require('./constants.js');
 const { errorOf, refusal, check, made, madeOrNull, long, longOrNull } = require('./errors.js');
-const { text, word, limitOf, idOf, list, checkWords, words, tokens, texts, contents } = require('./arguments.js');
+const { text, word, longWords, limitOf, fixedBytes, idOf, list, checkWords, words, tokens, texts, contents } = require('./arguments.js');
 const { Columns } = require('./columns.js');
 const { toDecoded } = require('./decoded.js');
 const { sourceText, encodedMappings } = require('./inputs.js');
@@ -14,6 +14,8 @@ const { keptMembers, textWith, bytesOf, dataURLOf } = require('./members.js');
 const answers = native.words;
 const ask = native.trace; // a look for it in so many properties would cost a fifth of the call
 const NOTHING = new Uint32Array(0);
+const NO_STAMP = new Uint8Array(0);
+const STAMP = 32;
 
 const { SELECTED, LINE, COLUMN, BIAS } = Slot;
 
@@ -509,6 +511,11 @@ class SourceMap {
     const limit = limitOf(options);
     const url = made(native.write(this.#handle, Form.DATA_URL, '', limit));
     return this.#members === null ? url : dataURLOf(this.toString(), url, limit);
+  }
+
+  compile({ textLength = 0, stamp } = {}) {
+    const given = stamp === undefined ? NO_STAMP : fixedBytes(stamp, STAMP, 'The stamp');
+    return made(native.compile(this.#handle, ...longWords(textLength, 'textLength'), given));
   }
 
   get mappings() {

@@ -5,8 +5,9 @@
  * It is no part of what the package exports.
  *
  * Handles
- *  - A map, a builder and a join are opaque objects. `free` frees what a handle holds; else the garbage collector does, or the end of
- *    its thread. A handle that was freed is as a null handle of the library: calls answer `SMAP_NULL_HANDLE` (100).
+ *  - A map, a compiled map, a builder and a join are opaque objects. `free` frees what a handle holds; else the garbage collector does, or the end of
+ *    its thread. A handle that was freed is as a null handle of the library: calls answer `SMAP_NULL_HANDLE` (100). So is a compiled map
+ *    whose bytes JavaScript has taken away.
  *
  * Errors
  *  - A call that makes a handle, a text or a list returns it, or a number that is not 0: the code of an error. All other calls return
@@ -27,8 +28,8 @@
  *  - A call that fills a list writes as many entries as fit into `out`, and the number of all to `words[0]`.
  *
  * Arrays
- *  - What is lent is read or written during the call alone. An array over shared memory is copied first; one whose buffer was detached
- *    has no entries.
+ *  - What is lent is read or written during the call alone, but by `openCompiled`. An array over shared memory is copied first, but by
+ *    that; one whose buffer was detached has no entries.
  */
 
 export type Text = string | Uint8Array;
@@ -43,6 +44,11 @@ export interface BuilderHandle {
 export interface JoinHandle {
   readonly [kind]: "join";
 }
+export interface CompiledHandle {
+  readonly [kind]: "compiled";
+}
+/** What is looked up in. */
+export type AskedHandle = MapHandle | CompiledHandle;
 
 /** The code of an error, or 0. */
 export type Code = number;
@@ -109,7 +115,7 @@ export interface Native {
   /** The tokens alone, which no handle holds: `words[0]` is how many there are, and `words[1]` whether they are sorted, 1 or 0. */
   decodeTokens(mappings: Text, names: number, sources: number, out: Uint32Array): Code;
   clone(map: MapHandle): MapHandle | Code;
-  free(handle: MapHandle | BuilderHandle | JoinHandle): void;
+  free(handle: MapHandle | BuilderHandle | JoinHandle | CompiledHandle): void;
 
   // ---- threads ----
 
@@ -127,11 +133,11 @@ export interface Native {
   isSorted(map: MapHandle): Code;
   isSound(map: MapHandle): Code;
   /** 103 if there is none. The id is that of a name, a source or a content. */
-  text(map: MapHandle, which: Which, id: number): string | Code;
+  text(map: AskedHandle, which: Which, id: number): string | Code;
   /** All names, sources or contents; null for a content that is not known. */
   texts(map: MapHandle, which: Which): (string | null)[] | Code;
   /** `words[0]` to `[5]`: the token. 103 past the last one. */
-  getToken(map: MapHandle, index: number): Code;
+  getToken(map: AskedHandle, index: number): Code;
   getTokens(map: MapHandle, out: Uint32Array): Code;
   /** 103 if the map has none. */
   getIgnoreList(map: MapHandle, out: Uint32Array): Code;
@@ -141,14 +147,14 @@ export interface Native {
   /** Names the map that `trace` asks, until another is named or this one is freed. `words[12]` is from here on, as long as that is so, a
    *  number that no other map has; 0 where there are no more such numbers. Callers that find the number of their map there need not
    *  name it again. */
-  select(map: MapHandle): void;
+  select(map: AskedHandle): void;
   /** Looks up the line `words[13]`, the column `words[14]` by the bias `words[15]`, in the map that was selected. `words[0]` to `[7]`:
    *  the kind, the index of the token, and the token. This call alone returns nothing for success. */
   trace(): Code | undefined;
   /** Eight words for each position, as `trace` answers. 102 if `out` has room for more or for less. */
-  traceAll(map: MapHandle, positions: Uint32Array, bias: number, out: Uint32Array): Code;
+  traceAll(map: AskedHandle, positions: Uint32Array, bias: number, out: Uint32Array): Code;
   /** The index of the token alone for each. */
-  findAll(map: MapHandle, positions: Uint32Array, bias: number, out: Uint32Array): Code;
+  findAll(map: AskedHandle, positions: Uint32Array, bias: number, out: Uint32Array): Code;
   /** Five words for each piece: line and column of its begin, and of its end, and the index of the token. */
   pieces(map: MapHandle, line: number, column: number, endLine: number, endColumn: number, out: Uint32Array): Code;
   /** `words[0]` and `[1]`: line and column. 103 if there is none. */
@@ -157,6 +163,23 @@ export interface Native {
   /** `words[0]` to `[6]`: index and token. 103 if there is none. */
   generated(map: MapHandle, source: number, line: number, column: number, direction: number): Code;
   allGenerated(map: MapHandle, source: number, line: number, column: number, direction: number, out: Uint32Array): Code;
+
+  // ---- compiled maps, which some calls above take too ----
+
+  /** The bytes of a compiled map. The length of its text is of two words, low word first. The stamp has 32 bytes, or none, which stands
+   *  for zero bytes; else 102. */
+  compile(map: MapHandle, lengthLow: number, lengthHigh: number, stamp: Uint8Array): Uint8Array | Code;
+  /** Opens a compiled map. The addon does so where the bytes are, and keeps the array, over shared memory too; a module in a copy. */
+  openCompiled(bytes: Uint8Array): CompiledHandle | Code;
+  /** `words[0]` to `[10]`: tokens, sources, names, entries of the ignore list and length of the text (2 each), and whether there is an
+   *  ignore list, 1 or 0. */
+  compiledCounts(map: CompiledHandle): Code;
+  /** A copy of the 32 bytes of the stamp. */
+  stamp(map: CompiledHandle): Uint8Array | Code;
+  /** `words[0]` is 1 or 0. */
+  isIgnored(map: CompiledHandle, id: number): Code;
+  /** 103 if a text is not UTF-8. */
+  decompile(map: CompiledHandle): MapHandle | Code;
 
   // ---- changing ----
 

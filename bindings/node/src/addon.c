@@ -62,6 +62,7 @@ static const Entry *const TABLES[] = {
     MAKING_CALLS,
     BUILDING_CALLS,
     WRITING_CALLS,
+    COMPILED_CALLS,
     MESSAGE_CALLS,
 };
 

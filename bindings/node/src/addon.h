@@ -5,7 +5,8 @@
  * so a call makes no object.
  *
  * What is lent to a call is a pointer into memory of JavaScript. It holds as long as no JavaScript runs: so what may run some (the
- * elements of an array) is read first. Memory that other threads may write is copied. */
+ * elements of an array) is read first. Memory that other threads may write is copied, but that of a compiled map, which nobody may write
+ * while it is open. */
 
 #ifndef ADDON_H
 #define ADDON_H
@@ -46,7 +47,16 @@ typedef struct Held {
     struct Held *next;
 } Held;
 
-typedef enum { MAP, BUILDER, JOIN } Kind;
+typedef enum { MAP, BUILDER, JOIN, COMPILED } Kind;
+
+/* A compiled map, and the array of JavaScript in whose bytes it is open: they are not copied. */
+typedef struct {
+    smap_compiled *map;
+    napi_ref array; /* keeps the bytes, but JavaScript may detach them from it or make it shorter */
+    const void *at;
+    size_t len;
+    bool is_shared; /* with other threads: such memory is neither detached nor made shorter */
+} Open;
 
 struct Handle;
 
@@ -54,7 +64,7 @@ struct Handle;
 typedef struct {
     uint32_t *words;
     smap_fault *fault;
-    const smap_map *asked; /* that which `trace` asks, of the handle that is selected */
+    const smap_map *asked; /* that which `trace` asks, of the handle that is selected; null of a compiled one */
     const struct Handle *selected;
     uint32_t last_number; /* of the handles that were selected */
     int64_t untold; /* how many bytes more handles hold than the collector knows of */
@@ -71,6 +81,7 @@ typedef struct Handle {
     smap_mends *mends;
     smap_builder *builder;
     smap_join *join;
+    Open open;
     int64_t weight; /* the bytes that it holds, about */
 } Handle;
 
@@ -109,12 +120,38 @@ napi_status external_of(napi_env env, Handle *it, napi_value *out);
 /* A new handle that holds a map. */
 napi_status map_value(napi_env env, Instance *instance, Held *held, smap_mends *mends, napi_value *out);
 
+/* The handle of an external of ours; null of any other value. */
+Handle *handle_of(Call *call, napi_value value);
+
 Handle *handle_in(Call *call, napi_value value, Kind kind);
 Handle *handle(Call *call, size_t i, Kind kind);
 const smap_map *map(Call *call, size_t i);
 
 /* A map to change, or null with the code why not. */
 smap_map *own_map(Call *call, size_t i, uint32_t *code);
+
+/* ---- what is looked up in (asked.c) ---- */
+
+/* The compiled map of a handle; null if it was freed, or if its bytes are no longer where it is open. It holds until JavaScript runs. */
+const smap_compiled *compiled_in(napi_env env, const Handle *handle);
+const smap_compiled *compiled(Call *call, size_t i);
+
+/* A map or a compiled one; null if it was freed. */
+typedef struct {
+    const smap_map *map;
+    const smap_compiled *compiled;
+    bool is_compiled;
+} Asked;
+
+Asked asked(Call *call, size_t i);
+bool is_null(Asked it);
+
+/* The calls that take either. Of a compiled map the fault is filled in here. */
+uint32_t ask_token(Asked from, uint32_t index, smap_token *out);
+uint32_t ask_text(Asked from, uint32_t which, uint32_t id, smap_text *out);
+uint32_t ask_original(Asked from, const uint32_t *words, smap_original *out, smap_fault *fault);
+uint32_t ask_originals(Asked from, const smap_position *at, size_t len, uint32_t bias, smap_original *out, smap_fault *fault);
+uint32_t ask_indices(Asked from, const smap_position *at, size_t len, uint32_t bias, uint32_t *out, size_t out_len, smap_fault *fault);
 
 /* ---- calls (calls.c) ---- */
 
@@ -148,6 +185,10 @@ typedef struct {
 } Bytes;
 
 Bytes text(Call *call, size_t i);
+Bytes bytes(Call *call, size_t i);
+
+/* The same, not copied if other threads may write there, which is told. */
+Bytes lent_bytes(Call *call, size_t i, bool *is_shared);
 
 /* Words that the call reads. */
 typedef struct {
@@ -200,6 +241,9 @@ napi_value text_or_code(Call *call, uint32_t code, smap_text it);
 napi_value string_or_code(Call *call, uint32_t code, smap_string *made);
 napi_value bytes_or_code(Call *call, uint32_t code, smap_string *made);
 
+/* A copy of the bytes of a text that a handle lends. */
+napi_value lent_bytes_or_code(Call *call, uint32_t code, smap_text it);
+
 /* ---- the calls of each file ---- */
 
 /* A call by its name. The last one of a table has none. */
@@ -209,7 +253,7 @@ typedef struct {
 } Entry;
 
 extern const Entry READING_CALLS[], READING_ASYNC_CALLS[], HANDLE_CALLS[], SHARING_CALLS[], INSPECTING_CALLS[], LOOKUP_CALLS[],
-    CHANGING_CALLS[], MAKING_CALLS[], BUILDING_CALLS[], WRITING_CALLS[], MESSAGE_CALLS[];
+    CHANGING_CALLS[], MAKING_CALLS[], BUILDING_CALLS[], WRITING_CALLS[], COMPILED_CALLS[], MESSAGE_CALLS[];
 
 /* The one call that is in no table (lookups.c), and what ends with its environment. */
 napi_value trace(napi_env env, napi_callback_info info);

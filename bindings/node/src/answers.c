@@ -52,18 +52,22 @@ napi_value string_or_code(Call *call, uint32_t code, smap_string *made)
     return out;
 }
 
-/* The bytes of a text that the library made. They are copied: what frees a buffer over other memory waits for a turn of the event
- * loop. */
+/* Bytes that a handle lends. They are copied: what frees a buffer over other memory waits for a turn of the event loop. */
+napi_value lent_bytes_or_code(Call *call, uint32_t code, smap_text it)
+{
+    napi_value out = NULL;
+    if (code != SMAP_OK) return coded(call, code);
+    check(call, napi_create_buffer_copy(call->env, it.len, it.at, NULL, &out));
+    return out;
+}
+
+/* The bytes of a text that the library made, which is freed. */
 napi_value bytes_or_code(Call *call, uint32_t code, smap_string *made)
 {
     smap_text it;
-    napi_value out = NULL;
     if (code != SMAP_OK) return coded(call, code);
     code = told(call, smap_get_text(made, &it));
-    if (code == SMAP_OK)
-        check(call, napi_create_buffer_copy(call->env, it.len, it.at, NULL, &out));
-    else
-        out = number(call, code);
+    napi_value out = lent_bytes_or_code(call, code, it);
     smap_free_string(made);
     return out;
 }

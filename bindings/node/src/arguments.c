@@ -46,11 +46,19 @@ static Array array(Call *call, size_t i, napi_typedarray_type wanted, const char
     return (Array){at, len, !is_own};
 }
 
-static Bytes array_bytes(Call *call, size_t i)
+Bytes lent_bytes(Call *call, size_t i, bool *is_shared)
 {
     Array it = array(call, i, napi_uint8_array, "The text is neither a string nor a Uint8Array");
-    if (it.is_shared) it.at = copied(call, it.at, it.len);
+    *is_shared = it.is_shared;
     return (Bytes){it.at, it.len};
+}
+
+Bytes bytes(Call *call, size_t i)
+{
+    bool is_shared = false;
+    Bytes it = lent_bytes(call, i, &is_shared);
+    if (is_shared) it.at = copied(call, it.at, it.len);
+    return it;
 }
 
 /* UTF-8 takes at most three bytes for a unit of UTF-16, and as many bytes as units in ASCII alone, which is copied faster. */
@@ -77,7 +85,7 @@ Bytes text(Call *call, size_t i)
 {
     napi_valuetype type = napi_undefined;
     check(call, napi_typeof(call->env, call->in[i], &type));
-    return type == napi_string ? string_bytes(call, call->in[i]) : array_bytes(call, i);
+    return type == napi_string ? string_bytes(call, call->in[i]) : bytes(call, i);
 }
 
 static Array word_array(Call *call, size_t i) { return array(call, i, napi_uint32_array, "The argument is no Uint32Array"); }
@@ -107,18 +115,18 @@ void show(const Output *out)
 
 Texts texts(Call *call, size_t i)
 {
-    Bytes bytes = array_bytes(call, i);
+    Bytes all = bytes(call, i);
     Words lengths = words(call, i + 1);
     smap_text *out = call->failed ? NULL : room(call, lengths.len * sizeof *out);
     size_t used = 0;
     for (size_t k = 0; out != NULL && k < lengths.len; k++) {
         bool is_known = lengths.at[k] != UINT32_MAX;
         size_t len = is_known ? lengths.at[k] : 0;
-        if (len > bytes.len - used) {
+        if (len > all.len - used) {
             fail(call, "The lengths are above the bytes");
             return (Texts){NULL, 0};
         }
-        out[k] = (smap_text){is_known ? bytes.at + used : NULL, len};
+        out[k] = (smap_text){is_known ? all.at + used : NULL, len};
         used += len;
     }
     return (Texts){out, lengths.len};

@@ -34,10 +34,13 @@ static void empty(napi_env env, Handle *handle)
     smap_free_mends(handle->mends);
     smap_free_builder(handle->builder);
     smap_free_join(handle->join);
+    smap_free_compiled(handle->open.map);
+    if (handle->open.array != NULL) napi_delete_reference(env, handle->open.array);
     handle->held = NULL;
     handle->mends = NULL;
     handle->builder = NULL;
     handle->join = NULL;
+    handle->open = (Open){0};
     tell(env, handle, -handle->weight);
 }
 
@@ -84,8 +87,7 @@ napi_status map_value(napi_env env, Instance *instance, Held *held, smap_mends *
     return status;
 }
 
-/* The handle of an external of ours; null of any other value. */
-static Handle *handle_of(Call *call, napi_value value)
+Handle *handle_of(Call *call, napi_value value)
 {
     napi_valuetype type;
     bool is_ours = false;

@@ -24,27 +24,14 @@ static napi_value asks(Call *call, Asks *ask)
 static napi_value is_sorted(Call *call) { return asks(call, smap_is_sorted); }
 static napi_value is_sound(Call *call) { return asks(call, smap_is_sound); }
 
-static uint32_t text_at(const smap_map *map, uint32_t which, uint32_t id, smap_text *out)
-{
-    switch (which) {
-    case NAME: return smap_get_name(map, id, out);
-    case SOURCE: return smap_get_source(map, id, out);
-    case CONTENT: return smap_get_source_content(map, id, out);
-    case FILE_NAME: return smap_get_file(map, out);
-    case SOURCE_ROOT: return smap_get_source_root(map, out);
-    case DEBUG_ID: return smap_get_debug_id(map, out);
-    default: return SMAP_BAD_OPTION;
-    }
-}
-
 static napi_value get_text(Call *call)
 {
     smap_text out = {NULL, 0};
-    const smap_map *from = map(call, 0);
+    Asked from = asked(call, 0);
     uint32_t which = word(call, 1);
     uint32_t id = word(call, 2);
     if (call->failed) return NULL;
-    uint32_t code = told(call, text_at(from, which, id, &out));
+    uint32_t code = told(call, ask_text(from, which, id, &out));
     return text_or_code(call, code, out);
 }
 
@@ -93,10 +80,10 @@ static napi_value get_texts(Call *call)
 
 static napi_value get_token(Call *call)
 {
-    const smap_map *from = map(call, 0);
+    Asked from = asked(call, 0);
     uint32_t index = word(call, 1);
     if (call->failed) return NULL;
-    return coded_alone(call, smap_get_token(from, index, (smap_token *)call->words));
+    return coded_alone(call, ask_token(from, index, (smap_token *)call->words));
 }
 
 static napi_value get_tokens(Call *call)

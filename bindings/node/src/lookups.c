@@ -7,8 +7,9 @@ enum { BLOCK = 512 }; /* lookups at once: their answers take 32 KiB of stack */
 
 static napi_value select_map(Call *call)
 {
-    Handle *it = handle(call, 0, MAP);
-    if (call->failed) return NULL;
+    Handle *it = handle_of(call, call->in[0]);
+    if (it == NULL || it->kind != COMPILED) it = handle(call, 0, MAP);
+    if (it == NULL) return NULL;
     if (it->number == 0 && call->instance->last_number < UINT32_MAX) it->number = ++call->instance->last_number;
     call->instance->selected = it;
     call->instance->asked = map_in(it);
@@ -38,6 +39,14 @@ void leave(napi_env env)
     if (here.env == env) here.env = NULL;
 }
 
+/* Where `trace` looks. */
+static Asked selected(napi_env env, const Instance *it)
+{
+    const Handle *handle = it->selected;
+    bool is_compiled = handle != NULL && handle->kind == COMPILED;
+    return (Asked){it->asked, is_compiled ? compiled_in(env, handle) : NULL, is_compiled};
+}
+
 /* The one call that is made so often that its arguments are read from memory, and nothing is answered. */
 napi_value trace(napi_env env, napi_callback_info info)
 {
@@ -47,7 +56,7 @@ napi_value trace(napi_env env, napi_callback_info info)
     (void)info;
     if (it == NULL) return NULL;
     uint32_t *words = it->words;
-    uint32_t code = smap_trace(it->asked, words[LINE], words[COLUMN], words[BIAS], &found, it->fault);
+    uint32_t code = ask_original(selected(env, it), words, &found, it->fault);
     if (code == SMAP_OK)
         memcpy(words, &found, 32);
     else if (napi_create_uint32(env, code, &out) != napi_ok)
@@ -56,23 +65,23 @@ napi_value trace(napi_env env, napi_callback_info info)
 }
 
 /* Looks up so many positions, at most BLOCK, and writes eight words for each. */
-static uint32_t trace_block(const smap_map *map, const smap_position *at, size_t len, uint32_t bias, uint32_t *out, smap_fault *fault)
+static uint32_t trace_block(Asked from, const smap_position *at, size_t len, uint32_t bias, uint32_t *out, smap_fault *fault)
 {
     smap_original found[BLOCK];
-    uint32_t code = smap_trace_all(map, at, len, bias, found, len, fault);
+    uint32_t code = ask_originals(from, at, len, bias, found, fault);
     for (size_t i = 0; code == SMAP_OK && i < len; i++) memcpy(out + 8 * i, &found[i], 32);
     return code;
 }
 
 static napi_value trace_all(Call *call)
 {
-    const smap_map *from = map(call, 0);
+    Asked from = asked(call, 0);
     Words positions = words(call, 1);
     uint32_t bias = word(call, 2);
     Output out = output(call, 3, positions);
     if (call->failed) return NULL;
     size_t count = positions.len / 2;
-    if (positions.len % 2 != 0 || out.len != 8 * count) return coded_alone(call, from != NULL ? SMAP_LENGTHS : SMAP_NULL_HANDLE);
+    if (positions.len % 2 != 0 || out.len != 8 * count) return coded_alone(call, is_null(from) ? SMAP_NULL_HANDLE : SMAP_LENGTHS);
     const smap_position *at = (const smap_position *)positions.at;
     uint32_t code = SMAP_OK;
     size_t done = 0;
@@ -87,14 +96,14 @@ static napi_value trace_all(Call *call)
 
 static napi_value find_all(Call *call)
 {
-    const smap_map *from = map(call, 0);
+    Asked from = asked(call, 0);
     Words positions = words(call, 1);
     uint32_t bias = word(call, 2);
     Output out = output(call, 3, positions);
     if (call->failed) return NULL;
-    if (positions.len % 2 != 0) return coded_alone(call, from != NULL ? SMAP_LENGTHS : SMAP_NULL_HANDLE);
+    if (positions.len % 2 != 0) return coded_alone(call, is_null(from) ? SMAP_NULL_HANDLE : SMAP_LENGTHS);
     const smap_position *at = (const smap_position *)positions.at;
-    uint32_t code = smap_find_all(from, at, positions.len / 2, bias, out.at, out.len, call->fault);
+    uint32_t code = ask_indices(from, at, positions.len / 2, bias, out.at, out.len, call->fault);
     show(&out);
     return coded(call, code);
 }

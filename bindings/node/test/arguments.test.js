@@ -6,11 +6,12 @@ const assert = require('node:assert/strict');
 const { isExternal } = require('node:util/types');
 const vm = require('node:vm');
 
-const { Bias, SourceMap, SourceMapBuilder, ConcatSourceMapBuilder, evaluate, encodeMappings, decodeMappings, sourceMappingURL, decodeDataURL } = require('..');
+const { Bias, SourceMap, CompiledMap, SourceMapBuilder, ConcatSourceMapBuilder, evaluate, encodeMappings, decodeMappings, sourceMappingURL, decodeDataURL } = require('..');
 const native = require('../lib/native.js');
 const { TEXT, TOKENS, flat, isModule } = require('./support.js');
 
 const map = new SourceMap(TEXT);
+const compiled = new CompiledMap(map.compile());
 const builder = new SourceMapBuilder();
 const join = new ConcatSourceMapBuilder();
 
@@ -34,6 +35,17 @@ const NUMBERS = [
   (it) => map.getSource(it),
   (it) => map.getSourceContent(it),
   (it) => map.setIgnoreList([it]),
+  (it) => compiled.trace(it, 0),
+  (it) => compiled.trace(0, it),
+  (it) => compiled.trace(0, 0, it),
+  (it) => compiled.traceToken(it, 0),
+  (it) => compiled.findAll(new Uint32Array(2), it),
+  (it) => compiled.traceAll(new Uint32Array(2), it),
+  (it) => compiled.token(it),
+  (it) => compiled.getName(it),
+  (it) => compiled.getSource(it),
+  (it) => compiled.getSourceContent(it),
+  (it) => compiled.isIgnored(it),
   (it) => SourceMap.join([{ map, line: it }]),
   (it) => SourceMap.join([{ map, line: 0, column: it ?? null }]),
   (it) => SourceMap.shared(it),
@@ -91,6 +103,10 @@ const WORDS = [
   (it) => map.findAll(new Uint32Array(2), Bias.BEFORE, it ?? null),
   (it) => map.traceAll(new Uint32Array(2), Bias.BEFORE, it ?? null),
   (it) => map.tokens(it ?? null),
+  (it) => compiled.findAll(it),
+  (it) => compiled.traceAll(it),
+  (it) => compiled.findAll(new Uint32Array(2), Bias.BEFORE, it ?? null),
+  (it) => compiled.traceAll(new Uint32Array(2), Bias.BEFORE, it ?? null),
 ];
 const MAPS = [
   (it) => map.compose(it),
@@ -104,7 +120,7 @@ test('numbers', () => {
   for (const call of NUMBERS) {
     for (const number of [-1, 1.5, NaN, Infinity, -Infinity, 2 ** 32, 1e300]) assert.throws(() => call(number), RangeError);
     for (const other of ['1', null, 1n, {}, [], Symbol('a'), true]) {
-      if (other === '1' && /map\.(generated|getSourceContent)\(it/.test(call)) continue; // the name of a source
+      if (other === '1' && /\bmap\.(generated|getSourceContent)\(it/.test(call)) continue; // the name of a source
       if (other === null && (String(call).includes('?? null') || String(call).includes('addToken('))) continue;
       assert.throws(() => call(other), TypeError, String(call));
     }
@@ -199,6 +215,7 @@ test('what another addon or Node itself has made external is no handle', () => {
 
 test('the addon, called past the classes', () => {
   const [handle, builderHandle, joinHandle] = [native.fromJson(TEXT), native.builderNew(), native.joinNew()];
+  const compiledHandle = native.openCompiled(native.compile(handle, 0, 0, new Uint8Array(0)));
   const none = [new Uint8Array(0), new Uint32Array(0)];
   const wrong = [
     () => native.getCounts(builderHandle),
@@ -214,6 +231,20 @@ test('the addon, called past the classes', () => {
     ...(isModule ? [] : [() => native.joinAll(new Proxy([handle], {}), new Uint32Array(2))]),
     () => native.remap(handle, ...none, {}),
     () => native.select(builderHandle),
+    () => native.compile(compiledHandle, 0, 0, none[0]),
+    () => native.compile(handle, 0, 0, none[1]),
+    () => native.openCompiled('smap'),
+    () => native.openCompiled(new Uint32Array(50)),
+    () => native.openCompiled(new ArrayBuffer(200)),
+    () => native.compiledCounts(handle),
+    () => native.stamp(handle),
+    () => native.isIgnored(handle, 0),
+    () => native.decompile(handle),
+    () => native.getCounts(compiledHandle),
+    () => native.write(compiledHandle, 0, ''),
+    () => native.traceAll(builderHandle, none[1], 0, none[1]),
+    () => native.getToken(joinHandle, 0),
+    () => native.text(joinHandle, 0, 0),
     () => native.free({}),
     () => native.free(),
     () => native.getCounts(),
@@ -231,6 +262,8 @@ test('the addon, called past the classes', () => {
   ];
   for (const call of wrong) assert.throws(call, TypeError, String(call));
   assert.equal(native.text(handle, 6, 0), 105);
+  assert.equal(native.text(compiledHandle, 6, 0), 105);
+  assert.equal(native.compile(handle, 0, 0, new Uint8Array(31)), 102);
   assert.equal(native.texts(handle, 3), 105);
   assert.equal(native.setText(handle, 0, 'a'), 105);
   assert.equal(native.setTexts(handle, 0, ...none), 105);

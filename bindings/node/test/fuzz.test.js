@@ -22,6 +22,13 @@ function detached(array) {
   return array;
 }
 
+/** The same bytes in memory of their own. */
+function copied(array, memory) {
+  const out = new Uint8Array(new memory(array.length));
+  out.set(array);
+  return out;
+}
+
 /** Words as tokens and positions have them: so small that no line is far away. */
 function words(next, memory = ArrayBuffer) {
   const length = [0, 1, 2, 5, 6, 8, 12, 16, 18, 24, 36, 48, 60, 96][next(14)];
@@ -44,6 +51,8 @@ const TEXTS = [
   'x'.repeat(70_000),
   `${'é'.repeat(40_000)}`,
 ];
+
+const COMPILED = Uint8Array.from(new SourceMap(TEXT).compile());
 
 /** Makers of arguments, by their kind. */
 const makers = {
@@ -75,10 +84,9 @@ const makers = {
 };
 
 function bytes(next) {
-  const it = Buffer.from(TEXTS[next(TEXTS.length)]);
+  const it = next(4) === 0 ? COMPILED : Buffer.from(TEXTS[next(TEXTS.length)]);
   const memory = next(3) === 0 ? SharedArrayBuffer : ArrayBuffer;
-  const out = new Uint8Array(new memory(it.length));
-  out.set(it);
+  const out = copied(it, memory);
   if (out.length > 0 && next(3) === 0) out[next(out.length)] = next(256);
   return memory === ArrayBuffer && next(8) === 0 ? detached(out) : out;
 }
@@ -87,7 +95,7 @@ function bytes(next) {
 class Pool {
   constructor(next) {
     this.next = next;
-    this.handles = [native.fromJson(TEXT), native.builderNew(), native.joinNew()];
+    this.handles = [native.fromJson(TEXT), native.builderNew(), native.joinNew(), native.openCompiled(COMPILED.slice())];
   }
 
   one() {
@@ -96,7 +104,7 @@ class Pool {
 
   keep(handle) {
     if (typeof handle !== 'object' || handle === null || Array.isArray(handle) || ArrayBuffer.isView(handle) || handle instanceof Promise) return;
-    this.handles[this.next(8) === 0 ? this.next(3) : this.next(40)] = handle;
+    this.handles[this.next(8) === 0 ? this.next(4) : this.next(40)] = handle;
     this.handles = [...this.handles].map((it) => it ?? handle);
   }
 
@@ -129,6 +137,7 @@ const SHAPES = {
   compose: 'hh', remap: 'hbwa', joinAll: 'aw', evaluate: 'bwbw', joinNew: '', joinAdd: 'hhnn', joinFinish: 'h',
   builderNew: '', builderAddName: 'ht', builderAddSource: 'htt', builderAddTokens: 'hw', builderSetFile: 'ht', builderFinish: 'h',
   write: 'hnt', writeBytes: 'hnt', encodeMappings: 'w', sourceMappingURL: 'tn', decodeDataURL: 't',
+  compile: 'hnnb', openCompiled: 'b', compiledCounts: 'h', stamp: 'h', isIgnored: 'hn', decompile: 'h',
   message: 'w', placeMessage: 'w', mendMessage: 'w', reasonMessage: 'tw', codeName: 'n',
 };
 
@@ -201,7 +210,9 @@ function callOf(object, key, next, maps) {
       () => [[makers.text(next), maps[next(maps.length)]]],
       () => [{ map: maps[next(maps.length)], line: next(9) }],
       () => makers.other(next),
-    ][next(10)]();
+      () => bytes(next),
+      () => ({ textLength: makers.number(next), stamp: [undefined, new Uint8Array(32), makers.other(next)][next(3)] }),
+    ][next(12)]();
   const given = Array.from({ length: next(5) }, argument);
   const value = Reflect.get(object, key, object);
   const out = typeof value === 'function' ? Reflect.apply(value, object, given) : value;
@@ -213,15 +224,18 @@ test('calls of the classes', async () => {
   const next = random(seed + 1);
   const maps = Array.from({ length: 12 }, (_, i) => new SourceMap(JSON.stringify(randomMap(i).json)));
   const makersOfMaps = [new library.SourceMapBuilder(), new library.ConcatSourceMapBuilder()];
+  const compiled = Array.from({ length: 4 }, (_, i) => new library.CompiledMap(maps[i].compile()));
   const isLong = (map) => map instanceof SourceMap && isFarMap(map);
   for (let i = 0; i < rounds / 2; i++) {
-    const object = [library, SourceMap, makersOfMaps[next(2)], maps[next(12)], maps[next(12)], maps[next(12)]][next(6)];
+    const object = [library, SourceMap, makersOfMaps[next(2)], maps[next(12)], maps[next(12)], maps[next(12)], compiled[next(4)]][next(7)];
     const keys = Object.getOwnPropertyNames(object instanceof Object && object.constructor !== Object && typeof object !== 'function' ? Object.getPrototypeOf(object) : object);
     const key = keys[next(keys.length)];
     if (['prototype', 'constructor', 'caller', 'arguments', 'encodeMappings'].includes(key) || isLong(object)) continue;
     try {
       const out = callOf(object, key, next, maps);
       if (out instanceof SourceMap) maps[next(12)] = out;
+      if (key === 'compile') compiled[next(4)] = new library.CompiledMap(next(3) === 0 ? copied(out, SharedArrayBuffer) : out);
+      if (next(20) === 0 && out?.buffer instanceof ArrayBuffer && key === 'compile') detached(out);
     } catch (error) {
       assert.ok(error instanceof SourceMapError || error instanceof TypeError || error instanceof RangeError || error.message === 'of a proxy', `${key}: ${error.stack}`);
     }

@@ -213,6 +213,7 @@ test('what was freed', () => {
     toBytes: [],
     toJSON: [],
     toDataURL: [],
+    compile: [],
     visualize: [''],
     visualizerURL: [''],
     eachMapping: [() => {}],

@@ -28,17 +28,19 @@ test('the addon has what native.d.ts says', () => {
 test('the addon makes all calls of the header', needsHeader, () => {
   const calls = new Set(all(readFileSync(header, 'utf8'), /\b(smap_\w+)\(/g));
   const made = new Set(readdirSync(join(__dirname, '../src')).flatMap((it) => all(read(`src/${it}`), /\b(smap_\w+)\b/g)));
-  assert.deepEqual([...calls].filter((it) => !made.has(it)), []);
-  assert.equal(calls.size, 76);
+  // A file that the system maps may be cut while JavaScript reads it, which ends the process.
+  assert.deepEqual([...calls].filter((it) => !made.has(it)), ['smap_map_file', 'smap_free_file']);
+  assert.equal(calls.size, 90);
 });
 
 test('the constants are those of the header', needsHeader, () => {
   const text = readFileSync(header, 'utf8');
   const value = (name) => Number(text.match(new RegExp(`\\b${name} = (\\d+)`))[1]);
-  const { Bias, Direction, Language, Kind, Code, Words, MENDS, PLACES } = constants;
+  const { Bias, Direction, Language, Kind, Code, Which, Words, MENDS, PLACES } = constants;
   for (const them of [Bias, Direction, Kind, Code]) {
     for (const [name, number] of Object.entries(them)) if (!['SHARED', 'NO_THREADS'].includes(name)) assert.equal(number, value(`SMAP_${name}`), name);
   }
+  for (const [name, number] of Object.entries(Which)) assert.equal(number, value(`SMAP_TEXT_${name === 'CONTENT' ? 'SOURCE_CONTENT' : name}`));
   for (const [name, number] of Object.entries(Language)) assert.equal(number, value(`SMAP_${name}`));
   for (const [name, words] of Object.entries(Words)) assert.match(text, new RegExp(`SMAP_HAS_SIZE\\(smap_${name}, 0, ${4 * words}\\)`, 'i'));
   assert.deepEqual(MENDS.slice(1), all(text, /^ {4}SMAP_MEND_(\w+) = \d+/gm));
@@ -66,7 +68,7 @@ test('CJS, ESM and the types have the same names', async () => {
   assert.equal(library.default, library);
   assert.deepEqual(Object.keys(module).sort(), names);
   assert.deepEqual([...new Set(all(read('lib/index.d.ts'), /^export (?:const|class|function) (\w+)/gm))].sort(), names);
-  for (const name of ['SourceMap', 'SourceMapBuilder', 'ConcatSourceMapBuilder']) {
+  for (const name of ['SourceMap', 'CompiledMap', 'SourceMapBuilder', 'ConcatSourceMapBuilder']) {
     const body = read('lib/index.d.ts').split(`export class ${name} {`)[1].split('\n}')[0];
     const said = new Set(all(body, /^ {2}(?:static |readonly )*(\w+)[<(:]/gm));
     const { prototype } = library[name];

@@ -2,6 +2,8 @@
 import junketscarp, {
   Bias,
   Code,
+  CompiledCounts,
+  CompiledMap,
   ConcatSourceMapBuilder,
   Direction,
   FaultPlace,
@@ -53,6 +55,13 @@ async function uses(bytes: Uint8Array): Promise<void> {
   concat.addSourceMap(builder.finish(), 7);
   const text: string = evaluate("@0", [map.toString()]).mappings + encodeMappings(decodeMappings("A", { names: 1 }));
   const url: string | null = sourceMappingURL(text, Language.CSS) ?? decodeDataURL(text);
+  const compiled = new CompiledMap(map.compile({ textLength: 7, stamp: new Uint8Array(32) }));
+  const counts: CompiledCounts = new CompiledMap(new SharedArrayBuffer(0)).counts ?? new CompiledMap(new DataView(bytes.buffer)).counts;
+  const known: [Original | null, FoundToken | null, string | null, Uint8Array, boolean] =
+    [compiled.trace(0, 1, Bias.CLAMPED), compiled.token(0), compiled.getSource(0), compiled.stamp, compiled.isIgnored(0)];
+  const again: SourceMap = compiled.decompile();
+  compiled.free();
+  void [counts, known, again];
   void [found, name, token, answers, indices, pieces, back, all, raw, concat, url, NO_ID];
 }
 

@@ -30,7 +30,7 @@ SHAPES = "i8x16|i16x8|i32x4|i64x2|f32x4|f64x2"
 PLAIN = re.compile(rf"(?:i32|i64|f32|f64|v128|{SHAPES})\.[a-z][a-z0-9_]*$")
 USES_MEMORY = re.compile(r"load|store|memory|atomic")
 # Has an export of its own.
-OFTEN = {"loader_trace"}
+OFTEN = {"loader_trace", "loader_compiled_trace"}
 # Local variables that hold what lies above an address on the stack. None is read before it is set.
 KEEPS = {"i32": "i32", "i64": "i64", "f32": "f32", "f64": "f64", "v128": "v128", "length": "i32", "value": "i32"}
 

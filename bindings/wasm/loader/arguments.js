@@ -1,7 +1,7 @@
 'use strict';
 // Arguments of the types that native.d.ts says. What is of another one throws.
 
-const { MAP, Handle } = require('./handles.js');
+const { COMPILED, MAP, Handle } = require('./handles.js');
 const { NOT_TOLD } = require('./layout.js');
 
 const tagOf = Object.getOwnPropertyDescriptor(Object.getPrototypeOf(Uint8Array.prototype), Symbol.toStringTag).get;
@@ -13,6 +13,19 @@ function handleOf(it, kind) {
 
 function mapOf(it) {
   return handleOf(it, MAP);
+}
+
+function compiledOf(it) {
+  return handleOf(it, COMPILED);
+}
+
+function isCompiled(it) {
+  return Handle.kindOf(it) === COMPILED;
+}
+
+/** A map or a compiled one. */
+function askedOf(it) {
+  return isCompiled(it) ? it : mapOf(it);
 }
 
 function word(it) {
@@ -53,4 +66,4 @@ function mapsOf(list) {
   return all.map(mapOf);
 }
 
-module.exports = { handleOf, mapOf, word, textOf, wordsOf, textsOf, mapsOf };
+module.exports = { handleOf, mapOf, compiledOf, isCompiled, askedOf, word, bytesOf, textOf, wordsOf, textsOf, mapsOf };

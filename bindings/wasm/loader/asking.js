@@ -5,9 +5,9 @@ const { mapOf, wordsOf } = require('./arguments.js');
 const { ANSWER, Code } = require('./layout.js');
 const { lending } = require('./lending.js');
 
-/** Asks of a map what is answered to the words. */
-function asks(host, handle, run) {
-  const map = mapOf(handle);
+/** Asks of a map, or of another handle that `of` takes, what is answered to the words. */
+function asks(host, handle, run, of = mapOf) {
+  const map = of(handle);
   return host.told(map.isNull ? Code.NULL_HANDLE : run(map.instance, map.at));
 }
 

@@ -1,5 +1,5 @@
 'use strict';
-// What a map, a builder or a join is, where it is, and how it is freed.
+// What a map, a compiled map, a builder or a join is, where it is, and how it is freed.
 
 const { NoMemory } = require('./instance.js');
 const { Code } = require('./layout.js');
@@ -8,7 +8,8 @@ const { moved } = require('./moving.js');
 const MAP = 'map';
 const BUILDER = 'builder';
 const JOIN = 'join';
-const FREES = { map: 'smap_free_map', builder: 'smap_free_builder', join: 'smap_free_join' };
+const COMPILED = 'compiled';
+const FREES = { map: 'smap_free_map', builder: 'smap_free_builder', join: 'smap_free_join', compiled: 'loader_free_compiled' };
 
 /** An address in an instance. After `free` there is no instance. */
 class Handle {
@@ -21,6 +22,7 @@ class Handle {
     this.block = null; // what it has in a shared instance
     this.mends = null; // words of all mends, of a map that was read as it was found
     this.number = 0; // by which it is known once it was selected
+    this.length = 0; // of a compiled map: how many bytes it has
     this.isFreed = false;
   }
 
@@ -109,4 +111,4 @@ class Handles {
   }
 }
 
-module.exports = { MAP, BUILDER, JOIN, FREES, Handle, Handles };
+module.exports = { MAP, BUILDER, JOIN, COMPILED, FREES, Handle, Handles };

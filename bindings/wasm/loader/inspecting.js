@@ -1,7 +1,7 @@
 'use strict';
 // What a map holds.
 
-const { mapOf, word } = require('./arguments.js');
+const { askedOf, isCompiled, mapOf, word } = require('./arguments.js');
 const { asks, lists } = require('./asking.js');
 const { ANSWER, BYTES, Code, NOT_TOLD, Which, Words } = require('./layout.js');
 const { lending } = require('./lending.js');
@@ -46,7 +46,16 @@ function isSound(host, handle) {
   return answersOne(host, handle, 'smap_is_sound');
 }
 
+/** Bytes of a compiled map may be no UTF-8. */
+function compiledText(host, map, which, id) {
+  if (map.isNull) return host.told(Code.NULL_HANDLE);
+  const { instance } = map;
+  const code = instance.call('loader_compiled_text', map.at, which, id);
+  return code !== 0 ? host.told(code) : instance.anyLentText();
+}
+
 function text(host, handle, which, id) {
+  if (isCompiled(handle)) return compiledText(host, handle, word(which), word(id));
   const map = mapOf(handle);
   const kind = word(which);
   const name = ONE_TEXT[kind];
@@ -83,11 +92,14 @@ function texts(host, handle, which) {
 
 function getToken(host, handle, index) {
   const which = word(index);
-  return asks(host, handle, (it, at) => {
-    const code = it.call('smap_get_token', at, which, it.wordsAt);
+  const run = (it, at) => {
+    const code = isCompiled(handle)
+      ? it.call('loader_compiled_token', at, which)
+      : it.call('smap_get_token', at, which, it.wordsAt);
     if (code === 0) it.copy(ANSWER.WORDS, host.words, Words.TOKEN);
     return code;
-  });
+  };
+  return asks(host, handle, run, askedOf);
 }
 
 function getTokens(host, handle, out) {

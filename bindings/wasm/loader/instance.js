@@ -9,6 +9,7 @@ const SHORT = 24;
 const encoder = new TextEncoder();
 // A text may begin with U+FEFF.
 const decoder = new TextDecoder('utf-8', { ignoreBOM: true, fatal: true });
+const anyDecoder = new TextDecoder('utf-8', { ignoreBOM: true });
 
 /** The module stopped in the middle of a call. What lies in the memory of its instance is lost. */
 class TrapError extends Error {
@@ -112,8 +113,13 @@ class Instance {
   }
 
   /** The text that a call has lent as an answer. */
-  lentText() {
-    return this.text(this.answer(ANSWER.TEXT), this.answer(ANSWER.TEXT + 8));
+  lentText(by = decoder) {
+    return this.text(this.answer(ANSWER.TEXT), this.answer(ANSWER.TEXT + 8), by);
+  }
+
+  /** The same, which has U+FFFD where it is no UTF-8. */
+  anyLentText() {
+    return this.lentText(anyDecoder);
   }
 
   // ---- texts and words in the memory ----
@@ -148,12 +154,12 @@ class Instance {
   }
 
   /** The text of so many bytes. */
-  text(at, len) {
+  text(at, len, by = decoder) {
     const bytes = this.u8();
-    if (len > SHORT) return decoder.decode(bytes.subarray(at, at + len));
+    if (len > SHORT) return by.decode(bytes.subarray(at, at + len));
     let out = '';
     for (let i = at; i < at + len; i++) {
-      if (bytes[i] > 127) return decoder.decode(bytes.subarray(at, at + len));
+      if (bytes[i] > 127) return by.decode(bytes.subarray(at, at + len));
       out += String.fromCharCode(bytes[i]);
     }
     return out;

@@ -12,4 +12,7 @@ const ANSWER = { FAULT: 0, WORDS: 72, MADE: 136, OTHER: 144, TEXT: 152, COUNT: 1
 /** The words of an answer of a lookup: its kind, the index of a token, and the token. */
 const FOUND = 2 + Words.TOKEN;
 
-module.exports = { NOT_TOLD: NO_ID, Code, Form, SLOTS, Slot, Which, Words, BYTES, ANSWER, FOUND };
+/** The words of the counts of a compiled map. */
+const COUNTS = 12;
+
+module.exports = { COUNTS, NOT_TOLD: NO_ID, Code, Form, SLOTS, Slot, Which, Words, BYTES, ANSWER, FOUND };

@@ -1,7 +1,7 @@
 'use strict';
 // Lookups.
 
-const { mapOf, word, wordsOf } = require('./arguments.js');
+const { askedOf, isCompiled, mapOf, word, wordsOf } = require('./arguments.js');
 const { asks, lists } = require('./asking.js');
 const { ANSWER, Code, FOUND, Words } = require('./layout.js');
 const { lending } = require('./lending.js');
@@ -11,7 +11,7 @@ const { gathering } = require('./moving.js');
 const BLOCK = 4096;
 
 function select(host, handle) {
-  host.selection.select(mapOf(handle));
+  host.selection.select(askedOf(handle), isCompiled(handle));
 }
 
 /** Asks for blocks of positions; each answer is of so many words. The answers must not overwrite positions that are still asked. */
@@ -38,7 +38,7 @@ function looksUp(host, { instance, at: map }, positions, by, out, size, run) {
 }
 
 function lookups(host, handle, positions, bias, out, size, run) {
-  const map = mapOf(handle);
+  const map = askedOf(handle);
   const asks = wordsOf(positions);
   const by = word(bias);
   const to = wordsOf(out);
@@ -48,12 +48,15 @@ function lookups(host, handle, positions, bias, out, size, run) {
 }
 
 function traceAll(host, handle, positions, bias, out) {
-  const run = (it, map, at, len, by, to) => it.call('loader_trace_all', map, at, len, by, to);
+  const name = isCompiled(handle) ? 'loader_compiled_trace_all' : 'loader_trace_all';
+  const run = (it, map, at, len, by, to) => it.call(name, map, at, len, by, to);
   return lookups(host, handle, positions, bias, out, FOUND, run);
 }
 
 function findAll(host, handle, positions, bias, out) {
-  const run = (it, map, at, len, by, to) => it.call('smap_find_all', map, at, len, by, to, len, it.faultAt);
+  const run = isCompiled(handle)
+    ? (it, map, at, len, by, to) => it.call('loader_compiled_find_all', map, at, len, by, to)
+    : (it, map, at, len, by, to) => it.call('smap_find_all', map, at, len, by, to, len, it.faultAt);
   return lookups(host, handle, positions, bias, out, 1, run);
 }
 

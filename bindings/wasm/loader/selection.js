@@ -18,12 +18,12 @@ class Selection {
     });
   }
 
-  select(map) {
+  select(map, isCompiled) {
     if (map.number === 0 && this.#lastNumber < NOT_TOLD) {
       map.number = ++this.#lastNumber;
       if (map.block === null) this.#unselects.register(map, map.number);
     }
-    this.asked = map.isNull ? null : { instance: map.instance, at: map.at };
+    this.asked = map.isNull ? null : { instance: map.instance, at: map.at, isCompiled };
     this.#words[Slot.SELECTED] = map.number;
   }
 

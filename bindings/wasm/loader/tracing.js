@@ -6,13 +6,15 @@ const { ANSWER, Code, Slot } = require('./layout.js');
 
 const { LINE, COLUMN, BIAS } = Slot;
 
-/** Asks in an instance, for the map at an address; the code of the call. */
-function asked(instance, at, words) {
+/** Asks the map that is selected; the code of the call. */
+function asked({ instance, at, isCompiled }, words) {
   if (instance.trap !== null) throw instance.trap;
+  const { exports } = instance;
   try {
-    return instance.exports.loader_trace(at, words[LINE], words[COLUMN], words[BIAS]);
+    if (isCompiled) return exports.loader_compiled_trace(at, words[LINE], words[COLUMN], words[BIAS]);
+    return exports.loader_trace(at, words[LINE], words[COLUMN], words[BIAS]);
   } catch (cause) {
-    throw (instance.trap = new TrapError('loader_trace', cause, instance.isShared));
+    throw (instance.trap = new TrapError(isCompiled ? 'loader_compiled_trace' : 'loader_trace', cause, instance.isShared));
   }
 }
 
@@ -23,7 +25,7 @@ function tracing(host) {
     const map = selection.asked;
     if (map === null) return host.told(Code.NULL_HANDLE);
     const { instance } = map;
-    const code = asked(instance, map.at, words);
+    const code = asked(map, words);
     if (code !== 0) return host.coded(instance, code);
     const from = instance.u32();
     const begin = (instance.answers + ANSWER.WORDS) >>> 2;

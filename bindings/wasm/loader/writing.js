@@ -78,4 +78,6 @@ function decodeDataURL(host, url) {
   );
 }
 
-module.exports = { write: writes(asString), writeBytes: writes(asBytes), encodeMappings, sourceMappingURL, decodeDataURL };
+const CALLS = { write: writes(asString), writeBytes: writes(asBytes), encodeMappings, sourceMappingURL, decodeDataURL };
+
+module.exports = { CALLS, written, asBytes };

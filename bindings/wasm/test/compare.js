@@ -23,7 +23,7 @@ const NOTHING = new Uint32Array(0);
 
 /** How many words a call answers. The bytes that a map holds (the last two of getCounts) are left out where maps were copied. */
 const ANSWERS = { getCounts: 6, isSorted: 1, isSound: 1, getToken: 6, getTokens: 1, getIgnoreList: 1, trace: 8, pieces: 1, firstDifference: 2,
-  generated: 7, allGenerated: 1, builderAddName: 1, builderAddSource: 1, getMends: 1, decodeTokens: 2 };
+  generated: 7, allGenerated: 1, builderAddName: 1, builderAddSource: 1, getMends: 1, decodeTokens: 2, compiledCounts: 12, isIgnored: 1 };
 
 /** The handles of both for one map, builder or join. */
 class Pair {
@@ -114,13 +114,19 @@ function traces(map, line, column, bias) {
   both('trace');
 }
 
-function asksPlaces(map, next, lines, count) {
+/** Lookups of a map or a compiled one. */
+function asksLookups(map, next, lines, count) {
   const positions = positionsIn(next, lines, count);
   for (const bias of [0, 1, 2, 3]) {
     both('traceAll', map, positions, bias, output(4 * positions.length));
     both('findAll', map, positions, bias, output(positions.length / 2));
     for (let i = 0; i < 20; i += 2) traces(map, positions[i], positions[i + 1], bias);
   }
+  return positions;
+}
+
+function asksPlaces(map, next, lines, count) {
+  const positions = asksLookups(map, next, lines, count);
   filled('pieces', 5, map, positions[0], positions[1], positions[0] + next(20), positions[3]);
 }
 
@@ -134,6 +140,36 @@ function asksSources(map, next, { tokens, sources }) {
     filled('allGenerated', 1, map, ...place, next(4));
     both('generated', map, next(sources + 1), next(50), next(50), next(4));
   }
+}
+
+const STAMP = Uint8Array.from({ length: 32 }, (_, i) => 7 * i);
+
+/** What is asked of a compiled map, which is freed. */
+function asksCompiled(it, next, lines, count) {
+  if (!(it instanceof Pair)) return;
+  both('compiledCounts', it);
+  both('stamp', it);
+  for (const id of [0, 1, 7, 300, NO_ID]) {
+    for (const which of [0, 1, 2, 3, 4, 5, 6]) both('text', it, which, id);
+    both('isIgnored', it, id);
+    both('getToken', it, id);
+  }
+  asksLookups(it, next, lines, count);
+  const back = both('decompile', it);
+  if (back instanceof Pair) both('write', back, 0, '', 1_000_000);
+  free(back);
+  free(it);
+}
+
+/** Compiles a map, and opens what was compiled, and that with some of it changed. */
+function compiles(map, next, lines, count) {
+  const bytes = both('compile', map, next(2), next(2), next(2) ? STAMP : new Uint8Array(0));
+  both('compile', map, 0, 0, STAMP.subarray(1));
+  if (typeof bytes === 'number') return;
+  asksCompiled(both('openCompiled', bytes), next, lines, count);
+  const changed = Uint8Array.from(bytes);
+  for (let k = 1 + next(3); k > 0; k--) changed[next(3) === 0 ? next(88) : next(changed.length)] = next(256);
+  asksCompiled(both('openCompiled', changed), next, lines, Math.min(count, 50));
 }
 
 /** Changes a copy in each way, and writes it after each. */
@@ -158,6 +194,7 @@ function interrogate(map, next, count) {
   asksTexts(map);
   asksPlaces(map, next, counts.lines, count);
   asksSources(map, next, counts);
+  compiles(map, next, Math.min(counts.lines, 50_000), count);
   changes(map);
 }
 
@@ -276,7 +313,9 @@ class Pool {
   constructor(next, texts) {
     this.next = next;
     this.texts = texts;
-    this.of = { map: [both('fromJson', texts[0])], builder: [both('builderNew')], join: [both('joinNew')] };
+    const map = both('fromJson', texts[0]);
+    const compiled = both('openCompiled', both('compile', map, 0, 0, STAMP));
+    this.of = { map: [map], builder: [both('builderNew')], join: [both('joinNew')], compiled: [compiled] };
   }
 
   one(kind) {
@@ -350,7 +389,14 @@ const CALLS = {
   change: (p) => both(['sort', 'simplify', 'applySourceRoot', 'indexSources'][p.next(4)], p.one('map')),
   ask: (p) => asks(p.one('map'), p.next),
   write: (p) => both('write', p.one('map'), p.next(6), CODE),
-  free: (p) => p.next(6) === 0 && free(p.one(['map', 'builder', 'join'][p.next(3)])),
+  compile: (p) => compiles(p.one('map'), p.next, 30, 12),
+  openCompiled: (p) => {
+    const bytes = both('compile', p.one('map'), 0, 0, STAMP);
+    if (typeof bytes !== 'number') p.keep('compiled', both('openCompiled', bytes));
+  },
+  askCompiled: (p) => asksLookups(p.one('compiled'), p.next, 30, 12),
+  decompile: (p) => p.keep('map', both('decompile', p.one('compiled'))),
+  free: (p) => p.next(6) === 0 && free(p.one(['map', 'builder', 'join', 'compiled'][p.next(4)])),
 };
 
 function asks(map, next) {

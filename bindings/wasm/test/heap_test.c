@@ -20,7 +20,9 @@ static size_t pages_given = 1;
 static int is_refusing;
 static size_t memory_pages(void) { return pages_given; }
 static char *memory_end(void) { return memory + pages_given * PAGE_BYTES; }
+static int asks_for_all; /* whether more was asked for than there are addresses */
 static int grow_memory(size_t pages) {
+    asks_for_all |= pages > (size_t)1 << 16;
     if (is_refusing || pages > PAGES - pages_given) return 0;
     pages_given += pages;
     return 1;
@@ -172,6 +174,15 @@ static void refuses_what_is_too_large(void) {
     heap_free(NULL);
 }
 
+/* One that its list does not promise to be so, where the memory goes on for more than a page. */
+static void takes_the_last_block(void) {
+    pages_given = 4;
+    heap_free(heap_malloc(5936));
+    void *at = heap_malloc(5651);
+    MUST(at && !asks_for_all);
+    heap_free(at);
+}
+
 static unsigned long number(const char *text) {
     unsigned long out = 0;
     while (*text) out = 10 * out + (unsigned long)(*text++ - '0');
@@ -183,6 +194,7 @@ int main(int count, char **words) {
     unsigned long rounds = count > 1 ? number(words[1]) : 100000;
     state = count > 2 ? number(words[2]) : 1;
     refuses_what_is_too_large();
+    takes_the_last_block();
     for (calls = 0; calls < rounds; calls++) {
         one_call();
         if (calls % 1000 == 0) walk(&free_blocks);
@@ -190,7 +202,7 @@ int main(int count, char **words) {
     size_t most = (size_t)(top - memory);
     for (int i = 0; i < HELD; i++)
         if (held[i].at) frees(i);
-    MUST(walk(&free_blocks) == 1 && free_blocks == 1);
+    MUST(walk(&free_blocks) == 1 && free_blocks == 1 && !asks_for_all);
     printf("%lu calls, at most %zu bytes\n", rounds, most);
     return 0;
 }

@@ -1,6 +1,6 @@
 -- Two lists, item by item.
-use Rattle.std.proofs.Common.{ℕ, suc, ◌+◌, ◌<◌, List, [], ◌∷◌, length, take, get_or, slice_set, arith}
-use Rattle.std.proofs.Common.{◌≡◌, sym, subst, inl, inr}
+use Rattle.std.proofs.Common.{◌≡◌, ℕ, suc, ◌+◌, ◌<◌, List, [], ◌∷◌, length, take, get_or, slice_set}
+use Rattle.std.proofs.Common.{sym, subst, inl, inr, arith}
 use Rattle.std.proofs.lemmas.Bool.{cases_lt}
 use Rattle.std.proofs.lemmas.List.{get_or-set_same, get_or-set_other, get_or_default}
 use Rattle.std.specs.List.{AllZip}

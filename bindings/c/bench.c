@@ -2,34 +2,15 @@
  * a small one, if it is given, reading it 2,000 times, and joining these. The best of 20 runs, in nanoseconds: reading and writing
  * of FILE and the tokens in bulk for each token, lookups each, the small map for each map. What frees the results is not counted. */
 #define _POSIX_C_SOURCE 199309L
+#include "bench.h"
 #include "oxc_sourcemap.h"
 
 #include <stdio.h>
 #include <stdlib.h>
-#include <time.h>
 
 #define LOOKUPS 100000
 #define SMALL 2000
 #define RUNS 20
-
-static double now(void) {
-    struct timespec t;
-    clock_gettime(CLOCK_MONOTONIC, &t);
-    return (double)t.tv_sec * 1e9 + (double)t.tv_nsec;
-}
-
-static uint64_t state = 0x9E3779B97F4A7C15, sum;
-
-static uint32_t below(uint64_t n) {
-    state ^= state << 13;
-    state ^= state >> 7;
-    state ^= state << 17;
-    return (uint32_t)((state >> 32) % n);
-}
-
-static void must(int is_so) {
-    if (!is_so) exit(1);
-}
 
 static char *read_file(const char *path, size_t *len) {
     FILE *file = fopen(path, "rb");

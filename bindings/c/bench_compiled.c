@@ -7,36 +7,17 @@
  * microseconds to read the text, and to compile. Times are the best of several rounds. The last line has what the compiled maps take
  * to what the maps do: the bytes of all, of the times the geometric mean; and the mean time to open. */
 #define _POSIX_C_SOURCE 199309L
+#include "bench.h"
 #include "oxc_sourcemap.h"
 
 #include <math.h>
 #include <stdio.h>
 #include <stdlib.h>
 #include <string.h>
-#include <time.h>
 
 #define LOOKUPS 32768
 #define ROUNDS 15
 #define OPENINGS 1000
-
-static double now(void) {
-    struct timespec t;
-    clock_gettime(CLOCK_MONOTONIC, &t);
-    return (double)t.tv_sec * 1e9 + (double)t.tv_nsec;
-}
-
-static uint64_t state = 0x9E3779B97F4A7C15, sum;
-
-static uint32_t below(uint64_t n) {
-    state ^= state << 13;
-    state ^= state >> 7;
-    state ^= state << 17;
-    return (uint32_t)((state >> 32) % n);
-}
-
-static void must(int is_so) {
-    if (!is_so) exit(2);
-}
 
 /* What each stage works on. */
 static struct {

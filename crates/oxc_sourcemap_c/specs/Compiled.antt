@@ -1,5 +1,5 @@
 -- Calls on compiled maps.
-use Rattle.std.specs.Prelude.{◌≡◌, ◌≢◌, ◌⊎◌, ℕ, List, [], length, option_map, Option, Some, None}
+use Rattle.std.specs.Prelude.{◌≡◌, ◌≢◌, ◌⊎◌, ℕ, List, [], length, Option, Some, None}
 use Rattle.std.specs.Prelude.{Result, Ok, Err, MatchOption, MatchResult, slice_get, ◌==◌, false}
 use Rattle.std.specs.Prelude.{if◌then◌else◌, is_some, ⊤}
 use Rattle.std.specs.List.{Contains}

@@ -1,7 +1,7 @@
 //! The calls for C that read what handles hold, and the messages of errors.
 
 pub(crate) mod asked;
-mod getters;
+pub(crate) mod getters;
 pub(crate) mod lookups;
 mod mends;
 mod messages;

@@ -12,6 +12,7 @@ ghost use Rattle.oxc_sourcemap_c.specs.Words.{CallError, LentText, TokenNumbers}
 
 use crate::answers::write_found;
 use crate::reading::asked::Asked;
+use crate::reading::getters::flag;
 use crate::reading::lookups::have_one_length;
 use oxc_sourcemap_compiled::CompiledMap;
 use oxc_sourcemap_handles::{
@@ -269,7 +270,8 @@ pub extern "C" fn proved_compiled_stamp<'c>(map: Lent, out: &mut Text<'c>) -> u3
 fn is_ignored(map: &Lent, id: u32) -> Result<u32, CallError>
     ensures { IsIgnoredFlag map.now.held id result }
 {
-    Ok(u32::from(map.compiled()?.is_ignored(id)))
+    let compiled = map.compiled()?;
+    Ok(flag(compiled.is_ignored(id)))
 }
 
 /// Whether the ignore list of a compiled map has the id of a source.

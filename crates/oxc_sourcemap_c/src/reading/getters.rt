@@ -122,7 +122,7 @@ pub extern "C" fn proved_get_counts(map: &Lent, out: &mut Counts) -> u32
     write_found(counts(map), out)
 }
 
-fn flag(is_so: bool) -> u32
+pub(crate) fn flag(is_so: bool) -> u32
     ensures { result ≡ flag_of is_so }
 {
     if is_so { 1 } else { 0 }

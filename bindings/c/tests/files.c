@@ -60,7 +60,7 @@ static int next_file(void) {
 
 /* A compiled map is written to a file, and asked where the system maps it. */
 static void compiled_map_in(const char *path) {
-    smap_map *map = read_map(A);
+    smap_map *map = NULL;
     smap_string *string;
     smap_compiled *compiled = NULL;
     smap_file *file = NULL;
@@ -68,7 +68,8 @@ static void compiled_map_in(const char *path) {
     smap_original p;
     smap_fault fault = junk();
     int before = next_file();
-    HOLDS(smap_compile(map, 0, NULL, &string, NULL) == SMAP_OK && smap_get_text(string, &written) == SMAP_OK);
+    HOLDS(smap_from_json_string(TEXT(A), &map, NULL) == SMAP_OK && smap_compile(map, 0, NULL, &string, NULL) == SMAP_OK);
+    HOLDS(smap_get_text(string, &written) == SMAP_OK);
     write_file(path, &written);
     HOLDS(smap_map_file(path, &file, &bytes, &fault) == SMAP_OK && is_none(&fault) && next_file() == before);
     HOLDS(bytes.len == written.len && memcmp(bytes.at, written.at, bytes.len) == 0);

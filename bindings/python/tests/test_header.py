@@ -38,7 +38,7 @@ def fields_of(body):
 def parameter(type, name, following):
     """The type of a parameter by ctypes, and whether it is followed by a length."""
     is_list, plain = following == f"{name}_len", type.replace("const ", "").replace(" ", "")
-    if plain == "unsignedchar*":
+    if plain in ("unsignedchar*", "void*"):
         return c_void_p
     if plain == "char*":
         return c_char_p if type.startswith("const") else c_void_p

@@ -319,6 +319,7 @@ fn check_as_code(
             MapText {
                 name,
                 folder: _,
+                is_file: _,
                 text,
             },
         ) => {

@@ -193,6 +193,23 @@ const BUNDLE: Words = Words {
     ],
 };
 
+const COMPILE: Words = Words {
+    about: "Compiles maps, as bytes in which positions are looked up in place",
+    json: "An object a line, for each map: map, output, bytes",
+    words: &[
+        Word(
+            "FILE",
+            Kind::Files,
+            "Maps, and codes whose maps are found; each is written as its map with .smc at the end",
+        ),
+        Word(
+            "output",
+            Kind::Output,
+            "The folder to write to [default: that of each map]",
+        ),
+    ],
+};
+
 const DIFF: Words = Words {
     about: "Tells where two maps say different things",
     json: "An object: different, and if it is true line and column of the first place, places (how many differ) and of (of how many)",
@@ -328,12 +345,13 @@ fn printer<'a>(alloc: Global, name: &'a str, about: &'a str, words: &[Word]) -> 
 }
 
 /// The names of the commands, in the order in which help lists them.
-const COMMANDS: [&str; 10] = [
+const COMMANDS: [&str; 11] = [
     "trace",
     "resolve",
     "check",
     "remap",
     "bundle",
+    "compile",
     "diff",
     "coverage",
     "page",
@@ -351,6 +369,7 @@ fn command_of<'a>(alloc: Global, name: &'a str) -> Built<'a> {
         "check" => command(alloc, name, &CHECK),
         "remap" => command(alloc, name, &REMAP),
         "bundle" => command(alloc, name, &BUNDLE),
+        "compile" => command(alloc, name, &COMPILE),
         "diff" => command(alloc, name, &DIFF),
         "coverage" => command(alloc, name, &COVERAGE),
         "page" => command(alloc, name, &PAGE),

@@ -35,6 +35,8 @@ pub struct MapText {
     pub name: String,
     /// The folder that its sources are relative to, with a slash at its end.
     pub folder: String,
+    /// Whether it has a file of its own, of this name.
+    pub is_file: bool,
     pub text: String,
 }
 
@@ -64,6 +66,7 @@ fn map_text(rt: &HostRuntime, path: &str) -> Outcome<Lookup> {
     Ok(Lookup::Map(MapText {
         name: String::from_str(alloc, path)?,
         folder: String::from_str(alloc, folder_of(path))?,
+        is_file: true,
         text: read_text(rt, path)?,
     }))
 }
@@ -147,6 +150,7 @@ fn map_named(rt: &HostRuntime, code: &str, url: &str, places: Places<'_>) -> Out
         Ok(Some(text)) => Ok(Lookup::Map(MapText {
             name: format!(in alloc; "{} (its data URL)", shown_name(code))?,
             folder: String::from_str(alloc, folder_of(code))?,
+            is_file: false,
             text,
         })),
         Ok(None) => map_at_url(rt, code, url, places),
@@ -421,6 +425,7 @@ pub fn map_of_file(rt: &HostRuntime, path: &str, places: Places<'_>) -> Outcome<
         return Ok(MapText {
             name: String::from_str(alloc, shown_name(path))?,
             folder: String::from_str(alloc, folder_of(path))?,
+            is_file: path != "-",
             text,
         });
     }

@@ -31,6 +31,13 @@ Examples:
   sourcemap bundle a.js b.js -o out.js
   sourcemap bundle --wrap '(function () {' '})();' lib/*.js -o out.js";
 
+const COMPILE: &str =
+    "Each knows its map by the length and the SHA-256 of its text: see `sourcemap check`.
+
+Examples:
+  sourcemap compile dist/*.js.map
+  sourcemap compile app.js -o maps";
+
 const DIFF: &str = "Examples:
   sourcemap diff before.js.map after.js.map";
 
@@ -62,6 +69,7 @@ pub fn examples_of(command: &str) -> &'static str {
         "check" => CHECK,
         "remap" => REMAP,
         "bundle" => BUNDLE,
+        "compile" => COMPILE,
         "diff" => DIFF,
         "coverage" => COVERAGE,
         "page" => PAGE,

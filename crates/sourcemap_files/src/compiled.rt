@@ -1,11 +1,12 @@
 //! Compiled maps: bytes made of a map, which know the text of that map by its length and its SHA-256.
-ghost use Rattle.std.specs.Prelude.{IfOk, length};
-ghost use Rattle.oxc_sourcemap_parts.specs.Words.{record_of_parts};
-ghost use Rattle.oxc_sourcemap_compiled.specs.Words.{AreBytesOf};
+ghost use Rattle.std.specs.Prelude.{◌≡◌, IfOk, IfSome, Some, length};
+ghost use Rattle.oxc_sourcemap_parts.specs.Words.{record_of_parts, IsSound};
+ghost use Rattle.oxc_sourcemap_compiled.specs.Words.{AreBytesOf, checked_map, compiled_in};
 ghost use Rattle.sha2.specs.Sha256.{sha256};
 
-use oxc_sourcemap_compiled::compile;
-use oxc_sourcemap_parts::SourceMapParts;
+use crate::input::{read_bytes, text_in};
+use oxc_sourcemap_compiled::{CompiledMap, compile};
+use oxc_sourcemap_parts::{SourceMapParts, are_sound, owned_parts};
 use oxc_sourcemap_tokens::{Error, PlanError};
 use sha2::{Digest, Sha256};
 use sourcemap_words::{Failure, Outcome, failure_of};
@@ -30,4 +31,61 @@ pub fn compiled_of(
         Err(PlanError::Map(Error::OutOfMemory)) => Err(Failure::Memory),
         Err(error) => Err(failure_of(alloc, name, error)),
     }
+}
+
+/// What a file holds that has a map.
+#[derive(Drop)]
+pub enum Written {
+    /// The text of a map, or of a code.
+    Text(String),
+    /// A compiled map.
+    Compiled(Vec<u8>),
+}
+
+/// Whether a file is a compiled map: by its name, or by the first bytes of one, in which no text has a NUL.
+fn is_compiled(path: &str, bytes: &[u8]) -> bool {
+    path.ends_with(COMPILED_END) || bytes.starts_with(b"smap") && bytes.get(7) == Some(&0)
+}
+
+/// What a file holds, or standard input for `-`.
+pub fn read_written(rt: &HostRuntime, path: &str) -> Outcome<Written> {
+    let bytes = read_bytes(rt, path)?;
+    if is_compiled(path, bytes.as_slice()) {
+        return Ok(Written::Compiled(bytes));
+    }
+    Ok(Written::Text(text_in(rt.alloc(), path, bytes)?))
+}
+
+/// What the bytes of a compiled map are.
+#[derive(Drop)]
+pub enum Decompiled {
+    Map(SourceMapParts<'static>),
+    /// No map, and why.
+    Wrong(String),
+}
+
+/// The parts of a compiled map; None if they are not sound, as those of each map are that is found.
+fn sound_parts(alloc: Global, map: &CompiledMap<'_>) -> Outcome<Option<SourceMapParts<'static>>>
+    ensures sound { IfOk result (λ parts. IfSome parts (λ parts. IsSound (record_of_parts parts))) }
+    ensures map { IfOk result (λ parts. IfSome parts (λ parts.
+        checked_map (compiled_in map.now).content ≡ Some (record_of_parts parts))) }
+{
+    if let Some(parts) = map.decompile(alloc)?
+        && are_sound(&parts)
+    {
+        return Ok(Some(owned_parts(alloc, parts)?));
+    }
+    Ok(None)
+}
+
+/// What the bytes of a compiled map are: a map, or what is wrong with them.
+pub fn decompile(alloc: Global, bytes: &[u8]) -> Outcome<Decompiled> {
+    let map = match CompiledMap::open(bytes) {
+        Ok(map) => map,
+        Err(error) => return Ok(Decompiled::Wrong(format!(in alloc; "{error}")?)),
+    };
+    Ok(match sound_parts(alloc, &map)? {
+        Some(parts) => Decompiled::Map(parts),
+        None => { Decompiled::Wrong(String::from_str(alloc, "is damaged: compile its map again")?) }
+    })
 }

@@ -12,11 +12,11 @@ mod progress;
 mod writing;
 
 pub use asked::{Asked, Status};
-pub use compiled::{COMPILED_END, compiled_of};
+pub use compiled::{COMPILED_END, Decompiled, Written, compiled_of, decompile, read_written};
 pub use finding::{
     CodeFile, InputPrefix, Lookup, MapText, Places, Sought, error_text, find_code,
     found_error_text, is_in_root, is_map, is_map_file, language_of, map_by_name, map_of_code,
-    map_of_file, map_without_code, read_map, rooted_map,
+    map_of_file, map_without_code, read_map, rooted_map, text_of_map,
 };
 pub use input::{is_file, print, print_bytes, read_text, shown_name, tell, usage, warn};
 pub use limit::{limit_of, limited_json};

@@ -1,8 +1,8 @@
 //! `compile`: maps as bytes in which positions are looked up in place.
 use crate::bundle::refuse_overwriting;
 use sourcemap_files::{
-    Asked, COMPILED_END, MapText, Progress, Status, compiled_of, file_name, map_of_file, print,
-    read_map, usage, with_slash, write_files,
+    Asked, COMPILED_END, MapText, Progress, Status, Written, compiled_of, file_name, map_of_file,
+    print, read_map, usage, with_slash, write_files,
 };
 use sourcemap_run::{push_number_member, push_object, push_text_member};
 use sourcemap_words::{Outcome, failure_of};
@@ -43,10 +43,17 @@ fn made_of(asked: &Asked<'_, '_>, file: &str) -> Outcome<Made> {
         ));
     }
     let map = map_of_file(rt, file, asked.places())?;
+    let Written::Text(text) = &map.written else {
+        return Err(failure_of(
+            alloc,
+            map.name.as_str(),
+            "is compiled already: name its map",
+        ));
+    };
     let output = output_of(asked, file, &map)?;
     refuse_overwriting(asked, map.name.as_str(), output.as_str())?;
     let parts = read_map(rt, &map)?;
-    let bytes = compiled_of(alloc, map.name.as_str(), &parts, map.text.as_str())?;
+    let bytes = compiled_of(alloc, map.name.as_str(), &parts, text.as_str())?;
     Ok(Made {
         map: map.name,
         output,

@@ -1,8 +1,9 @@
 //! `page`: a code beside its originals, in one file for browsers.
 use crate::check::objects_of;
 use sourcemap_files::{
-    Asked, Lookup, MapText, Status, folder_of, is_file, is_map, map_of_code, map_of_file, print,
-    read_map, read_text, real_name, shown_name, usage, write_text,
+    Asked, Lookup, MapText, Status, Written, folder_of, is_file, is_map, map_of_code, map_of_file,
+    print, read_map, read_text, read_written, real_name, shown_name, text_of_map, usage,
+    write_text,
 };
 use sourcemap_run::{DATA_MARK, fill_template, push_number_member, push_object, push_text_member};
 use sourcemap_words::{Outcome, failure_of};
@@ -70,7 +71,8 @@ fn data_of(asked: &Asked<'_, '_>, code: &str, text: &str, map: &MapText) -> Outc
     let mut out = String::from_str(alloc, "{\"code\":")?;
     push_named(alloc, shown_name(code), text, &mut out)?;
     out.push_str(",\"map\":")?;
-    push_named(alloc, map.name.as_str(), map.text.as_str(), &mut out)?;
+    let held = text_of_map(asked.rt, map)?;
+    push_named(alloc, map.name.as_str(), held.as_str(), &mut out)?;
     out.push_str(",\"report\":[")?;
     let objects = objects_of(asked, map, text)?;
     for (i, object) in objects.as_str().lines().enumerate() {
@@ -146,15 +148,14 @@ fn check_output(asked: &Asked<'_, '_>, map: &MapText) -> Outcome<()> {
 /// The text of the code. A map in its place is refused.
 fn read_code(asked: &Asked<'_, '_>) -> Outcome<String> {
     let code = asked.word("CODE");
-    let text = read_text(asked.rt, code)?;
-    if is_map(text.as_str()) {
-        return Err(failure_of(
+    match read_written(asked.rt, code)? {
+        Written::Text(text) if !is_map(text.as_str()) => Ok(text),
+        _ => Err(failure_of(
             asked.alloc(),
             shown_name(code),
             "is a map: name its code, and the map behind it",
-        ));
+        )),
     }
-    Ok(text)
 }
 
 /// Writes the page, and tells of it.

@@ -1,11 +1,12 @@
 //! Finding the map of a code.
+use crate::compiled::{Decompiled, Written, decompile, read_written};
 use crate::finding::matching::{Below, CodePath, Files, Found as Match, InputPrefix, named_prefix};
-use crate::input::{is_file, read_text, shown_name, warn};
+use crate::input::{is_file, shown_name, warn};
 use crate::paths::{
     file_name, folder_of, is_folder, is_inside, join_path, parts_of, path_of, path_of_url,
 };
 use oxc_sourcemap_found::{FoundParts, fault_reason, found_fault_at, read_found_parts};
-use oxc_sourcemap_json::json_fault_at;
+use oxc_sourcemap_json::{encode_parts_to_string_within, json_fault_at};
 use oxc_sourcemap_parts::{SourceMapParts, apply_root};
 use oxc_sourcemap_text::{Language, decode_data_url, source_mapping_url};
 use oxc_sourcemap_tokens::{Error, FaultPlace};
@@ -28,8 +29,10 @@ pub struct Places<'a> {
 
 /// More bytes than a path may have.
 const TOO_LONG: usize = 4096;
+/// The most bytes of the text that is made of a compiled map.
+const LONGEST: usize = 268_435_456;
 
-/// The text of a map, and how it is named in messages.
+/// A map as it is written, and how it is named in messages.
 #[derive(Drop)]
 pub struct MapText {
     pub name: String,
@@ -37,7 +40,7 @@ pub struct MapText {
     pub folder: String,
     /// Whether it has a file of its own, of this name.
     pub is_file: bool,
-    pub text: String,
+    pub written: Written,
 }
 
 /// The map of a code, or why there is none.
@@ -67,7 +70,7 @@ fn map_text(rt: &HostRuntime, path: &str) -> Outcome<Lookup> {
         name: String::from_str(alloc, path)?,
         folder: String::from_str(alloc, folder_of(path))?,
         is_file: true,
-        text: read_text(rt, path)?,
+        written: read_written(rt, path)?,
     }))
 }
 
@@ -151,7 +154,7 @@ fn map_named(rt: &HostRuntime, code: &str, url: &str, places: Places<'_>) -> Out
             name: format!(in alloc; "{} (its data URL)", shown_name(code))?,
             folder: String::from_str(alloc, folder_of(code))?,
             is_file: false,
-            text,
+            written: Written::Text(text),
         })),
         Ok(None) => map_at_url(rt, code, url, places),
         Err(error) => Err(failure_of(alloc, shown_name(code), error)),
@@ -417,22 +420,24 @@ pub fn is_map_file(path: &str, text: &str) -> bool {
     is_map(text) || path.ends_with(".map") || path.ends_with(".json")
 }
 
-/// The text of a map, given as a map, or as a code whose map is found.
+/// A map, given as a map, or as a code whose map is found.
 pub fn map_of_file(rt: &HostRuntime, path: &str, places: Places<'_>) -> Outcome<MapText> {
     let alloc = rt.alloc();
-    let text = read_text(rt, path)?;
-    if is_map_file(path, text.as_str()) {
-        return Ok(MapText {
-            name: String::from_str(alloc, shown_name(path))?,
-            folder: String::from_str(alloc, folder_of(path))?,
-            is_file: path != "-",
-            text,
-        });
+    let written = read_written(rt, path)?;
+    if let Written::Text(text) = &written
+        && !is_map_file(path, text.as_str())
+    {
+        return match map_of_code(rt, path, text.as_str(), places)? {
+            Lookup::Map(map) => Ok(map),
+            Lookup::None(why) => Err(failure_of(alloc, shown_name(path), why.as_str())),
+        };
     }
-    match map_of_code(rt, path, text.as_str(), places)? {
-        Lookup::Map(map) => Ok(map),
-        Lookup::None(why) => Err(failure_of(alloc, shown_name(path), why.as_str())),
-    }
+    Ok(MapText {
+        name: String::from_str(alloc, shown_name(path))?,
+        folder: String::from_str(alloc, folder_of(path))?,
+        is_file: path != "-",
+        written,
+    })
 }
 
 /// What stands behind the reason of an error: a number by itself does not tell what is wrong with it.
@@ -471,22 +476,43 @@ pub fn found_error_text(alloc: Global, text: &str, error: Error) -> Result<Strin
     placed_text(alloc, text, found_fault_at(alloc, text), error)
 }
 
-/// Reads a map as it is found. What is mended is told as a warning.
-pub fn read_map(rt: &HostRuntime, map: &MapText) -> Outcome<SourceMapParts<'static>> {
+/// Reads the text of a map as it is found. What is mended is told as a warning.
+fn read_map_text(rt: &HostRuntime, name: &str, text: &str) -> Outcome<SourceMapParts<'static>> {
     let alloc = rt.alloc();
-    match read_found_parts(alloc, map.text.as_str()) {
+    match read_found_parts(alloc, text) {
         Ok(FoundParts { parts, mends }) => {
             for mend in &mends {
                 let text = format!(in alloc; "mended: {mend}")?;
-                warn(rt, map.name.as_str(), text.as_str());
+                warn(rt, name, text.as_str());
             }
             Ok(parts)
         }
         Err(error) => {
-            let text = found_error_text(alloc, map.text.as_str(), error)?;
-            Err(failure_of(alloc, map.name.as_str(), text.as_str()))
+            let text = found_error_text(alloc, text, error)?;
+            Err(failure_of(alloc, name, text.as_str()))
         }
     }
+}
+
+/// Reads a map: its text as it is found, or its compiled form.
+pub fn read_map(rt: &HostRuntime, map: &MapText) -> Outcome<SourceMapParts<'static>> {
+    let (alloc, name) = (rt.alloc(), map.name.as_str());
+    match &map.written {
+        Written::Text(text) => read_map_text(rt, name, text.as_str()),
+        Written::Compiled(bytes) => match decompile(alloc, bytes.as_slice())? {
+            Decompiled::Map(parts) => Ok(parts),
+            Decompiled::Wrong(why) => Err(failure_of(alloc, name, why.as_str())),
+        },
+    }
+}
+
+/// The text of a map; of a compiled one that of the map that it holds.
+pub fn text_of_map(rt: &HostRuntime, map: &MapText) -> Outcome<String> {
+    if let Written::Text(text) = &map.written {
+        return Ok(String::from_str(rt.alloc(), text.as_str())?);
+    }
+    let parts = read_map(rt, map)?;
+    Ok(encode_parts_to_string_within(rt.alloc(), &parts, LONGEST)?)
 }
 
 /// The map of a file, given as a map or as a code, with its source root applied.

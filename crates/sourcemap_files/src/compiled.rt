@@ -1,5 +1,5 @@
 //! Compiled maps: bytes made of a map, which know the text of that map by its length and its SHA-256.
-ghost use Rattle.std.specs.Prelude.{◌≡◌, IfOk, IfSome, Some, length};
+ghost use Rattle.std.specs.Prelude.{◌≡◌, ◌↔◌, IsTrue, IfOk, IfSome, Some, length};
 ghost use Rattle.oxc_sourcemap_parts.specs.Words.{record_of_parts, IsSound};
 ghost use Rattle.oxc_sourcemap_compiled.specs.Words.{AreBytesOf, checked_map, compiled_in};
 ghost use Rattle.sha2.specs.Sha256.{sha256};
@@ -30,6 +30,23 @@ pub fn compiled_of(
         Ok(bytes) => Ok(bytes),
         Err(PlanError::Map(Error::OutOfMemory)) => Err(Failure::Memory),
         Err(error) => Err(failure_of(alloc, name, error)),
+    }
+}
+
+/// Whether a compiled map was made of this text, by the length and the SHA-256 that it has.
+fn is_of_text(map: &CompiledMap<'_>, text: &str) -> bool
+    ensures { IsTrue result ↔ (((compiled_in map.now).text_length ≡ length text.now)
+        × ((compiled_in map.now).stamp ≡ sha256 text.now)) }
+{
+    let stamp = Sha256::digest(text.as_bytes());
+    map.text_length() == text.len() as u64 && map.stamp() == stamp.as_slice()
+}
+
+/// Whether bytes are a compiled map that was made of another text than this one.
+pub fn is_stale(bytes: &[u8], text: &str) -> bool {
+    match CompiledMap::open(bytes) {
+        Ok(map) => !is_of_text(&map, text),
+        Err(_) => false,
     }
 }
 

@@ -12,7 +12,9 @@ mod progress;
 mod writing;
 
 pub use asked::{Asked, Status};
-pub use compiled::{COMPILED_END, Decompiled, Written, compiled_of, decompile, read_written};
+pub use compiled::{
+    COMPILED_END, Decompiled, Written, compiled_of, decompile, is_stale, read_written,
+};
 pub use finding::{
     CodeFile, InputPrefix, Lookup, MapText, Places, Sought, error_text, find_code,
     found_error_text, is_in_root, is_map, is_map_file, language_of, map_by_name, map_of_code,

@@ -4,9 +4,9 @@ use oxc_sourcemap_map::SourceMap;
 use oxc_sourcemap_text::TextPositions;
 use oxc_sourcemap_tokens::{Error, Token};
 use sourcemap_files::{
-    Asked, COMPILED_END, Decompiled, Lookup, MapText, Progress, Status, Written, decompile,
-    error_text, found_error_text, is_file, is_map_file, map_of_code, print, read_text,
-    read_written, shown_name, tell,
+    Asked, COMPILED_END, Decompiled, Lookup, MapText, Progress, Status, Written, compiled_of,
+    decompile, error_text, found_error_text, is_file, is_map_file, is_stale, map_of_code, print,
+    read_text, read_written, shown_name, tell,
 };
 use sourcemap_run::{push_object, push_text_member};
 use sourcemap_texts::{push_shown, push_visible};
@@ -328,11 +328,47 @@ pub fn objects_of(asked: &Asked<'_, '_>, map: &MapText, code: &str) -> Outcome<S
     Ok(report.out)
 }
 
-/// What is told of a map, beside its code if that is there.
+/// Tells whether a compiled map is another one than that of the text which it was made of.
+fn tell_different(report: &mut Report, bytes: &[u8], name: &str, text: &str) -> Outcome<()> {
+    let alloc = report.alloc;
+    let parts = match read_found_parts(alloc, text) {
+        Ok(FoundParts { parts, mends: _ }) => parts,
+        Err(error) => {
+            let why = found_error_text(alloc, text, error)?;
+            let told = format!(in alloc; "{name}: {why}")?;
+            return report.tell(Kind::Wrong, told.as_str());
+        }
+    };
+    if compiled_of(alloc, name, &parts, text)?.as_slice() == bytes {
+        return Ok(());
+    }
+    let told = format!(in alloc; "differs from {name}: compile it again")?;
+    report.tell(Kind::Wrong, told.as_str())
+}
+
+/// Tells whether a compiled map is that of the map beside it.
+fn tell_stale(rt: &HostRuntime, file: &str, bytes: &[u8], report: &mut Report) -> Outcome<()> {
+    let Some(name) = file.strip_suffix(COMPILED_END) else {
+        return Ok(());
+    };
+    if !is_file(rt, name) {
+        return Ok(());
+    }
+    let text = read_text(rt, name)?;
+    if !is_stale(bytes, text.as_str()) {
+        return tell_different(report, bytes, name, text.as_str());
+    }
+    let told = format!(in report.alloc; "stale: {name} has changed since: compile it again")?;
+    report.tell(Kind::Wrong, told.as_str())
+}
+
+/// What is told of a map, beside its code if that is there, and of a compiled one beside its map.
 fn check_as_map(rt: &HostRuntime, file: &str, map: &Written, report: &mut Report) -> Outcome<()> {
-    match code_of(rt, file)? {
-        Some(code) => check_map(report, map, Some(code.as_str())),
-        None => check_map(report, map, None),
+    let code = code_of(rt, file)?;
+    check_map(report, map, code.as_deref())?;
+    match map {
+        Written::Text(_) => Ok(()),
+        Written::Compiled(bytes) => tell_stale(rt, file, bytes.as_slice(), report),
     }
 }
 

@@ -143,7 +143,11 @@ const RESOLVE: Words = Words {
 const CHECK: Words = Words {
     about: "Tells what is wrong in maps, and what they hold",
     json: "An object a line: file, kind (wrong, note or summary), text",
-    words: &[Word("FILE", Kind::Files, "Maps, and codes whose maps are found")],
+    words: &[Word(
+        "FILE",
+        Kind::Files,
+        "Maps, and codes whose maps are found; compiled maps are compared with the maps beside them",
+    )],
 };
 
 const REMAP: Words = Words {

@@ -32,7 +32,7 @@ Examples:
   sourcemap bundle --wrap '(function () {' '})();' lib/*.js -o out.js";
 
 const COMPILE: &str =
-    "Each knows its map by the length and the SHA-256 of its text: see `sourcemap check`.
+    "A compiled map can be given wherever a map can. It has the length and the SHA-256 of the text of its map: `check` tells what is stale.
 
 Examples:
   sourcemap compile dist/*.js.map

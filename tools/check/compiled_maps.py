@@ -1,10 +1,15 @@
-"""What `sourcemap compile` writes; and that `check` tells what is not of its map. For tools/check/sourcemap."""
+"""What `sourcemap compile` writes; and that `check` and `resolve` tell what is not of its map, by its length, its time and its SHA-256.
+For tools/check/sourcemap."""
 
 import base64
 import hashlib
+import json
+import os
 import struct
 import tempfile
 from pathlib import Path
+
+STALE = "sourcemap: app.js.map.smc: is stale, so its map is read: compile that again\n"
 
 
 def made(run, check, folder, text):
@@ -22,11 +27,32 @@ def made(run, check, folder, text):
     return data
 
 
+def resolved(run, folder, text, age):
+    """By which map a frame is led back, and where, if the map has this text and is so much older than its compiled one; what is told."""
+    when = os.stat(Path(folder, "app.js.map.smc")).st_mtime - age
+    Path(folder, "app.js.map").write_text(text)
+    os.utime(Path(folder, "app.js.map"), (when, when))
+    _, out, err = run(["resolve", "--json"], folder, "f@app.js:1:14\n")
+    told = json.loads(out)
+    return told["map"], told["source"], err
+
+
 def tried(run, check, code, text):
+    other = text.replace("a.ts", "c.ts")
     with tempfile.TemporaryDirectory() as folder:
         Path(folder, "app.js").write_text(code)
         Path(folder, "app.js.map").write_text(text)
         data = made(run, check, folder, text)
+        for now, age, wanted in (
+            (text, 0, ("app.js.map.smc", "src/a.ts", "")),
+            (text, -60, ("app.js.map.smc", "src/a.ts", "")),
+            (other, 60, ("app.js.map.smc", "src/a.ts", "")),
+            (other, -60, ("app.js.map", "src/c.ts", STALE)),
+            (f"{text} ", 60, ("app.js.map", "src/a.ts", STALE)),
+        ):
+            found = resolved(run, folder, now, age)
+            check(found == wanted, f"a map {age} s older than its compiled one: {found}, not {wanted}")
+        Path(folder, "app.js.map").write_text(text)
         for damaged, wanted in (
             (data.replace(b"a.ts", b"e.ts"), "differs from app.js.map: compile it again"),
             (data[:-1], "a compiled source map has another length than it says"),

@@ -4,13 +4,15 @@ ghost use Rattle.oxc_sourcemap_parts.specs.Words.{record_of_parts, IsSound};
 ghost use Rattle.oxc_sourcemap_compiled.specs.Words.{AreBytesOf, checked_map, compiled_in};
 ghost use Rattle.sha2.specs.Sha256.{sha256};
 
-use crate::input::{read_bytes, text_in};
+use crate::input::{read_bytes, read_text, tell, text_in, warn};
 use oxc_sourcemap_compiled::{CompiledMap, compile};
 use oxc_sourcemap_parts::{SourceMapParts, are_sound, owned_parts};
 use oxc_sourcemap_tokens::{Error, PlanError};
 use sha2::{Digest, Sha256};
 use sourcemap_words::{Failure, Outcome, failure_of};
 use std::alloc::Global;
+use std::fs;
+use std::fs::Metadata;
 
 /// What the name of a compiled map has behind that of its map.
 pub const COMPILED_END: &str = ".smc";
@@ -48,6 +50,48 @@ pub fn is_stale(bytes: &[u8], text: &str) -> bool {
         Ok(map) => !is_of_text(&map, text),
         Err(_) => false,
     }
+}
+
+/// Whether a file was written last no earlier than another one; not if the system does not tell.
+fn is_no_older(a: &Metadata, b: &Metadata) -> bool {
+    match (a.modified(), b.modified()) {
+        (Ok(a), Ok(b)) => a.duration_since(b).is_ok(),
+        _ => false,
+    }
+}
+
+/// Whether the compiled map in this file is that of a map: it was made of a text as long as that has, and is no older, or knows the
+/// text by its SHA-256.
+fn is_fresh(rt: &HostRuntime, path: &str, map: &CompiledMap<'_>, of: &str) -> Outcome<bool> {
+    let (Ok(own), Ok(other)) = (fs::metadata(rt, path), fs::metadata(rt, of)) else {
+        return Ok(false);
+    };
+    if map.text_length() != other.len() {
+        return Ok(false);
+    }
+    Ok(is_no_older(&own, &other) || is_of_text(map, read_text(rt, of)?.as_str()))
+}
+
+/// The bytes of the compiled map in the file `path`, if it is that of the map in the file `of`. That it is stale, or cannot be
+/// read, is told as a warning.
+pub fn read_fresh(rt: &HostRuntime, path: &str, of: &str) -> Outcome<Option<Vec<u8>>> {
+    let bytes = match read_bytes(rt, path) {
+        Ok(bytes) => bytes,
+        Err(Failure::Told(why)) => {
+            tell(rt, why.as_str());
+            return Ok(None);
+        }
+        Err(failure) => return Err(failure),
+    };
+    let is_fresh = match CompiledMap::open(bytes.as_slice()) {
+        Ok(map) => is_fresh(rt, path, &map, of)?,
+        Err(_) => false,
+    };
+    if is_fresh {
+        return Ok(Some(bytes));
+    }
+    warn(rt, path, "is stale, so its map is read: compile that again");
+    Ok(None)
 }
 
 /// What a file holds that has a map.

@@ -1,5 +1,5 @@
 //! Finding the map of a code.
-use crate::compiled::{Decompiled, Written, decompile, read_written};
+use crate::compiled::{COMPILED_END, Decompiled, Written, decompile, read_fresh, read_written};
 use crate::finding::matching::{Below, CodePath, Files, Found as Match, InputPrefix, named_prefix};
 use crate::input::{is_file, shown_name, warn};
 use crate::paths::{
@@ -25,6 +25,8 @@ pub struct Places<'a> {
     pub outside: bool,
     /// Where codes lie that engines name by paths with these prefixes.
     pub prefixes: &'a [Prefix],
+    /// Whether the compiled map beside a map is read in its place.
+    pub takes_compiled: bool,
 }
 
 /// More bytes than a path may have.
@@ -64,14 +66,29 @@ fn may_read(rt: &HostRuntime, path: &str, code: &str, places: Places<'_>) -> boo
     places.outside || is_inside(rt, path, places.root) || is_inside(rt, path, folder_of(code))
 }
 
-fn map_text(rt: &HostRuntime, path: &str) -> Outcome<Lookup> {
-    let alloc = rt.alloc();
+/// The map in a file.
+fn map_in(alloc: Global, path: &str, written: Written) -> Result<Lookup, AllocError> {
     Ok(Lookup::Map(MapText {
         name: String::from_str(alloc, path)?,
         folder: String::from_str(alloc, folder_of(path))?,
         is_file: true,
-        written: read_written(rt, path)?,
+        written,
     }))
+}
+
+/// The map in a file; or its compiled form, where that is taken, lies beside it, and is fresh.
+fn map_text(rt: &HostRuntime, path: &str, places: Places<'_>) -> Outcome<Lookup> {
+    let alloc = rt.alloc();
+    let beside = format!(in alloc; "{path}{COMPILED_END}")?;
+    let beside = beside.as_str();
+    if places.takes_compiled
+        && is_file(rt, beside)
+        && may_read(rt, beside, path, places)
+        && let Some(bytes) = read_fresh(rt, beside, path)?
+    {
+        return Ok(map_in(alloc, beside, Written::Compiled(bytes))?);
+    }
+    Ok(map_in(alloc, path, read_written(rt, path)?)?)
 }
 
 /// The file in the root that a path from the root of a host names.
@@ -143,7 +160,7 @@ fn map_at_url(rt: &HostRuntime, code: &str, url: &str, places: Places<'_>) -> Ou
             "{code} names the map {path}, outside of the root: allow it by --outside"
         )?));
     }
-    map_text(rt, path.as_str())
+    map_text(rt, path.as_str(), places)
 }
 
 /// The map that a code names.
@@ -168,7 +185,7 @@ pub fn map_in_maps(rt: &HostRuntime, code: &str, places: Places<'_>) -> Outcome<
     };
     let path = format!(in rt.alloc(); "{maps}{}.map", file_name(code))?;
     if is_file(rt, path.as_str()) && is_inside(rt, path.as_str(), maps) {
-        return Ok(Some(map_text(rt, path.as_str())?));
+        return Ok(Some(map_text(rt, path.as_str(), places)?));
     }
     Ok(None)
 }
@@ -178,7 +195,7 @@ fn map_beside(rt: &HostRuntime, code: &str, places: Places<'_>) -> Outcome<Optio
     let beside = format!(in rt.alloc(); "{code}.map")?;
     let beside = beside.as_str();
     if code != "-" && is_file(rt, beside) && may_read(rt, beside, code, places) {
-        return Ok(Some(map_text(rt, beside)?));
+        return Ok(Some(map_text(rt, beside, places)?));
     }
     map_in_maps(rt, code, places)
 }
@@ -228,7 +245,7 @@ pub fn map_without_code(
     let beside = format!(in rt.alloc(); "{code}.map")?;
     let beside = beside.as_str();
     if is_file(rt, beside) && is_in_root(rt, beside, places) {
-        return Ok(Some(map_text(rt, beside)?));
+        return Ok(Some(map_text(rt, beside, places)?));
     }
     map_in_maps(rt, code, places)
 }

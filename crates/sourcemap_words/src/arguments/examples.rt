@@ -32,7 +32,8 @@ Examples:
   sourcemap bundle --wrap '(function () {' '})();' lib/*.js -o out.js";
 
 const COMPILE: &str =
-    "A compiled map can be given wherever a map can. It has the length and the SHA-256 of the text of its map: `check` tells what is stale.
+    "A compiled map can be given wherever a map can, and `resolve` takes one that lies beside its map. What is stale is told, by `check`
+too: it has the length and the SHA-256 of the text of its map.
 
 Examples:
   sourcemap compile dist/*.js.map

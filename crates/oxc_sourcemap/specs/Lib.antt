@@ -51,8 +51,8 @@ pub use Rattle.oxc_sourcemap_compiled.specs.CompiledMessages
 pub use Rattle.oxc_sourcemap_queries.specs.RangePieces
 pub use Rattle.oxc_sourcemap_queries.specs.RangeLaws
 pub use Rattle.oxc_sourcemap_queries.specs.Differences
-pub use Rattle.oxc_sourcemap_steps.specs.Sorting
-pub use Rattle.oxc_sourcemap_steps.specs.SortLaws
+pub use Rattle.oxc_sourcemap_lookup.specs.Sorting
+pub use Rattle.oxc_sourcemap_lookup.specs.SortLaws
 pub use Rattle.oxc_sourcemap_json.specs.JsonRecord
 pub use Rattle.oxc_sourcemap_json.specs.Shape
 pub use Rattle.oxc_sourcemap_json.specs.JsonString

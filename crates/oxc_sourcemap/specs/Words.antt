@@ -51,8 +51,8 @@ pub use Rattle.oxc_sourcemap_parts.specs.DecodedMap.{DecodedMap, decoded_map_of}
 pub use Rattle.oxc_sourcemap_parts.specs.Record.{MapRecord, Text}
 pub use Rattle.oxc_sourcemap_parts.specs.Roots.{rooted}
 pub use Rattle.oxc_sourcemap_steps.specs.Simplified.{simplified, simplification}
-pub use Rattle.oxc_sourcemap_steps.specs.Sorting.{sorted_by, sorted_tokens, sorted_map}
-pub use Rattle.oxc_sourcemap_steps.specs.Sorting.{sorted_decoded_map}
+pub use Rattle.oxc_sourcemap_lookup.specs.Sorting.{sorted_by, sorted_tokens, sorted_map}
+pub use Rattle.oxc_sourcemap_lookup.specs.Sorting.{sorted_decoded_map}
 pub use Rattle.oxc_sourcemap_parts.specs.Sorted.{are_tokens_sorted, token_column}
 pub use Rattle.oxc_sourcemap_parts.specs.Sound.{IsSound}
 pub use Rattle.oxc_sourcemap_parts.specs.Texts.{index_of}

@@ -4,7 +4,7 @@ use Rattle.oxc_sourcemap_tokens.specs.Results.{lent_items}
 use Rattle.oxc_sourcemap_parts.specs.Record.{MapRecord}
 use Rattle.oxc_sourcemap_parts.specs.Roots.{rooted}
 use Rattle.oxc_sourcemap_parts.specs.Sorted.{are_tokens_sorted}
-use Rattle.oxc_sourcemap_steps.specs.Sorting.{sorted_map}
+use Rattle.oxc_sourcemap_lookup.specs.Sorting.{sorted_map}
 use Rattle.oxc_sourcemap_steps.specs.Simplified.{simplification}
 use Rattle.oxc_sourcemap_handles.specs.declared.numbers.call_error.CallError.{CallError}
 use Rattle.oxc_sourcemap_handles.specs.declared.numbers.call_error.CallError.TheVariants.{NullHandle}

@@ -56,7 +56,7 @@ pub use Rattle.oxc_sourcemap_tokens.specs.declared.errors.error.Error.TheVariant
 pub use Rattle.oxc_sourcemap_map.specs.View.{content_at}
 pub use Rattle.oxc_sourcemap_parts.specs.Roots.{rooted}
 pub use Rattle.oxc_sourcemap_steps.specs.Simplified.{simplification}
-pub use Rattle.oxc_sourcemap_steps.specs.Sorting.{sorted_map}
+pub use Rattle.oxc_sourcemap_lookup.specs.Sorting.{sorted_map}
 pub use Rattle.oxc_sourcemap_c.specs.Answers.{IsTraced, IsFlagOf, IsFound, flag_of, known_flag}
 pub use Rattle.oxc_sourcemap_c.specs.Answers.{known_flags}
 pub use Rattle.oxc_sourcemap_c.specs.Answers.{text_at}

@@ -22,7 +22,7 @@ use Rattle.oxc_sourcemap_tokens.specs.declared.position.Position.{Position}
 use Rattle.oxc_sourcemap_tokens.specs.Token.{TokenRecord, last}
 use Rattle.oxc_sourcemap_parts.specs.Record.{Text, MapRecord}
 use Rattle.oxc_sourcemap_parts.specs.Sorted.{are_tokens_sorted, may_precede}
-use Rattle.oxc_sourcemap_steps.specs.Sorting.{sorted_tokens, sorted_map}
+use Rattle.oxc_sourcemap_lookup.specs.Sorting.{sorted_tokens, sorted_map}
 use Rattle.oxc_sourcemap_json.specs.Shape.{◌>>=◌, or_misshapen, shape, file_of, present}
 use Rattle.oxc_sourcemap_json.specs.Decoded.{decoded, json_fault, with_tokens, decoded_record}
 use Rattle.oxc_sourcemap_json.specs.Section.{is_indexed, offset_in, map_in}

@@ -16,8 +16,8 @@ use Rattle.oxc_sourcemap_parts.specs.Sorted.{token_column}
 use Rattle.oxc_sourcemap_parts.specs.Sound.{IsInRange, AreIdsInRange, IsSound}
 use Rattle.oxc_sourcemap_json.specs.JsonRecord.{JsonRecord}
 use Rattle.oxc_sourcemap_json.specs.Shape.{◌>>=◌, shape}
-use Rattle.oxc_sourcemap_steps.specs.Sorting.{put_in, sorted_tokens, sorted_map}
-use Rattle.oxc_sourcemap_steps.proofs.Sorting.{sorted-once}
+use Rattle.oxc_sourcemap_lookup.specs.Sorting.{put_in, sorted_tokens, sorted_map}
+use Rattle.oxc_sourcemap_lookup.proofs.Sorting.{sorted-once}
 use Rattle.oxc_sourcemap_json.specs.Decoded.{decoded_record, with_tokens, json_fault, decoded}
 use Rattle.oxc_sourcemap_json.specs.Decoded.{ignore_list_fault}
 use Rattle.oxc_sourcemap_json.proofs.ReadSound.{decoded-well}

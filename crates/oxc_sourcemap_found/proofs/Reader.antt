@@ -19,7 +19,7 @@ use Rattle.oxc_sourcemap_json.specs.Section.{is_indexed}
 use Rattle.oxc_sourcemap_json.specs.Sections.{Sections, all_sections, joined_sections}
 use Rattle.oxc_sourcemap_json.specs.ReadMap.{sections_in, indexed_form, indexed_record, map_of_form}
 use Rattle.oxc_sourcemap_json.specs.ReadMap.{read_value, read_map}
-use Rattle.oxc_sourcemap_steps.specs.Sorting.{sorted_tokens, sorted_map}
+use Rattle.oxc_sourcemap_lookup.specs.Sorting.{sorted_tokens, sorted_map}
 use Rattle.oxc_sourcemap_found.specs.declared.mending.mend.Mend.{Mend}
 use Rattle.oxc_sourcemap_found.specs.declared.mending.mend.MendKind.TheVariants.{Unsorted}
 use Rattle.oxc_sourcemap_found.specs.Mended.{MendedMembers, with_version, as_found, changed}

@@ -4,7 +4,7 @@ use Rattle.serde_json.specs.Data.{Members}
 use Rattle.oxc_sourcemap_parts.specs.Record.{Text, MapRecord}
 use Rattle.oxc_sourcemap_parts.specs.Sorted.{are_tokens_sorted}
 use Rattle.oxc_sourcemap_parts.specs.Sound.{IsSound}
-use Rattle.oxc_sourcemap_steps.specs.Sorting.{sorted_map}
+use Rattle.oxc_sourcemap_lookup.specs.Sorting.{sorted_map}
 use Rattle.oxc_sourcemap_json.specs.ReadMap.{read_map}
 use Rattle.oxc_sourcemap_found.specs.Mended.{mended_members}
 use Rattle.oxc_sourcemap_found.specs.FoundMaps.{FoundRecord, found, order_mends}

@@ -13,7 +13,7 @@ use Rattle.oxc_sourcemap_tokens.specs.Token.{TokenRecord}
 use Rattle.oxc_sourcemap_parts.specs.Record.{Text, MapRecord}
 use Rattle.oxc_sourcemap_parts.specs.Sorted.{are_tokens_sorted}
 use Rattle.oxc_sourcemap_json.specs.Shape.{◌>>=◌, or_misshapen, file_of}
-use Rattle.oxc_sourcemap_steps.specs.Sorting.{sorted_map}
+use Rattle.oxc_sourcemap_lookup.specs.Sorting.{sorted_map}
 use Rattle.oxc_sourcemap_json.specs.Section.{is_indexed}
 use Rattle.oxc_sourcemap_json.specs.Sections.{joined_sections}
 use Rattle.oxc_sourcemap_json.specs.ReadMap.{sections_in, indexed_record}

@@ -10,7 +10,7 @@ pub use Rattle.oxc_sourcemap_json.specs.Members.{lent_member}
 pub use Rattle.oxc_sourcemap_json.specs.Shape.{present}
 pub use Rattle.oxc_sourcemap_json.specs.ShapeSpots.{misshapen}
 pub use Rattle.oxc_sourcemap_parts.specs.Views.{record_of_parts}
-pub use Rattle.oxc_sourcemap_steps.specs.Sorting.{sorted_map}
+pub use Rattle.oxc_sourcemap_lookup.specs.Sorting.{sorted_map}
 pub use Rattle.oxc_sourcemap_tokens.specs.Places.{Reads, Locates, no_place}
 pub use Rattle.oxc_sourcemap_tokens.specs.Results.{Answers, OnlyMemory, lent_item}
 pub use Rattle.oxc_sourcemap_tokens.specs.declared.errors.error.Error.TheVariants.{OutOfMemory}

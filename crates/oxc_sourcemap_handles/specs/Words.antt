@@ -7,7 +7,7 @@ pub use Rattle.oxc_sourcemap_parts.specs.Sorted.{are_tokens_sorted}
 pub use Rattle.oxc_sourcemap_map.specs.Orders.{IsSourceOrderOf}
 pub use Rattle.oxc_sourcemap_map.specs.Reverse.{index_fault}
 pub use Rattle.oxc_sourcemap_steps.specs.Simplified.{simplification}
-pub use Rattle.oxc_sourcemap_steps.specs.Sorting.{sorted_map}
+pub use Rattle.oxc_sourcemap_lookup.specs.Sorting.{sorted_map}
 pub use Rattle.oxc_sourcemap_tokens.specs.LineOrder.{IsInLineOrder}
 pub use Rattle.oxc_sourcemap_tokens.specs.Results.{FailsBy, OnlyMemory, Reports, lent_item}
 pub use Rattle.oxc_sourcemap_tokens.specs.Results.{lent_items}

@@ -13,3 +13,8 @@ pub mod OwnTables
 pub mod Picks
 pub mod Traces
 mod Worked
+pub mod Sorting
+pub mod SortUnique
+pub mod Stable
+pub mod SortedLookups
+mod SortWorked

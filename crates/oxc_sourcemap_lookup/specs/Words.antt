@@ -18,3 +18,7 @@ pub use Rattle.oxc_sourcemap_lookup.specs.Lookup.{no_column_goes_back, tokens_by
 pub use Rattle.oxc_sourcemap_lookup.specs.Lookup.{line_table, slice_of, at_or_after, index_at}
 pub use Rattle.oxc_sourcemap_lookup.specs.Lookup.{clamped_index_at, index_at_or_after, index_for}
 pub use Rattle.oxc_sourcemap_lookup.specs.Lookup.{clamped_index_for, index_after, index_before}
+pub use Rattle.oxc_sourcemap_lookup.specs.Sorting.{sorted_tokens, sorted_map}
+pub use Rattle.oxc_sourcemap_lookup.specs.SortLaws.{TokensAreSorted, TokensAreKept, LookupsStay}
+pub use Rattle.oxc_sourcemap_lookup.specs.SortLaws.{SortedThenFiltered, DecodedMapOfSorted}
+pub use Rattle.oxc_sourcemap_parts.specs.Views.{record_of_parts}

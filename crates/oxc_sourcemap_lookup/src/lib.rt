@@ -7,6 +7,7 @@ mod columns;
 mod line_index;
 mod lookup;
 mod near;
+mod sort;
 
 pub use bias::{Bias, Traced};
 pub use line_index::{LineIndex, UsualIndex};
@@ -15,3 +16,4 @@ pub use lookup::{
     search_index_after, search_index_clamped, slice_of,
 };
 pub use near::{Near, lookup_near};
+pub use sort::{sort_parts, sorting_harmless};

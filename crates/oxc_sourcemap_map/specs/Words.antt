@@ -17,7 +17,7 @@ pub use Rattle.oxc_sourcemap_lookup.specs.Lookup.{at_or_after, token_after, inde
 pub use Rattle.oxc_sourcemap_lookup.specs.Lookup.{clamped_index_for, index_after}
 pub use Rattle.oxc_sourcemap_parts.specs.DecodedMap.{decoded_map_of}
 pub use Rattle.oxc_sourcemap_parts.specs.Roots.{rooted}
-pub use Rattle.oxc_sourcemap_steps.specs.Sorting.{sorted_map}
+pub use Rattle.oxc_sourcemap_lookup.specs.Sorting.{sorted_map}
 pub use Rattle.oxc_sourcemap_parts.specs.Sorted.{are_tokens_sorted, token_column}
 pub use Rattle.oxc_sourcemap_parts.specs.Sound.{IsSound}
 pub use Rattle.oxc_sourcemap_parts.specs.Views.{record_of_parts, empty_record, text_of, texts_of}

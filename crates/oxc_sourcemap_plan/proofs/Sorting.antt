@@ -37,10 +37,10 @@ use Rattle.oxc_sourcemap_laws.proofs.DroppingRepeats.{blind_without_repeats, bli
 use Rattle.oxc_sourcemap_laws.proofs.Same.{decides_entry}
 use Rattle.oxc_sourcemap_laws.proofs.Sections.{from-sections, joined-of}
 use Rattle.oxc_sourcemap_laws.proofs.UpToRepeats.{matches, up_to_repeats}
-use Rattle.oxc_sourcemap_steps.specs.Sorting.{put_in, sorted_by, sorted_tokens, sorted_map}
-use Rattle.oxc_sourcemap_steps.specs.Sorting.{sorted_decoded_map}
-use Rattle.oxc_sourcemap_steps.proofs.Sorting.{precedes, sorted-once}
-use Rattle.oxc_sourcemap_steps.proofs.Lookups.{decoded-sorted}
+use Rattle.oxc_sourcemap_lookup.specs.Sorting.{put_in, sorted_by, sorted_tokens, sorted_map}
+use Rattle.oxc_sourcemap_lookup.specs.Sorting.{sorted_decoded_map}
+use Rattle.oxc_sourcemap_lookup.proofs.Sorting.{precedes, sorted-once}
+use Rattle.oxc_sourcemap_lookup.proofs.SortedLookups.{decoded-sorted}
 use Rattle.oxc_sourcemap_tokens.specs.declared.errors.plan_error.PlanError.TheVariants.{Map}
 use Rattle.oxc_sourcemap_plan.specs.Outcome.{sorted_form_outcome, sorted_outcome}
 use Rattle.oxc_sourcemap_plan.specs.Outcome.{sorted_plain_outcome}

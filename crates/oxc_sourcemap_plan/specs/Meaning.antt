@@ -7,7 +7,7 @@ use Rattle.oxc_sourcemap_tokens.specs.declared.errors.error.Error.TheVariants.{S
 use Rattle.oxc_sourcemap_parts.specs.Record.{Text, MapRecord}
 use Rattle.oxc_sourcemap_parts.specs.Sorted.{are_tokens_sorted}
 use Rattle.oxc_sourcemap_parts.specs.DecodedMap.{DecodedMap, decoded_map_of}
-use Rattle.oxc_sourcemap_steps.specs.Sorting.{sorted_decoded_map}
+use Rattle.oxc_sourcemap_lookup.specs.Sorting.{sorted_decoded_map}
 use Rattle.oxc_sourcemap_tokens.specs.declared.position.Position.{Position}
 use Rattle.oxc_sourcemap_join.specs.Joined.{at_lines, at_positions}
 use Rattle.oxc_sourcemap_json.specs.ReadMap.{ReadForm, plain, indexed, form_of_text}

@@ -12,7 +12,7 @@ use Rattle.oxc_sourcemap_laws.specs.MapLaws.{rewritten}
 use Rattle.oxc_sourcemap_steps.specs.Composed.{composed}
 use Rattle.oxc_sourcemap_steps.specs.Remapped.{remapped}
 use Rattle.oxc_sourcemap_steps.specs.Simplified.{simplified}
-use Rattle.oxc_sourcemap_steps.specs.Sorting.{sorted_map}
+use Rattle.oxc_sourcemap_lookup.specs.Sorting.{sorted_map}
 use Rattle.oxc_sourcemap_tokens.specs.declared.position.Position.{Position}
 use Rattle.oxc_sourcemap_join.specs.Joined.{at_lines, at_positions, joined}
 use Rattle.oxc_sourcemap_json.specs.ReadMap.{ReadForm, plain, indexed, indexed_record, form_of_text}

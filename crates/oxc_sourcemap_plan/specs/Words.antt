@@ -1,7 +1,7 @@
 -- The words of this crate's clauses, from one place.
 pub use Rattle.oxc_sourcemap_join.specs.Joined.{at_lines, at_positions, owned_records}
 pub use Rattle.oxc_sourcemap_parts.specs.Record.{Text}
-pub use Rattle.oxc_sourcemap_steps.specs.Sorting.{sorted_map}
+pub use Rattle.oxc_sourcemap_lookup.specs.Sorting.{sorted_map}
 pub use Rattle.oxc_sourcemap_steps.specs.Inputs.{owned_input_records}
 pub use Rattle.oxc_sourcemap_parts.specs.Sorted.{are_tokens_sorted}
 pub use Rattle.oxc_sourcemap_parts.specs.Views.{record_of_parts}

@@ -22,9 +22,8 @@ use oxc_sourcemap_laws::{
     rooting_idempotent, simplifying_stands,
 };
 use oxc_sourcemap_parts::{SourceMapParts, apply_root, are_sorted};
-use oxc_sourcemap_steps::{
-    compose_parts, remap_owned_parts, simplify_parts, simplifying_harmless, sort_parts,
-};
+use oxc_sourcemap_steps::{compose_parts, remap_owned_parts, simplify_parts, simplifying_harmless};
+use oxc_sourcemap_lookup::sort_parts;
 use oxc_sourcemap_tokens::{Memory, PlanError, Position};
 use std::alloc::Global;
 

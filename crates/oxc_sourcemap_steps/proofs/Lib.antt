@@ -4,11 +4,6 @@ pub mod Targets
 pub mod Replaced
 pub mod Compositions
 mod ComposeWorked
-pub mod Sorting
-pub mod SortUnique
-pub mod Stable
-pub mod Lookups
-mod SortWorked
 pub mod Indices
 pub mod NeededNames
 pub mod Flags

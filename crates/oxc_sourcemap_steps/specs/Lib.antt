@@ -1,8 +1,6 @@
 pub mod Composed
 pub mod InheritedNames
 pub mod InheritSteps
-pub mod Sorting
-pub mod SortLaws
 pub mod Inputs
 pub mod Blocks
 pub mod Remapped

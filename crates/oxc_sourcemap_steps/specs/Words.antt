@@ -55,6 +55,3 @@ pub use Rattle.oxc_sourcemap_steps.specs.SimplifySteps.{IsSourceBelow, AreWithin
 pub use Rattle.oxc_sourcemap_steps.specs.SimplifySteps.{AreTooMany, shifted_token, position_of}
 pub use Rattle.oxc_sourcemap_steps.specs.SimplifySteps.{listed_once, with_places, with_places_of}
 pub use Rattle.oxc_sourcemap_steps.specs.SimplifySteps.{IsNewId, AreIds, IsSimple}
-pub use Rattle.oxc_sourcemap_steps.specs.Sorting.{sorted_tokens, sorted_map}
-pub use Rattle.oxc_sourcemap_steps.specs.SortLaws.{TokensAreSorted, TokensAreKept, LookupsStay}
-pub use Rattle.oxc_sourcemap_steps.specs.SortLaws.{SortedThenFiltered, DecodedMapOfSorted}

@@ -4,9 +4,7 @@
 mod compose;
 mod remap;
 mod simplify;
-mod sort;
 
 pub use compose::{compose_lent_parts, compose_parts};
 pub use remap::{AsParts, remap_owned_parts, remap_parts, remap_through_owned_parts};
 pub use simplify::{simplify_parts, simplifying_harmless};
-pub use sort::{sort_parts, sorting_harmless};

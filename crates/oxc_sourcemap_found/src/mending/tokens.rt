@@ -9,7 +9,7 @@ ghost use Rattle.oxc_sourcemap_found.specs.Words.{sorted_map};
 
 use crate::mending::mend::{Mend, MendKind};
 use oxc_sourcemap_parts::{SourceMapParts, are_sorted};
-use oxc_sourcemap_steps::sort_parts;
+use oxc_sourcemap_lookup::sort_parts;
 use oxc_sourcemap_tokens::{Memory, Token};
 use std::alloc::Global;
 

@@ -24,7 +24,7 @@ use oxc_sourcemap_parts::{
     Contents, Names, SourceMapParts, Sources, Tokens, apply_root, are_sorted, are_sound,
     contents_in, owned_contents, owned_parts, owned_texts, texts_in, tokens_in,
 };
-use oxc_sourcemap_steps::sort_parts;
+use oxc_sourcemap_lookup::sort_parts;
 use oxc_sourcemap_tokens::{Result, Token, TokenChunk};
 use std::alloc::Global;
 use std::borrow::CowStr;

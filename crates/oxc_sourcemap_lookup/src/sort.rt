@@ -2,11 +2,11 @@
 
 ghost use Rattle.std.specs.Prelude.{◌≡◌, true, IsOk, OnOk, OnErr};
 ghost use Rattle.std.specs.Box.{boxed_slice_items};
-ghost use Rattle.oxc_sourcemap_steps.specs.Words.{are_tokens_sorted, record_of_parts, sorted_map};
-ghost use Rattle.oxc_sourcemap_steps.specs.Words.{sorted_tokens, TokensAreSorted, TokensAreKept};
-ghost use Rattle.oxc_sourcemap_steps.specs.Words.{SortedThenFiltered, LookupsStay};
-ghost use Rattle.oxc_sourcemap_steps.specs.Words.{DecodedMapOfSorted};
-ghost use Rattle.oxc_sourcemap_steps.specs.SortLaws.{TracesStay};
+ghost use Rattle.oxc_sourcemap_lookup.specs.Words.{are_tokens_sorted, record_of_parts, sorted_map};
+ghost use Rattle.oxc_sourcemap_lookup.specs.Words.{sorted_tokens, TokensAreSorted, TokensAreKept};
+ghost use Rattle.oxc_sourcemap_lookup.specs.Words.{SortedThenFiltered, LookupsStay};
+ghost use Rattle.oxc_sourcemap_lookup.specs.Words.{DecodedMapOfSorted};
+ghost use Rattle.oxc_sourcemap_lookup.specs.SortLaws.{TracesStay};
 
 use oxc_sourcemap_parts::{SourceMapParts, are_sorted};
 use oxc_sourcemap_tokens::{Memory, Token};

@@ -7,7 +7,7 @@ use Rattle.oxc_sourcemap_parts.specs.Sorted.{are_tokens_sorted, token_line, toke
 use Rattle.oxc_sourcemap_parts.specs.DecodedMap.{DecodedMap, decoded_map_of}
 use Rattle.oxc_sourcemap_lookup.specs.Lookup.{first, on_line, token_for, clamped_token_for}
 use Rattle.oxc_sourcemap_lookup.specs.Trace.{trace}
-use Rattle.oxc_sourcemap_steps.specs.Sorting.{sorted_tokens, sorted_map, sorted_decoded_map}
+use Rattle.oxc_sourcemap_lookup.specs.Sorting.{sorted_tokens, sorted_map, sorted_decoded_map}
 
 -- the items at a position, in their order
 abbrev pub at_position : {A : Type 0} → (A → ℕ) → (A → ℕ) → ℕ → ℕ → List A → List A

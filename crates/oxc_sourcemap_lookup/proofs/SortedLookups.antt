@@ -15,9 +15,9 @@ use Rattle.oxc_sourcemap_parts.specs.DecodedMap.{mapping_column}
 use Rattle.oxc_sourcemap_lookup.specs.Lookup.{first, greatest, not_past, in_column, at, on_line}
 use Rattle.oxc_sourcemap_lookup.specs.Lookup.{pick, clamped_pick}
 use Rattle.oxc_sourcemap_lookup.specs.Trace.{trace}
-use Rattle.oxc_sourcemap_steps.specs.Sorting.{put_in, sorted_by, sorted_tokens, sorted_map}
-use Rattle.oxc_sourcemap_steps.specs.Sorting.{sorted_decoded_map}
-use Rattle.oxc_sourcemap_steps.proofs.Sorting.{precedes, both, filter-sorted, sorted-stays}
+use Rattle.oxc_sourcemap_lookup.specs.Sorting.{put_in, sorted_by, sorted_tokens, sorted_map}
+use Rattle.oxc_sourcemap_lookup.specs.Sorting.{sorted_decoded_map}
+use Rattle.oxc_sourcemap_lookup.proofs.Sorting.{precedes, both, filter-sorted, sorted-stays}
 
 on-one : (a b c d n k : ℕ) → (a == n) ≡ true → (b == k) ≡ true → (c == n) ≡ true → (d == k) ≡ true → precedes a b c d ≡ true
 on-one a b c d n k e f g h = grind (arith, nat_tests, e, f, g, h)

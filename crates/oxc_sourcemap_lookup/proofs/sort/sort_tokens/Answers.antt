@@ -1,8 +1,8 @@
 use Rattle.std.proofs.Common.{rules}
 use Rattle.std.proofs.lemmas.List.Sorted.{answers_always}
 use Rattle.std.proofs.lemmas.Result.{on_ok_weaker}
-use Rattle.oxc_sourcemap_steps.proofs.Stable.{stable-is-sorted}
-use Rattle.oxc_sourcemap_steps.proofs.sort.sort_tokens.Goals as goal
+use Rattle.oxc_sourcemap_lookup.proofs.Stable.{stable-is-sorted}
+use Rattle.oxc_sourcemap_lookup.proofs.sort.sort_tokens.Goals as goal
 
 pub returns-clause-sorted : goal.returns-clause-sorted
 returns-clause-sorted c =

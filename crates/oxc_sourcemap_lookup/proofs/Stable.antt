@@ -7,9 +7,9 @@ use Rattle.std.proofs.lemmas.Bool.Decides.{nat_tests}
 use Rattle.std.proofs.lemmas.List.Elements.{filter_agree}
 use Rattle.oxc_sourcemap_tokens.specs.Token.{TokenRecord}
 use Rattle.oxc_sourcemap_parts.specs.Sorted.{may_precede, is_sorted_by, token_line, token_column}
-use Rattle.oxc_sourcemap_steps.specs.Sorting.{sorted_tokens}
-use Rattle.oxc_sourcemap_steps.proofs.Sorting.{precedes, both}
-use Rattle.oxc_sourcemap_steps.proofs.SortUnique.{is-sorted}
+use Rattle.oxc_sourcemap_lookup.specs.Sorting.{sorted_tokens}
+use Rattle.oxc_sourcemap_lookup.proofs.Sorting.{precedes, both}
+use Rattle.oxc_sourcemap_lookup.proofs.SortUnique.{is-sorted}
 
 -- the order of keys: a line, and a column
 abbrev pub is_before : ℕ → ℕ → ℕ → ℕ → Bool

@@ -1,12 +1,12 @@
 use Rattle.oxc_sourcemap_parts.specs.Sorted.{are_tokens_sorted, token_line, token_column}
-use Rattle.oxc_sourcemap_steps.proofs.Sorting.{sorted-once, sorted-stays, position-kept}
-use Rattle.oxc_sourcemap_steps.proofs.Sorting.{filter-sorted}
-use Rattle.oxc_sourcemap_steps.proofs.SortUnique.{is-sorted}
-use Rattle.oxc_sourcemap_steps.proofs.Lookups.{pick-sorted, clamped-sorted, decoded-sorted}
-use Rattle.oxc_sourcemap_steps.proofs.Lookups.{trace-sorted}
-use Rattle.oxc_sourcemap_steps.specs.SortLaws.{at_position}
+use Rattle.oxc_sourcemap_lookup.proofs.Sorting.{sorted-once, sorted-stays, position-kept}
+use Rattle.oxc_sourcemap_lookup.proofs.Sorting.{filter-sorted}
+use Rattle.oxc_sourcemap_lookup.proofs.SortUnique.{is-sorted}
+use Rattle.oxc_sourcemap_lookup.proofs.SortedLookups.{pick-sorted, clamped-sorted, decoded-sorted}
+use Rattle.oxc_sourcemap_lookup.proofs.SortedLookups.{trace-sorted}
+use Rattle.oxc_sourcemap_lookup.specs.SortLaws.{at_position}
 use Rattle.std.proofs.Common.{◌∙◌, ap}
-use Rattle.oxc_sourcemap_steps.proofs.sort.sorting_harmless.Goals as goal
+use Rattle.oxc_sourcemap_lookup.proofs.sort.sorting_harmless.Goals as goal
 
 pub returns : goal.returns
 returns c = record {

@@ -3,10 +3,10 @@ use Rattle.std.proofs.Common.{◌≡◌, ℕ, Bool, true, false, cond, ◌&&◌,
 use Rattle.std.proofs.Common.{ap, ◌∙◌, subst, arith}
 use Rattle.std.proofs.lemmas.Bool.Decides.{nat_tests}
 use Rattle.oxc_sourcemap_parts.specs.Sorted.{is_sorted_by}
-use Rattle.oxc_sourcemap_steps.specs.Sorting.{sorted_by}
-use Rattle.oxc_sourcemap_steps.specs.SortLaws.{at_position}
-use Rattle.oxc_sourcemap_steps.proofs.Sorting.{precedes, trans-at, sorted-tail, sorted-first}
-use Rattle.oxc_sourcemap_steps.proofs.Sorting.{sorted-once, position-kept}
+use Rattle.oxc_sourcemap_lookup.specs.Sorting.{sorted_by}
+use Rattle.oxc_sourcemap_lookup.specs.SortLaws.{at_position}
+use Rattle.oxc_sourcemap_lookup.proofs.Sorting.{precedes, trans-at, sorted-tail, sorted-first}
+use Rattle.oxc_sourcemap_lookup.proofs.Sorting.{sorted-once, position-kept}
 
 itself : (a b : ℕ) → (a == a && b == b) ≡ true
 itself a b = grind (arith, nat_tests)

@@ -5,8 +5,8 @@ use Rattle.std.specs.List.{filter}
 use Rattle.std.proofs.lemmas.Bool.{and_parts}
 use Rattle.std.proofs.lemmas.Bool.Decides.{nat_tests}
 use Rattle.oxc_sourcemap_parts.specs.Sorted.{may_precede, is_sorted_by}
-use Rattle.oxc_sourcemap_steps.specs.Sorting.{put_in, sorted_by}
-use Rattle.oxc_sourcemap_steps.specs.SortLaws.{at_position}
+use Rattle.oxc_sourcemap_lookup.specs.Sorting.{put_in, sorted_by}
+use Rattle.oxc_sourcemap_lookup.specs.SortLaws.{at_position}
 
 -- a position before another, or equal to it
 abbrev pub precedes : ℕ → ℕ → ℕ → ℕ → Bool

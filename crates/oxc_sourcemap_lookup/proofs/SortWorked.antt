@@ -4,7 +4,7 @@ use Rattle.oxc_sourcemap_tokens.specs.Token.{TokenRecord}
 use Rattle.oxc_sourcemap_parts.specs.Record.{MapRecord}
 use Rattle.oxc_sourcemap_parts.specs.Views.{empty_record}
 use Rattle.oxc_sourcemap_lookup.specs.Lookup.{token_for, clamped_token_for}
-use Rattle.oxc_sourcemap_steps.specs.Sorting.{sorted_tokens, sorted_map}
+use Rattle.oxc_sourcemap_lookup.specs.Sorting.{sorted_tokens, sorted_map}
 
 -- a token at a generated line and column, with a source line that tells it from others
 abbrev token : ℕ → ℕ → ℕ → TokenRecord

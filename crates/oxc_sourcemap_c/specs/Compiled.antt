@@ -54,6 +54,13 @@ IsCompileError (Some m) stamp r =
     ⊎ ((r ≡ Plan Unsorted) × (are_tokens_sorted m.tokens ≡ false))
     ⊎ ((r ≡ Plan (Map TooLarge)) × ¬ (FitsCompiled m))
 
+-- such an error that is surely told, whatever the memory: the first of a missing map, a stamp of another length, and tokens out of order
+abbrev pub IsSureCompileError : Option MapRecord → List ℕ → CallError → Type 0
+IsSureCompileError None stamp r = r ≡ NullHandle
+IsSureCompileError (Some m) stamp r =
+    ((r ≡ Lengths) × (length stamp ≢ 32))
+    ⊎ ((r ≡ Plan Unsorted) × (length stamp ≡ 32) × (are_tokens_sorted m.tokens ≡ false))
+
 -- an error of opening bytes: the first fault that they have
 abbrev pub IsOpenError : List ℕ → CallError → Type 0
 IsOpenError bytes r = (e : CompiledError) × (compiled_fault bytes ≡ Some e) × (r ≡ Compiled e)
@@ -61,6 +68,10 @@ IsOpenError bytes r = (e : CompiledError) × (compiled_fault bytes ≡ Some e) �
 -- an error of taking apart what a handle holds: there is no compiled map, or a text of it is not UTF-8
 abbrev pub IsDecompileError : Option Held → CallError → Type 0
 IsDecompileError held r = MatchOption (held_compiled held) (r ≡ NullHandle) (λ bytes. (r ≡ NoEntry) × (checked_map (compiled_in bytes).content ≡ None))
+
+-- there is no compiled map
+abbrev pub IsCompiledMissing : Option Held → CallError → Type 0
+IsCompiledMissing held r = MatchOption (held_compiled held) (r ≡ NullHandle) (λ _. ⊥)
 
 -- an error of asking what a handle holds, by the bias of this number
 abbrev pub IsCompiledError : Option Held → ℕ → CallError → Type 0

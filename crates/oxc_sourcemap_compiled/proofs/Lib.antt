@@ -23,4 +23,4 @@ mod Values
 mod Worked
 mod WrittenHeader
 mod WrittenParts
-mod Zips
+pub mod Zips

@@ -1,5 +1,5 @@
 -- Compiled maps in which lookups by halving are exact: the lines and columns in their bytes are in order.
-use Rattle.std.specs.Prelude.{◌≡◌, ℕ, ◌+◌, ◌-◌, ◌*◌, ◌/◌, ◌<◌, ◌≤◌, true, List, map, Option}
+use Rattle.std.specs.Prelude.{◌≡◌, ℕ, ◌+◌, ◌-◌, ◌*◌, ◌/◌, ◌<◌, ◌≤◌, true, List, map, Option, IfSome}
 use Rattle.std.specs.List.{range_with_len}
 use Rattle.oxc_sourcemap_tokens.specs.Token.{TokenRecord}
 use Rattle.oxc_sourcemap_parts.specs.Sorted.{token_column}
@@ -86,6 +86,8 @@ IsTokenAt bytes h i t = (k : ℕ) × (k < h.lines) × (i < h.tokens) × (t ≡ t
 abbrev pub IsTokenOn : List ℕ → Header → ℕ → TokenRecord → Type 0
 IsTokenOn bytes h line t = (i : ℕ) × IsOnLine bytes h line i × (t ≡ token_in bytes h line i)
 
--- the index of the token that answers for a position, of bytes that are in order
-abbrev pub IsIndexFor : Bias → List ℕ → Position → Option ℕ → Type 0
-IsIndexFor bias bytes at found = IsInOrder bytes → found ≡ index_by bias (compiled_in bytes).content.tokens at.line at.column
+-- An index is that of the token that answers for a position, of bytes that are in order, and of any bytes that of some token on the
+-- line, or none.
+pub record IsIndexFor (bias : Bias) (bytes : List ℕ) (at : Position) (found : Option ℕ) : Type 0 where
+  pub is : IsInOrder bytes → found ≡ index_by bias (compiled_in bytes).content.tokens at.line at.column
+  pub among : IfSome found (IsOnLine bytes (header_in bytes) at.line)

@@ -13,7 +13,7 @@ ghost use Rattle.oxc_sourcemap_lookup.specs.Words.{token_for, clamped_token_for}
 ghost use Rattle.oxc_sourcemap_lookup.specs.Words.{index_by};
 ghost use Rattle.oxc_sourcemap_lookup.specs.Lookup.{token_after};
 ghost use Rattle.oxc_sourcemap_compiled.specs.Words.{optional_text, listed_text, utf8_text};
-ghost use Rattle.oxc_sourcemap_compiled.specs.Words.{checked_map, IsIndexFor};
+ghost use Rattle.oxc_sourcemap_compiled.specs.Words.{checked_map, token_in, IsIndexFor};
 ghost use Rattle.oxc_sourcemap_parts.specs.Words.{record_of_parts};
 
 use crate::errors::CompiledError;
@@ -167,8 +167,8 @@ impl<'a> CompiledMap<'a> {
             ≡ index_by bias (compiled_in self.now).content.tokens at.line at.column }
         ensures token { IfSome result (λ found. IsInOrder self.now
             → slice_get (compiled_in self.now).content.tokens found.0 ≡ Some found.1) }
-        ensures among { IfSome result (λ found. IsTokenOn self.now (header_in self.now) at.line
-            found.1) }
+        ensures among { IfSome result (λ found. IsOnLine self.now (header_in self.now) at.line
+            found.0 × (found.1 ≡ token_in self.now (header_in self.now) at.line found.0)) }
     {
         match self.find_index(at, bias) {
             Some(index) => Some((index, self.opened.token_on(at.line, index))),

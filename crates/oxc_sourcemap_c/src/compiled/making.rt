@@ -1,10 +1,11 @@
 //! Compiled maps made of maps, opened, and taken apart.
-ghost use Rattle.std.specs.Prelude.{◌≡◌, ◌≢◌, Some, None, length, IfOk, IfErr};
+ghost use Rattle.std.specs.Prelude.{◌≡◌, ◌≢◌, Some, None, Err, length, IfOk, IfErr};
 ghost use Rattle.oxc_sourcemap_c.specs.Words.{HoldsMap, HoldsString, HoldsCompiled, IsErrorAs};
 ghost use Rattle.oxc_sourcemap_c.specs.Words.{no_fault, out_of_memory, IsCompiledFrom, Lengths};
 ghost use Rattle.oxc_sourcemap_c.specs.Words.{IsCompileError, IsOpenError, IsDecompileError};
 ghost use Rattle.oxc_sourcemap_c.specs.Words.{held_compiled, held_map, compiled_fault};
-ghost use Rattle.oxc_sourcemap_c.specs.Words.{checked_map, compiled_in};
+ghost use Rattle.oxc_sourcemap_c.specs.Words.{checked_map, compiled_in, code_of, CallError};
+ghost use Rattle.oxc_sourcemap_c.specs.Words.{IsCompiledMissing, IsSureCompileError};
 
 use oxc_sourcemap_compiled::{CompiledMap, compile};
 use oxc_sourcemap_handles::{CallError, Fault, Handle, Lent, put_bytes, put_compiled, put_map};
@@ -34,6 +35,8 @@ fn compile_lent(
         (λ m. IsCompiledFrom m text_length stamp.now bytes.items)) }
     ensures error { IfErr result (λ r. (r ≢ out_of_memory)
         → IsCompileError (held_map map.now.held) stamp.now r) }
+    ensures sure { (r : CallError) → IsSureCompileError (held_map map.now.held) stamp.now r
+        → result ≡ Err r }
 {
     let map = map.source_map()?;
     let stamp = stamp_of(stamp)?;
@@ -55,6 +58,8 @@ pub extern "C" fn proved_compile(
     ensures no_error { result ≡ 0 → fault.new ≡ no_fault }
     ensures error { result ≢ 0 → (out.new.held ≡ out.old.held) × IsErrorAs result fault.new
         (IsCompileError (held_map map.now.held) stamp.now) }
+    ensures sure { (r : CallError) → IsSureCompileError (held_map map.now.held) stamp.now r
+        → result ≡ code_of r }
 {
     put_bytes(
         alloc,
@@ -94,6 +99,7 @@ fn decompile(alloc: Global, map: &Lent) -> Result<OwnedSourceMap, CallError>
     ensures map { IfOk result (λ made. HoldsCompiled map.now.held
         (λ bytes. checked_map (compiled_in bytes).content ≡ Some made)) }
     ensures error { IfErr result (λ r. (r ≢ out_of_memory) → IsDecompileError map.now.held r) }
+    ensures sure { (r : CallError) → IsCompiledMissing map.now.held r → result ≡ Err r }
 {
     let compiled = map.compiled()?;
     match compiled.decompile(alloc)? {
@@ -115,6 +121,7 @@ pub extern "C" fn proved_decompile(
     ensures no_error { result ≡ 0 → fault.new ≡ no_fault }
     ensures error { result ≢ 0 → (out.new.held ≡ out.old.held)
         × IsErrorAs result fault.new (IsDecompileError map.now.held) }
+    ensures sure { (r : CallError) → IsCompiledMissing map.now.held r → result ≡ code_of r }
 {
     put_map(alloc, decompile(alloc, map), out, fault)
 }

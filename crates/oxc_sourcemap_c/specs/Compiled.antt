@@ -54,13 +54,6 @@ IsCompileError (Some m) stamp r =
     ⊎ ((r ≡ Plan Unsorted) × (are_tokens_sorted m.tokens ≡ false))
     ⊎ ((r ≡ Plan (Map TooLarge)) × ¬ (FitsCompiled m))
 
--- such an error that is surely told, whatever the memory: the first of a missing map, a stamp of another length, and tokens out of order
-abbrev pub IsSureCompileError : Option MapRecord → List ℕ → CallError → Type 0
-IsSureCompileError None stamp r = r ≡ NullHandle
-IsSureCompileError (Some m) stamp r =
-    ((r ≡ Lengths) × (length stamp ≢ 32))
-    ⊎ ((r ≡ Plan Unsorted) × (length stamp ≡ 32) × (are_tokens_sorted m.tokens ≡ false))
-
 -- an error of opening bytes: the first fault that they have
 abbrev pub IsOpenError : List ℕ → CallError → Type 0
 IsOpenError bytes r = (e : CompiledError) × (compiled_fault bytes ≡ Some e) × (r ≡ Compiled e)

@@ -110,4 +110,4 @@ pub use Rattle.oxc_sourcemap_c.specs.Compiled.{IsCompiledError, IsCompiledFrom, 
 pub use Rattle.oxc_sourcemap_c.specs.Compiled.{IsCompiledToken, IsDecompileError, IsIgnoredFlag}
 pub use Rattle.oxc_sourcemap_c.specs.Compiled.{IsOpenError, IsStamp, IsWrittenOut, asked_of}
 pub use Rattle.oxc_sourcemap_c.specs.Compiled.{compiled_counts_of}
-pub use Rattle.oxc_sourcemap_c.specs.Compiled.{IsCompiledMissing, IsSureCompileError}
+pub use Rattle.oxc_sourcemap_c.specs.Compiled.{IsCompiledMissing}

@@ -5,7 +5,7 @@ ghost use Rattle.oxc_sourcemap_c.specs.Words.{no_fault, out_of_memory, IsCompile
 ghost use Rattle.oxc_sourcemap_c.specs.Words.{IsCompileError, IsOpenError, IsDecompileError};
 ghost use Rattle.oxc_sourcemap_c.specs.Words.{held_compiled, held_map, compiled_fault};
 ghost use Rattle.oxc_sourcemap_c.specs.Words.{checked_map, compiled_in, code_of, CallError};
-ghost use Rattle.oxc_sourcemap_c.specs.Words.{IsCompiledMissing, IsSureCompileError};
+ghost use Rattle.oxc_sourcemap_c.specs.Words.{IsCompiledMissing};
 
 use oxc_sourcemap_compiled::{CompiledMap, compile};
 use oxc_sourcemap_handles::{CallError, Fault, Handle, Lent, put_bytes, put_compiled, put_map};
@@ -35,8 +35,6 @@ fn compile_lent(
         (λ m. IsCompiledFrom m text_length stamp.now bytes.items)) }
     ensures error { IfErr result (λ r. (r ≢ out_of_memory)
         → IsCompileError (held_map map.now.held) stamp.now r) }
-    ensures sure { (r : CallError) → IsSureCompileError (held_map map.now.held) stamp.now r
-        → result ≡ Err r }
 {
     let map = map.source_map()?;
     let stamp = stamp_of(stamp)?;
@@ -58,8 +56,6 @@ pub extern "C" fn proved_compile(
     ensures no_error { result ≡ 0 → fault.new ≡ no_fault }
     ensures error { result ≢ 0 → (out.new.held ≡ out.old.held) × IsErrorAs result fault.new
         (IsCompileError (held_map map.now.held) stamp.now) }
-    ensures sure { (r : CallError) → IsSureCompileError (held_map map.now.held) stamp.now r
-        → result ≡ code_of r }
 {
     put_bytes(
         alloc,

@@ -61,7 +61,7 @@ static int next_file(void) {
 /* A compiled map is written to a file, and asked where the system maps it. */
 static void compiled_map_in(const char *path) {
     smap_map *map = NULL;
-    smap_string *string;
+    smap_string *string = NULL;
     smap_compiled *compiled = NULL;
     smap_file *file = NULL;
     smap_text written, bytes = text_of("kept");
@@ -130,7 +130,7 @@ static void no_memory(const char *path) {
 }
 
 static int files_are_mapped(void) {
-    char folder[] = "/tmp/smap_test_XXXXXX";
+    char folder[] = P_tmpdir "/smap_test_XXXXXX";
     char path[100];
     long before = kept;
     all_hold = 1;

@@ -19,7 +19,7 @@
 #include <sys/mman.h>
 
 static uint64_t state, seed;
-static unsigned long read_maps, refused_maps;
+static unsigned long read_maps, refused_maps, damaged_bytes, damaged_maps, taken_apart;
 
 #define MUST(condition) must(condition, __LINE__, #condition)
 static void must(int is_so, int line, const char *condition) {
@@ -372,7 +372,12 @@ static void ask_damaged(const smap_compiled *compiled, const buffer *bytes) {
     uint32_t code = smap_decompile(compiled, &back, &fault);
     told(code, &fault);
     MUST(code == SMAP_OK || (code == SMAP_NO_ENTRY && back == NULL));
-    if (!code) told(smap_to_json_string_within(back, MOST, &string, &fault), &fault);
+    if (!code) {
+        smap_counts counts;
+        taken_apart++;
+        MUST(smap_get_counts(back, &counts) == SMAP_OK && counts.tokens <= own.tokens && counts.bytes <= 128 * bytes->len);
+        told(smap_to_json_string_within(back, MOST, &string, &fault), &fault);
+    }
     smap_free_string(string);
     smap_free_map(back);
 }
@@ -391,7 +396,9 @@ static void damage(const smap_text *from) {
     for (size_t i = 0; below(8) && i < 8 && bytes.len > 15; i++) bytes.at[8 + i] = (char)((uint64_t)bytes.len >> 8 * i);
     uint32_t code = smap_open_compiled(bytes.at, bytes.len, &compiled, &fault);
     told(code, &fault);
+    damaged_bytes++;
     if (code) return;
+    damaged_maps++;
     ask_damaged(compiled, &bytes);
     smap_free_compiled(compiled);
 }
@@ -597,7 +604,9 @@ int main(int argc, char **argv) {
         for (size_t n = below(below(4) ? 3 : 40); n; n--) mutate(&text);
         try_text(&text, &kept);
     }
-    printf("%lu texts read, %lu refused\n", read_maps, refused_maps);
+    printf("%lu texts read, %lu refused; %lu compiled maps damaged, %lu of them opened, %lu taken apart\n", read_maps, refused_maps, damaged_bytes,
+           damaged_maps, taken_apart);
+    MUST(rounds < 1000 || (taken_apart > rounds && damaged_maps > taken_apart && damaged_bytes > damaged_maps));
     smap_free_map(kept);
     for (size_t i = 0; i < files_len; i++) free(files[i].at);
     free(files);

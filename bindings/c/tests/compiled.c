@@ -46,6 +46,8 @@ static const unsigned char BYTES_OF_B[] = {
     'a', '.', 'j', 's', NUMBER(0), NUMBER(0), NUMBER(0), NUMBER(0),
 };
 #define STAMP_AT 24
+#define LINES_AT 88
+#define OFFSETS_AT (LINES_AT + 8 + 29)
 #define NAME_AT (sizeof BYTES_OF_B - 20)
 
 static void bytes_of(void) {
@@ -333,6 +335,46 @@ static void no_utf8(void) {
     smap_free_compiled(compiled);
 }
 
+/* The code of taking apart bytes that are opened. No map is made if it fails. */
+static uint32_t taken_apart(const unsigned char *bytes, size_t len) {
+    smap_compiled *compiled = NULL;
+    smap_map *back = NULL;
+    smap_fault fault = junk();
+    CHECK(smap_open_compiled(bytes, len, &compiled, NULL) == SMAP_OK);
+    uint32_t code = smap_decompile(compiled, &back, &fault);
+    CHECK((back == NULL) == (code != SMAP_OK) && fault.code == code);
+    smap_free_map(back);
+    smap_free_compiled(compiled);
+    return code;
+}
+
+/* No map is made of bytes that would have tokens, or parts of texts, several times. */
+static void no_repeats(void) {
+    static const smap_position FAR[3] = { { 0, 4 }, { 1, 0 }, { 70000, 3 } };
+    trio it = compiled_of(map_at(FAR, 3));
+    unsigned char *bytes = (unsigned char *)malloc(it.bytes.len), texts[sizeof BYTES_OF_B];
+    memcpy(bytes, it.bytes.at, it.bytes.len);
+    CHECK(taken_apart(bytes, it.bytes.len) == SMAP_OK);
+    /* The first and the last line have all three tokens. */
+    bytes[LINES_AT + 4] = 3, bytes[LINES_AT + 8] = 0;
+    CHECK(taken_apart(bytes, it.bytes.len) == SMAP_NO_ENTRY);
+    /* The last line ends before it begins. */
+    memcpy(bytes, it.bytes.at, it.bytes.len);
+    bytes[LINES_AT + 12] = 1;
+    CHECK(taken_apart(bytes, it.bytes.len) == SMAP_NO_ENTRY);
+    free(bytes);
+    free_trio(&it);
+    memcpy(texts, BYTES_OF_B, sizeof texts);
+    CHECK(taken_apart(texts, sizeof texts) == SMAP_OK);
+    /* The name of the file has the bytes of the source. */
+    texts[OFFSETS_AT + 8] = 0;
+    CHECK(taken_apart(texts, sizeof texts) == SMAP_NO_ENTRY);
+    /* The last text ends before it begins. */
+    memcpy(texts, BYTES_OF_B, sizeof texts);
+    texts[OFFSETS_AT + 20] = 3;
+    CHECK(taken_apart(texts, sizeof texts) == SMAP_NO_ENTRY);
+}
+
 /* Whether lookups in bytes that may be damaged answer a token of the line or none, by texts within the bytes. */
 static int finds_within(const smap_compiled *compiled, const char *bytes, size_t len, uint64_t tokens) {
     static const smap_position PLACES[6] = { { 0, 0 }, { 0, 4 }, { 0, MAX }, { 1, 0 }, { 1, 9 }, { MAX, 1 } };
@@ -427,5 +469,6 @@ void test_compiled(void) {
     contents_past_the_sources();
     asking_errors();
     no_utf8();
+    no_repeats();
     damaged();
 }

@@ -222,8 +222,9 @@ static void nothing_is_compiled(void) {
 static void no_memory_is_taken(void) {
     smap_map *map = read_map(A);
     smap_string *string;
-    smap_compiled *compiled;
+    smap_compiled *compiled, *turned;
     smap_compiled_counts held;
+    smap_map *back = (smap_map *)&failed;
     smap_original p;
     smap_position one = { 0, 4 };
     smap_piece pieces[4];
@@ -235,7 +236,13 @@ static void no_memory_is_taken(void) {
     CHECK(smap_index_sources(map, NULL) == SMAP_OK);
     CHECK(smap_compile(map, 0, NULL, &string, NULL) == SMAP_OK && smap_get_text(string, texts) == SMAP_OK);
     CHECK(smap_open_compiled(texts[0].at, texts[0].len, &compiled, NULL) == SMAP_OK);
+    /* The first line begins behind the second. */
+    unsigned char *bytes = (unsigned char *)malloc(texts[0].len);
+    memcpy(bytes, texts[0].at, texts[0].len);
+    bytes[88] = 255;
+    CHECK(smap_open_compiled(bytes, texts[0].len, &turned, NULL) == SMAP_OK);
     left = 0;
+    CHECK(smap_decompile(turned, &back, NULL) == SMAP_NO_ENTRY && back == (smap_map *)&failed);
     CHECK(smap_trace(map, 0, 4, SMAP_BEFORE, &p, NULL) == SMAP_OK &&
           smap_trace_all(map, &one, 1, SMAP_AFTER, &p, 1, NULL) == SMAP_OK);
     CHECK(smap_find_all(map, &one, 1, SMAP_CLAMPED, &n, 1, NULL) == SMAP_OK &&
@@ -251,6 +258,8 @@ static void no_memory_is_taken(void) {
     CHECK(smap_compiled_get_text(compiled, SMAP_TEXT_FILE, 0, texts) == SMAP_OK && smap_compiled_is_ignored(compiled, 1, &n) == SMAP_OK);
     CHECK(left == 0);
     left = -1;
+    smap_free_compiled(turned);
+    free(bytes);
     smap_free_compiled(compiled);
     smap_free_string(string);
     smap_free_map(map);

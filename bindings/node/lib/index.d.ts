@@ -626,7 +626,9 @@ export class CompiledMap {
   /** Frees the map, and lets go of the bytes. */
   free(): void;
   [Symbol.dispose](): void;
-  /** The map that was compiled. Throws SourceMapError of SMAP_NO_ENTRY if a text is not UTF-8. */
+  /** The map that was compiled. Throws SourceMapError of SMAP_NO_ENTRY if a text is not UTF-8, or, only in bytes that `compile` did not
+   *  make, the tokens of a line or the bytes of a text begin before those of the one in front, or the last ones end before they begin.
+   *  A map of such bytes may be unsorted. */
   decompile(): SourceMap;
 
   readonly counts: CompiledCounts;

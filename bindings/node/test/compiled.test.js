@@ -259,6 +259,8 @@ test('the errors of bytes', () => {
   const broken = new CompiledMap(latin.with(Buffer.from(latin).indexOf('qqqq') + 1, 0xff));
   assert.equal(broken.file, 'q\ufffdqq');
   fails({ code: 'SMAP_NO_ENTRY' }, () => broken.decompile());
+  // The first line begins behind the second, or the last one ends before it begins.
+  for (const turned of [changed(88, TOKENS.length), changed(96, 2)]) fails({ code: 'SMAP_NO_ENTRY' }, () => new CompiledMap(turned).decompile());
 });
 
 test('bytes that are cut, changed or random', () => {

@@ -264,6 +264,9 @@ class Hostile(CompiledCase):
         self.assertEqual((map.names, map.get_name(1)), (["hi", None], None))
         self.assertEqual([map.trace(1, 1), *map.trace_all([(1, 1)])], [Original("b.ts", 1, 0, None, 3, TOKENS[3])] * 2)
         self.assertIsNone(map.decompile())
+        self.assertIsNotNone(CompiledMap(DATA).decompile())
+        # The first line begins behind the second, or the last one ends before it begins.
+        self.assertEqual([CompiledMap(damaged(change)).decompile() for change in ((88, len(TOKENS)), (96, 2))], [None, None])
         for old, new, name in ((b"out.js", b"out\xe9js", "file"), (b"src/", b"src\x80", "source_root"), (b"d-1", b"d-\xc3", "debug_id")):
             self.assertIsNone(getattr(with_text(old, new), name))
         self.assertEqual(with_text(b"let hi;", b"let \xed\xa0\x80").source_contents, [None, None])
@@ -384,6 +387,12 @@ class Files(CompiledCase):
         self.assertRaises(FileNotFoundError, CompiledMap.open_file, path + "x")
         self.assertRaises(IsADirectoryError, CompiledMap.open_file, os.path.dirname(path))
         self.assertRaises(ValueError, CompiledMap.open_file, "a\0b")
+        os.mkfifo(path + ".pipe")
+        with self.assertRaisesRegex(OSError, "Not a plain file"):
+            CompiledMap.open_file(path + ".pipe")
+        with open(path, "rb") as file:
+            self.assertRaises(TypeError, CompiledMap.open_file, file.fileno())
+            file.read(1)
         for data, code in ((b"", Code.NOT_COMPILED), (TEXT.encode(), Code.NOT_COMPILED), (DATA[:-1], Code.COMPILED_LENGTH)):
             Path(path).write_bytes(data)
             try:

@@ -22,6 +22,7 @@ ghost use Rattle.oxc_sourcemap.specs.Words.{each_remapped, SeveralSources, compo
 ghost use Rattle.oxc_sourcemap.specs.Words.{lent_inputs, NoInputColumnGoesBack, remapping};
 ghost use Rattle.oxc_sourcemap.specs.Words.{inputs_fault, Reports};
 ghost use Rattle.oxc_sourcemap.specs.Words.{IsInOrder, compiled_meaning, CompiledRecord};
+ghost use Rattle.oxc_sourcemap.specs.Words.{FitsCompiled};
 ghost use Rattle.oxc_sourcemap.specs.Words.{HaveSameTraces, IsErrorOf, is_within_limits};
 
 use oxc_sourcemap::laws::{
@@ -338,7 +339,7 @@ pub fn evaluated_text(alloc: Global, plan: &Plan<'_>) -> std::result::Result<Str
 /// Evaluates a plan, and compiles its map, with the length of a text and a stamp that are kept. The bytes are in order, so that lookups
 /// in them are exact, and mean a map that has at every position, exact and clamped, the trace that the plan means.
 ///
-/// Fails as `evaluate` does, and with `Map(TooLarge)` as `compile` does.
+/// Fails as `evaluate` does, and with `Map(TooLarge)` if the map that the steps of the plan make does not fit into a compiled map.
 pub fn compile_plan(
     alloc: Global,
     plan: &Plan<'_>,
@@ -351,7 +352,9 @@ pub fn compile_plan(
         × HaveSameTraces (decoded_map_of c.content) meant
         × EqualUpToRepeats (decoded_map_of c.content) meant
         × (c.text_length ≡ text_length) × (c.stamp ≡ stamp.now)) }
-    ensures error { IfErr result (λ e. (e ≡ Map OutOfMemory) ⊎ (e ≡ Map TooLarge)
+    ensures error { IfErr result (λ e. (e ≡ Map OutOfMemory)
+        ⊎ ((e ≡ Map TooLarge) × (m : MapRecord) × HasOutcome m (outcome plan.now)
+        × ¬ (FitsCompiled m))
         ⊎ IsErrorOf (meaning plan.now) (is_within_limits plan.now) e) }
 {
     compiled_means_map();

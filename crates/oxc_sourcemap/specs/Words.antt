@@ -29,10 +29,12 @@ pub use Rattle.oxc_sourcemap_steps.specs.Composed.{composition, composition_faul
 pub use Rattle.oxc_sourcemap_steps.specs.Composed.{NoColumnGoesBack}
 pub use Rattle.oxc_sourcemap_compiled.specs.Compiled.{AreBytesOf, FitsCompiled}
 pub use Rattle.oxc_sourcemap_compiled.specs.CompiledMeaning.{CompiledRecord, compiled_in}
-pub use Rattle.oxc_sourcemap_compiled.specs.CompiledMeaning.{compiled_meaning}
-pub use Rattle.oxc_sourcemap_compiled.specs.Decompiled.{checked_map}
+pub use Rattle.oxc_sourcemap_compiled.specs.CompiledMeaning.{compiled_meaning, token_in}
+pub use Rattle.oxc_sourcemap_compiled.specs.Decompiled.{checked_map, DoesNotGoBack}
+pub use Rattle.oxc_sourcemap_compiled.specs.Layout.{header_in}
 pub use Rattle.oxc_sourcemap_compiled.specs.Means.{compiled_of, FitsFormat, CompiledMeansMap}
 pub use Rattle.oxc_sourcemap_compiled.specs.Order.{IsInOrder, IsOnLine, IsTokenAt, IsTokenOn}
+pub use Rattle.oxc_sourcemap_compiled.specs.Order.{IsIndexFor}
 pub use Rattle.oxc_sourcemap_lookup.specs.Digits.{binary_digits}
 pub use Rattle.oxc_sourcemap_lookup.specs.Lookup.{at, clamped_at, no_column_goes_back, token_for}
 pub use Rattle.oxc_sourcemap_lookup.specs.Lookup.{clamped_token_for, IfOwnTable, table_fault}

@@ -1,19 +1,20 @@
 -- Calls on compiled maps.
-use Rattle.std.specs.Prelude.{◌≡◌, ◌≢◌, ◌⊎◌, ℕ, List, [], length, Option, Some, None}
-use Rattle.std.specs.Prelude.{Result, Ok, Err, MatchOption, MatchResult, slice_get, ◌==◌, false}
+use Rattle.std.specs.Prelude.{◌≡◌, ◌≢◌, ◌⊎◌, ◌≤◌, ℕ, List, [], length, Option, Some, None}
+use Rattle.std.specs.Prelude.{Result, Ok, Err, MatchOption, MatchResult, slice_get, ◌==◌, true}
 use Rattle.std.specs.Prelude.{if◌then◌else◌, is_some, ⊤}
 use Rattle.std.specs.List.{Contains}
 use Rattle.std.specs.Option.{option_map_or, unwrap_or}
 use Rattle.oxc_sourcemap_tokens.specs.Token.{TokenRecord}
 use Rattle.oxc_sourcemap_tokens.specs.declared.errors.error.Error.TheVariants.{TooLarge}
 use Rattle.oxc_sourcemap_tokens.specs.declared.errors.plan_error.PlanError.TheVariants.{Map}
-use Rattle.oxc_sourcemap_tokens.specs.declared.errors.plan_error.PlanError.TheVariants.{Unsorted}
 use Rattle.oxc_sourcemap_parts.specs.Record.{MapRecord}
 use Rattle.oxc_sourcemap_parts.specs.Sorted.{are_tokens_sorted}
 use Rattle.oxc_sourcemap_compiled.specs.Words.{AreBytesOf, FitsCompiled, IsInOrder, IsTokenAt}
 use Rattle.oxc_sourcemap_compiled.specs.Words.{checked_map, compiled_fault, compiled_in}
-use Rattle.oxc_sourcemap_compiled.specs.Words.{compiled_meaning, compiled_of, header_in}
+use Rattle.oxc_sourcemap_compiled.specs.Words.{compiled_meaning, compiled_of, header_in, FitsFormat}
+use Rattle.oxc_sourcemap_compiled.specs.Words.{DoesNotGoBack}
 use Rattle.oxc_sourcemap_compiled.specs.declared.errors.CompiledError.{CompiledError}
+use Rattle.oxc_sourcemap_handles.specs.CallErrors.{IsUnsorted}
 use Rattle.oxc_sourcemap_handles.specs.Codes.{code_of}
 use Rattle.oxc_sourcemap_handles.specs.Holding.{held_compiled}
 use Rattle.oxc_sourcemap_handles.specs.Options.{bias_of}
@@ -40,27 +41,47 @@ use Rattle.oxc_sourcemap_c.specs.declared.reading.asked.Asked.TheVariants.{Sourc
 abbrev pub HoldsCompiled : Option Held → (List ℕ → Type 0) → Type 0
 HoldsCompiled held P = MatchOption (held_compiled held) ⊥ P
 
--- bytes are the compiled map of a map: they mean it, with this length and stamp, are in order, and are those that the format has for it
+-- bytes are the compiled map of a map: they mean it, with this length and stamp, are in order, and are those that the format has for
+-- it, whose numbers and texts it can hold, so that the laws of `compiled_means_map` hold of them
 pub record IsCompiledFrom (m : MapRecord) (text_length : ℕ) (stamp bytes : List ℕ) : Type 0 where
   pub meaning : compiled_meaning bytes ≡ Ok (compiled_of m text_length stamp)
   pub order : IsInOrder bytes
   pub written : AreBytesOf m text_length stamp bytes
+  pub fits : FitsFormat m text_length stamp
 
--- an error of compiling what a handle holds: there is no map, the stamp has not 32 bytes, tokens are not sorted, or it is too large
+-- why a map is not compiled: its tokens are not sorted, or, where they are, it is not sure to fit
+abbrev pub IsUncompiled : MapRecord → CallError → Type 0
+IsUncompiled m r = IsUnsorted m r ⊎ ((r ≡ Plan (Map TooLarge)) × (are_tokens_sorted m.tokens ≡ true) × ¬ (FitsCompiled m))
+
+-- an error of compiling what a handle holds, the first of these: there is no map, the stamp has not 32 bytes, or the map is not
+-- compiled
 abbrev pub IsCompileError : Option MapRecord → List ℕ → CallError → Type 0
 IsCompileError None stamp r = r ≡ NullHandle
-IsCompileError (Some m) stamp r =
-    ((r ≡ Lengths) × (length stamp ≢ 32))
-    ⊎ ((r ≡ Plan Unsorted) × (are_tokens_sorted m.tokens ≡ false))
-    ⊎ ((r ≡ Plan (Map TooLarge)) × ¬ (FitsCompiled m))
+IsCompileError (Some m) stamp r = ((r ≡ Lengths) × (length stamp ≢ 32)) ⊎ ((length stamp ≡ 32) × IsUncompiled m r)
+
+-- the error that compiling what a handle holds has whatever memory there is
+abbrev pub IsSureCompileError : Option MapRecord → List ℕ → CallError → Type 0
+IsSureCompileError None stamp r = r ≡ NullHandle
+IsSureCompileError (Some m) stamp r = ((r ≡ Lengths) × (length stamp ≢ 32)) ⊎ ((length stamp ≡ 32) × IsUnsorted m r)
 
 -- an error of opening bytes: the first fault that they have
 abbrev pub IsOpenError : List ℕ → CallError → Type 0
 IsOpenError bytes r = (e : CompiledError) × (compiled_fault bytes ≡ Some e) × (r ≡ Compiled e)
 
--- an error of taking apart what a handle holds: there is no compiled map, or a text of it is not UTF-8
+-- an error of taking apart what a handle holds: there is no compiled map, or its lines or texts go back, or a text of it is not UTF-8
 abbrev pub IsDecompileError : Option Held → CallError → Type 0
-IsDecompileError held r = MatchOption (held_compiled held) (r ≡ NullHandle) (λ bytes. (r ≡ NoEntry) × (checked_map (compiled_in bytes).content ≡ None))
+IsDecompileError held r =
+    MatchOption (held_compiled held) (r ≡ NullHandle)
+    (λ bytes. (r ≡ NoEntry) × (DoesNotGoBack bytes (header_in bytes) → checked_map (compiled_in bytes).content ≡ None))
+
+-- A map that is taken apart of bytes: the one that they mean, whose texts are UTF-8; it has no more tokens than the header counts.
+pub record IsTakenApart (bytes : List ℕ) (m : MapRecord) : Type 0 where
+  pub is : checked_map (compiled_in bytes).content ≡ Some m
+  pub few : length m.tokens ≤ (header_in bytes).tokens
+
+-- the error that taking apart what a handle holds has whatever memory there is
+abbrev pub IsSureDecompileError : Option Held → CallError → Type 0
+IsSureDecompileError held r = MatchOption (held_compiled held) (r ≡ NullHandle) (λ bytes. (r ≡ NoEntry) × ¬ (DoesNotGoBack bytes (header_in bytes)))
 
 -- an error of asking what a handle holds, by the bias of this number
 abbrev pub IsCompiledError : Option Held → ℕ → CallError → Type 0

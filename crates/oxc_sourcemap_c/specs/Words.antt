@@ -110,3 +110,5 @@ pub use Rattle.oxc_sourcemap_c.specs.Compiled.{IsCompiledError, IsCompiledFrom, 
 pub use Rattle.oxc_sourcemap_c.specs.Compiled.{IsCompiledToken, IsDecompileError, IsIgnoredFlag}
 pub use Rattle.oxc_sourcemap_c.specs.Compiled.{IsOpenError, IsStamp, IsWrittenOut, asked_of}
 pub use Rattle.oxc_sourcemap_c.specs.Compiled.{compiled_counts_of}
+pub use Rattle.oxc_sourcemap_c.specs.Compiled.{IsUncompiled, IsSureCompileError, IsTakenApart}
+pub use Rattle.oxc_sourcemap_c.specs.Compiled.{IsSureDecompileError}

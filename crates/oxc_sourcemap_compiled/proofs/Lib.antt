@@ -1,6 +1,7 @@
 mod Blocks
 mod Bytes
 mod Comparisons
+mod Counts
 mod Digits
 mod Entries
 mod Found
@@ -23,4 +24,4 @@ mod Values
 mod Worked
 mod WrittenHeader
 mod WrittenParts
-mod Zips
+pub mod Zips

@@ -29,7 +29,7 @@ use Rattle.oxc_sourcemap_compiled.specs.CompiledMeaning.{map_in, compiled_in, co
 use Rattle.oxc_sourcemap_compiled.specs.CompiledMeaning.{compiled_meaning}
 use Rattle.oxc_sourcemap_compiled.specs.Order.{AreRowsExact, AreInOrder, IsInOrder, column_of}
 use Rattle.oxc_sourcemap_compiled.specs.Order.{least_column_of}
-use Rattle.oxc_sourcemap_compiled.specs.Decompiled.{checked_map}
+use Rattle.oxc_sourcemap_compiled.specs.Decompiled.{checked_map, DoTextsFollow, DoesNotGoBack}
 use Rattle.oxc_sourcemap_compiled.specs.Means.{stored_map, compiled_of, FitsFormat}
 use Rattle.oxc_sourcemap_compiled.specs.declared.layout.Header.{Header}
 use Rattle.oxc_sourcemap_compiled.specs.declared.writing.blocks.Block.{Block}
@@ -42,6 +42,8 @@ use Rattle.oxc_sourcemap_compiled.proofs.LineStarts.{start-within, any_token}
 use Rattle.oxc_sourcemap_compiled.proofs.ReadTokens.{AreReadAs, in-order, tokens-read}
 use Rattle.oxc_sourcemap_compiled.proofs.ReadTexts.{sources-read, names-read, contents-read}
 use Rattle.oxc_sourcemap_compiled.proofs.ReadTexts.{file-read, root-read, debug_id-read}
+use Rattle.oxc_sourcemap_compiled.proofs.ReadTexts.{offset-read}
+use Rattle.oxc_sourcemap_compiled.proofs.Slices.{offset-next}
 use Rattle.oxc_sourcemap_compiled.proofs.StoredMaps.{stored-utf8}
 use Rattle.oxc_sourcemap_compiled.proofs.Taken.{same-map}
 use Rattle.oxc_sourcemap_compiled.proofs.WrittenHeader.{HeaderRead, header-read}
@@ -217,5 +219,19 @@ module _ (r : MapRecord) (text_length : ℕ) (stamp bytes : List ℕ) (fits : Fi
       let same : (compiled_in bytes).content.tokens ≡ r.tokens = ap (λ m. m.tokens) content-read in
       (ap (λ ts. index_by bias ts line col) same, ap (λ ts. token_by bias ts line col) same)
 
-  pub compiled-taken-apart : checked_map (compiled_in bytes).content ≡ Some (stored_map r)
-  compiled-taken-apart = ap checked_map content-read ∙ ap (λ b. if b then Some (stored_map r) else None) (stored-utf8 r fits.texts)
+  texts-follow : DoTextsFollow all h
+  texts-follow = λ t lt.
+      let begin = offset-read r all h refl refl are.few_texts lie.offsets lie.texts t (omega (arith, lt)) in
+      let end = offset-read r all h refl refl are.few_texts lie.offsets lie.texts (t + 1) (omega (arith, lt)) in
+      omega (arith, begin, end, offset-next r t)
+
+  not-repeated : DoesNotGoBack bytes (header_in bytes)
+  not-repeated =
+      let texts : DoTextsFollow all (header_in all) = subst (DoTextsFollow all) (sym header.header) texts-follow in
+      record {
+        lines = compiled-in-order.starts;
+        texts = subst (λ bytes. DoTextsFollow bytes (header_in bytes)) (sym are.are) texts;
+      }
+
+  pub compiled-taken-apart : (checked_map (compiled_in bytes).content ≡ Some (stored_map r)) × DoesNotGoBack bytes (header_in bytes)
+  compiled-taken-apart = (ap checked_map content-read ∙ ap (λ b. if b then Some (stored_map r) else None) (stored-utf8 r fits.texts), not-repeated)

@@ -109,7 +109,7 @@ optional-marked (Some text) = refl
 module _ (r : MapRecord) (bytes : List ℕ) (h : Header) (sources : h.sources ≡ length r.sources) (names : h.names ≡ length r.names) (few : text_offset r (stored_count r) ≤ 4294967295)
     (offsets : LiesAt (offsets_base h) (table (map (text_offset r) (range_with_len 0 (stored_count r + 1)))) bytes)
     (texts : LiesAt (texts_base h) (flat_map (stored_text r) (range_with_len 0 (stored_count r))) bytes) where
-  offset-read : (t : ℕ) → t ≤ stored_count r → offset_in bytes h t ≡ text_offset r t
+  pub offset-read : (t : ℕ) → t ≤ stored_count r → offset_in bytes h t ≡ text_offset r t
   offset-read t le =
       let all = map (text_offset r) (range_with_len 0 (stored_count r + 1)) in
       let size = length-map-range_with_len (text_offset r) 0 (stored_count r + 1) in

@@ -7,7 +7,8 @@ use Rattle.oxc_sourcemap_parts.specs.DecodedMap.{decoded_map_of}
 use Rattle.oxc_sourcemap_lookup.specs.Biased.{index_by, token_by}
 use Rattle.oxc_sourcemap_lookup.specs.declared.bias.Bias.{Bias}
 use Rattle.oxc_sourcemap_compiled.specs.Compiled.{content_at, ignored_of, AreBytesOf}
-use Rattle.oxc_sourcemap_compiled.specs.Decompiled.{has_utf8_texts, checked_map}
+use Rattle.oxc_sourcemap_compiled.specs.Layout.{header_in}
+use Rattle.oxc_sourcemap_compiled.specs.Decompiled.{has_utf8_texts, checked_map, DoesNotGoBack}
 use Rattle.oxc_sourcemap_compiled.specs.CompiledMeaning.{CompiledRecord, compiled_in}
 use Rattle.oxc_sourcemap_compiled.specs.CompiledMeaning.{compiled_meaning}
 use Rattle.oxc_sourcemap_compiled.specs.Order.{IsInOrder}
@@ -52,7 +53,8 @@ CompiledLooksUp = (r : MapRecord) (text_length : ℕ) (stamp bytes : List ℕ) �
 abbrev pub StoredMeansMap : Type 0
 StoredMeansMap = (r : MapRecord) → decoded_map_of (stored_map r) ≡ decoded_map_of r
 
--- what is taken apart of them is the map that is stored
+-- what is taken apart of them is the map that is stored, and they do not go back, so that they are taken apart
 abbrev pub CompiledIsTakenApart : Type 0
 CompiledIsTakenApart = (r : MapRecord) (text_length : ℕ) (stamp bytes : List ℕ) → FitsFormat r text_length stamp
-    → AreBytesOf r text_length stamp bytes → checked_map (compiled_in bytes).content ≡ Some (stored_map r)
+    → AreBytesOf r text_length stamp bytes
+    → (checked_map (compiled_in bytes).content ≡ Some (stored_map r)) × DoesNotGoBack bytes (header_in bytes)

@@ -1,5 +1,5 @@
 -- Compiled maps in which lookups by halving are exact: the lines and columns in their bytes are in order.
-use Rattle.std.specs.Prelude.{◌≡◌, ℕ, ◌+◌, ◌-◌, ◌*◌, ◌/◌, ◌<◌, ◌≤◌, true, List, map, Option}
+use Rattle.std.specs.Prelude.{◌≡◌, ℕ, ◌+◌, ◌-◌, ◌*◌, ◌/◌, ◌<◌, ◌≤◌, true, List, map, Option, IfSome}
 use Rattle.std.specs.List.{range_with_len}
 use Rattle.oxc_sourcemap_tokens.specs.Token.{TokenRecord}
 use Rattle.oxc_sourcemap_parts.specs.Sorted.{token_column}
@@ -12,6 +12,7 @@ use Rattle.oxc_sourcemap_compiled.specs.Layout.{header_in, block_count}
 use Rattle.oxc_sourcemap_compiled.specs.Fields.{value_of, row_base}
 use Rattle.oxc_sourcemap_compiled.specs.CompiledMeaning.{token_in, start_in, line_in, entry_tokens}
 use Rattle.oxc_sourcemap_compiled.specs.CompiledMeaning.{entry_begin, entry_end, compiled_in}
+use Rattle.oxc_sourcemap_compiled.specs.Decompiled.{DoLinesFollow}
 use Rattle.oxc_sourcemap_compiled.specs.declared.layout.Header.{Header}
 use Rattle.oxc_sourcemap_compiled.specs.declared.lookup.Span.{Span}
 
@@ -38,7 +39,7 @@ AreRowsExact bytes h = (b : ℕ) → b < block_count h
 pub record AreInOrder (bytes : List ℕ) (h : Header) : Type 0 where
   pub first : start_in bytes 0 ≡ 0
   pub last : start_in bytes h.lines ≡ h.tokens
-  pub starts : (k : ℕ) → k < h.lines → start_in bytes k ≤ start_in bytes (k + 1)
+  pub starts : DoLinesFollow bytes h
   pub lines : (k : ℕ) → k + 1 < h.lines → line_in bytes h k < line_in bytes h (k + 1)
   pub columns : (k : ℕ) → k < h.lines → no_column_goes_back token_column (entry_tokens bytes h k) ≡ true
   pub rows : AreRowsExact bytes h
@@ -86,6 +87,8 @@ IsTokenAt bytes h i t = (k : ℕ) × (k < h.lines) × (i < h.tokens) × (t ≡ t
 abbrev pub IsTokenOn : List ℕ → Header → ℕ → TokenRecord → Type 0
 IsTokenOn bytes h line t = (i : ℕ) × IsOnLine bytes h line i × (t ≡ token_in bytes h line i)
 
--- the index of the token that answers for a position, of bytes that are in order
-abbrev pub IsIndexFor : Bias → List ℕ → Position → Option ℕ → Type 0
-IsIndexFor bias bytes at found = IsInOrder bytes → found ≡ index_by bias (compiled_in bytes).content.tokens at.line at.column
+-- What is found at a position: in bytes that are in order the index of the token that answers; in any bytes that of some token of the
+-- line, or none.
+pub record IsIndexFor (bias : Bias) (bytes : List ℕ) (at : Position) (found : Option ℕ) : Type 0 where
+  pub is : IsInOrder bytes → found ≡ index_by bias (compiled_in bytes).content.tokens at.line at.column
+  pub among : IfSome found (IsOnLine bytes (header_in bytes) at.line)

@@ -14,6 +14,7 @@ pub use Rattle.oxc_sourcemap_compiled.specs.Stored.{stored_bytes}
 pub use Rattle.oxc_sourcemap_compiled.specs.Cuts.{IsCut, DoNotFall}
 pub use Rattle.oxc_sourcemap_compiled.specs.Decompiled.{checked_texts, checked_contents}
 pub use Rattle.oxc_sourcemap_compiled.specs.Decompiled.{checked_text, checked_map, is_optional_utf8}
+pub use Rattle.oxc_sourcemap_compiled.specs.Decompiled.{DoLinesFollow, DoTextsFollow, DoesNotGoBack}
 pub use Rattle.oxc_sourcemap_compiled.specs.Fields.{IsField, value_in, field_in, value_of}
 pub use Rattle.oxc_sourcemap_compiled.specs.Layout.{header_in, layout_in, AreCounts, HasParts}
 pub use Rattle.oxc_sourcemap_compiled.specs.Layout.{block_count, text_count, compiled_fault}

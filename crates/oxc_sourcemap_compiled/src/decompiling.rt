@@ -1,5 +1,6 @@
 //! Compiled maps, taken apart: the parts of the map, whose texts are lent from the bytes.
-ghost use Rattle.std.specs.Prelude.{◌≡◌, ◌+◌, ◌≤◌, ◌<◌, ◌++◌, map, option_map, IfOk, OnOk};
+ghost use Rattle.std.specs.Prelude.{◌≡◌, ◌+◌, ◌≤◌, ◌<◌, ◌++◌, ◌↔◌, map, option_map, IfOk, OnOk};
+ghost use Rattle.std.specs.Prelude.{IfSome, IsTrue, Some, None, Ok, length};
 ghost use Rattle.std.specs.List.{range_with_len};
 ghost use Rattle.std.specs.Cow.{cow_str_bytes};
 ghost use Rattle.oxc_sourcemap_parts.specs.Words.{text_of, texts_of, contents_of, ids_of};
@@ -8,6 +9,7 @@ ghost use Rattle.oxc_sourcemap_compiled.specs.Words.{IsOpened, text_count, liste
 ghost use Rattle.oxc_sourcemap_compiled.specs.Words.{utf8_text, checked_text, checked_texts};
 ghost use Rattle.oxc_sourcemap_compiled.specs.Words.{checked_contents, entry_tokens, tokens_in};
 ghost use Rattle.oxc_sourcemap_compiled.specs.Words.{ignore_list_in, map_in, checked_map};
+ghost use Rattle.oxc_sourcemap_compiled.specs.Words.{DoLinesFollow, DoTextsFollow, DoesNotGoBack};
 
 use crate::map::utf8;
 use crate::opened::Opened;
@@ -136,8 +138,55 @@ impl<'a> Opened<'a> {
         Ok(Some(ids))
     }
 
-    /// The parts of the map; None if a text is not UTF-8.
+    /// Whether no line's tokens begin before those of the line in front, or, of the last line, end before they begin.
+    fn do_lines_follow(&self) -> bool
+        requires opened { IsOpened self.now }
+        ensures { IsTrue result ↔ DoLinesFollow self.now.bytes.now self.now.header }
+    {
+        for k in 0..self.header.lines {
+            if self.line_start(k) > self.line_start(k + 1) {
+                return false;
+            }
+        }
+        true
+    }
+
+    /// Whether no text begins before the one in front, and the last one does not end before it begins.
+    fn do_texts_follow(&self) -> bool
+        requires opened { IsOpened self.now }
+        ensures { IsTrue result ↔ DoTextsFollow self.now.bytes.now self.now.header }
+    {
+        let header = self.header;
+        for t in 0..2 * header.sources + header.names + 3 {
+            if self.offset(t) > self.offset(t + 1) {
+                return false;
+            }
+        }
+        true
+    }
+
+    /// The parts of the map; None if lines or texts go back, which takes no memory, or a text is not UTF-8.
     pub(crate) fn parts(&self, alloc: Global) -> Memory<Option<SourceMapParts<'a>>>
+        requires opened { IsOpened self.now }
+        ensures map { IfOk result (λ parts. IfSome parts (λ made. checked_map
+            (map_in self.now.bytes.now self.now.header) ≡ Some (record_of_parts made))) }
+        ensures few { IfOk result (λ parts. IfSome parts
+            (λ made. length (record_of_parts made).tokens ≤ self.now.header.tokens)) }
+        ensures refused { ¬ (DoesNotGoBack self.now.bytes.now self.now.header)
+            → result ≡ Ok None }
+        ensures none { IfOk result (λ parts. parts ≡ None
+            → DoesNotGoBack self.now.bytes.now self.now.header
+            → checked_map (map_in self.now.bytes.now self.now.header) ≡ None) }
+    {
+        if self.do_lines_follow() && self.do_texts_follow() {
+            self.all_parts(alloc)
+        } else {
+            Ok(None)
+        }
+    }
+
+    /// The parts of the map, with what goes back as often as the bytes have it; None if a text is not UTF-8.
+    fn all_parts(&self, alloc: Global) -> Memory<Option<SourceMapParts<'a>>>
         requires opened { IsOpened self.now }
         ensures { IfOk result (λ parts. option_map record_of_parts parts
             ≡ checked_map (map_in self.now.bytes.now self.now.header)) }

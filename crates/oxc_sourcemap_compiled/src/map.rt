@@ -3,7 +3,7 @@ ghost use Rattle.std.specs.Prelude.{◌≡◌, ◌+◌, ◌*◌, ◌<◌, ◌≤
 ghost use Rattle.std.specs.Prelude.{option_map, [], is_some, take, drop};
 ghost use Rattle.std.specs.List.{AllZip, Contains};
 ghost use Rattle.std.specs.Option.{option_and_then, unwrap_or};
-ghost use Rattle.std.specs.Prelude.{slice_get, Some};
+ghost use Rattle.std.specs.Prelude.{slice_get, Some, None, Ok};
 ghost use Rattle.oxc_sourcemap_tokens.specs.Results.{Gives, lent_item};
 ghost use Rattle.oxc_sourcemap_lookup.specs.Words.{index_for, clamped_index_for, index_after};
 ghost use Rattle.oxc_sourcemap_lookup.specs.Words.{binary_digits};
@@ -13,7 +13,8 @@ ghost use Rattle.oxc_sourcemap_lookup.specs.Words.{token_for, clamped_token_for}
 ghost use Rattle.oxc_sourcemap_lookup.specs.Words.{index_by};
 ghost use Rattle.oxc_sourcemap_lookup.specs.Lookup.{token_after};
 ghost use Rattle.oxc_sourcemap_compiled.specs.Words.{optional_text, listed_text, utf8_text};
-ghost use Rattle.oxc_sourcemap_compiled.specs.Words.{checked_map, IsIndexFor};
+ghost use Rattle.oxc_sourcemap_compiled.specs.Words.{checked_map, token_in, IsIndexFor};
+ghost use Rattle.oxc_sourcemap_compiled.specs.Words.{DoesNotGoBack};
 ghost use Rattle.oxc_sourcemap_parts.specs.Words.{record_of_parts};
 
 use crate::errors::CompiledError;
@@ -132,7 +133,7 @@ impl<'a> CompiledMap<'a> {
         self.opened.lookup_index_after(line, col, &mut 0)
     }
 
-    /// The token of the index that `lookup_token_index` finds.
+    /// The token of the index that `lookup_token_index` finds. Where bytes are not in order, it is some token of the line, or None.
     pub fn lookup_token(&self, line: u32, col: u32) -> Option<Token>
         ensures found { IsInOrder self.now
             → result ≡ token_for (compiled_in self.now).content.tokens line col }
@@ -141,7 +142,7 @@ impl<'a> CompiledMap<'a> {
         self.opened.lookup_token(line, col)
     }
 
-    /// The token of the index that `lookup_token_index_approx` finds.
+    /// The token of the index that `lookup_token_index_approx` finds. Where bytes are not in order, it is some token of the line, or None.
     pub fn lookup_token_approx(&self, line: u32, col: u32) -> Option<Token>
         ensures found { IsInOrder self.now
             → result ≡ clamped_token_for (compiled_in self.now).content.tokens line col }
@@ -150,7 +151,7 @@ impl<'a> CompiledMap<'a> {
         self.opened.lookup_token_clamped(line, col)
     }
 
-    /// The token of the index that `lookup_token_index_after` finds.
+    /// The token of the index that `lookup_token_index_after` finds. Where bytes are not in order, it is some token of the line, or None.
     pub fn lookup_token_after(&self, line: u32, col: u32) -> Option<Token>
         ensures found { IsInOrder self.now
             → result ≡ token_after (compiled_in self.now).content.tokens line col }
@@ -167,8 +168,8 @@ impl<'a> CompiledMap<'a> {
             ≡ index_by bias (compiled_in self.now).content.tokens at.line at.column }
         ensures token { IfSome result (λ found. IsInOrder self.now
             → slice_get (compiled_in self.now).content.tokens found.0 ≡ Some found.1) }
-        ensures among { IfSome result (λ found. IsTokenOn self.now (header_in self.now) at.line
-            found.1) }
+        ensures among { IfSome result (λ found. IsOnLine self.now (header_in self.now) at.line
+            found.0 × (found.1 ≡ token_in self.now (header_in self.now) at.line found.0)) }
     {
         match self.find_index(at, bias) {
             Some(index) => Some((index, self.opened.token_on(at.line, index))),
@@ -388,8 +389,10 @@ impl<'a> CompiledMap<'a> {
         &bytes[24..56]
     }
 
-    /// The parts of the map, which borrow their texts from the bytes; None if a text is not UTF-8. Fails only for want of memory. Of
-    /// bytes that are not in order, where starts of lines go back, a token may come several times, up to as often as there are lines.
+    /// The parts of the map, which borrow their texts from the bytes: at most `token_count` tokens. None if a text is not UTF-8, or, as in
+    /// no bytes that `compile` made, lines or texts go back: the tokens of a line, or the bytes of a text, begin before those of the one in
+    /// front, or the last ones end before they begin. That takes no memory, and else fails only for want of it. A map of bytes that are not
+    /// in order may be unsorted.
     ///
     /// ```rust
     /// use oxc_sourcemap::{SourceMapParts, Token};
@@ -402,8 +405,14 @@ impl<'a> CompiledMap<'a> {
     /// assert!(rt; back.is_some_and(|back| back.tokens.as_slice() == parts.tokens.as_slice()));
     /// ```
     pub fn decompile(&self, alloc: Global) -> Memory<Option<SourceMapParts<'a>>>
-        ensures { IfOk result (λ parts. option_map record_of_parts parts
-            ≡ checked_map (compiled_in self.now).content) }
+        ensures map { IfOk result (λ parts. IfSome parts (λ made. checked_map
+            (compiled_in self.now).content ≡ Some (record_of_parts made))) }
+        ensures few { IfOk result (λ parts. IfSome parts
+            (λ made. length (record_of_parts made).tokens ≤ (header_in self.now).tokens)) }
+        ensures refused { ¬ (DoesNotGoBack self.now (header_in self.now)) → result ≡ Ok None }
+        ensures none { IfOk result (λ parts. parts ≡ None
+            → DoesNotGoBack self.now (header_in self.now)
+            → checked_map (compiled_in self.now).content ≡ None) }
     {
         self.opened.parts(alloc)
     }

@@ -191,7 +191,7 @@ impl<'a> Opened<'a> {
 
     /// Where a text begins in the last part, or the last one ends.
     #[inline(always)]
-    fn offset(&self, t: usize) -> usize
+    pub(crate) fn offset(&self, t: usize) -> usize
         requires opened { IsOpened self.now }
         requires there { t ≤ text_count self.now.header }
         ensures value { result ≡ offset_in self.now.bytes.now self.now.header t }

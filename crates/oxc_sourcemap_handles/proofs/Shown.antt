@@ -1,6 +1,7 @@
 -- Answers that show a token of a map by the texts that it points to.
 use Rattle.std.proofs.Common.{◌≡◌, ℕ, refl, ap, ◌∙◌, sym, subst, Option, Some, None, MatchOption}
-use Rattle.std.proofs.Common.{slice_get, [], option_map}
+use Rattle.std.proofs.Common.{slice_get, [], option_map, IfSome, ◌⊎◌, inl, inr, arith}
+use Rattle.std.proofs.lemmas.Bool.{cases_lt}
 use Rattle.std.specs.Option.{unwrap_or, option_and_then}
 use Rattle.oxc_sourcemap_tokens.specs.Token.{TokenRecord}
 use Rattle.oxc_sourcemap_parts.specs.Record.{Text, MapRecord}
@@ -10,7 +11,7 @@ use Rattle.oxc_sourcemap_map.specs.View.{seen_in, view_original}
 use Rattle.oxc_sourcemap_map.proofs.Picks.{tuple_says}
 use Rattle.oxc_sourcemap_handles.specs.declared.texts.text.Original.{Original}
 use Rattle.oxc_sourcemap_handles.specs.Structs.{HasOriginal, IsSeen, IsShown, kind_by, kind_of}
-use Rattle.oxc_sourcemap_handles.specs.Structs.{numbers_of, numbers_or_none}
+use Rattle.oxc_sourcemap_handles.specs.Structs.{numbers_of, numbers_or_none, index_number}
 
 shown-as : (source name : Option Text) (t : TokenRecord) (p : Original) (original : Option OriginalPosition)
     → MatchOption original (source ≡ None) (λ o. (source ≡ Some o.source.path) × (t.src_line ≡ o.src_line) × (t.src_col ≡ o.src_col) × (name ≡ o.name))
@@ -42,3 +43,12 @@ seen m i t p there is = record {
   name = is.name ∙ sym (ap (λ x. unwrap_or (option_and_then (name_of m.names) x) []) there);
   original = subst (λ x. HasOriginal p (option_map (original_in m) x)) (sym there) is.original;
 }
+
+-- the number of the index of a token of which this holds
+pub numbered : (P : ℕ → Type 0) (found : Option ℕ) (n : ℕ) → n ≡ index_number found → IfSome found P → (n ≡ 4294967295) ⊎ P n
+numbered P None n e is = inl (omega (arith, e))
+numbered P (Some i) n e is =
+    elim (cases_lt i 4294967295) [
+      | inl less ↦ (let same : i ≡ n = omega (arith, e, less) in inr (subst P same is))
+      | inr more ↦ inl (omega (arith, e, more))
+    ]

@@ -58,6 +58,6 @@ IsNotText bytes r = ¬ (IsUtf8 bytes) × (r ≡ NotUtf8 (utf8_valid_len bytes))
 abbrev pub IsSimplifyError : MapRecord → CallError → Type 0
 IsSimplifyError m r = (e : PlanError) × (simplification m ≡ Err e) × (r ≡ Plan e)
 
--- the error of simplifying a map that is not sorted
+-- the error of a map that is not sorted, where it has to be
 abbrev pub IsUnsorted : MapRecord → CallError → Type 0
 IsUnsorted m r = (are_tokens_sorted m.tokens ≡ false) × (r ≡ Plan Unsorted)

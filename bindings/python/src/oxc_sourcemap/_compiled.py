@@ -3,7 +3,9 @@
 from __future__ import annotations
 
 import ctypes
+import errno
 import os
+import stat
 from array import array
 from collections.abc import Callable
 from contextlib import suppress
@@ -73,8 +75,8 @@ class CompiledMap(Handle):
     Until it is closed (by `close`, a `with` or the collector) the buffer cannot be resized or closed; its bytes must not be changed.
 
     Any bytes may be opened. Of such that `SourceMap.compile` did not make, a lookup finds some token of the line, or none, and a text
-    that is not UTF-8 counts as None: a token whose source is none has no source. `decompile`, `sources` and the like of such bytes may
-    take memory of the square of their length.
+    that is not UTF-8 counts as None: a token whose source is none has no source. `sources` and the like of such bytes may take memory
+    of the square of their length.
 
     Raises SourceMapError of NOT_COMPILED, COMPILED_VERSION, COMPILED_LENGTH or COMPILED_SIZES, and ValueError if the buffer is not
     contiguous.
@@ -103,7 +105,8 @@ class CompiledMap(Handle):
     def open_file(path: StrPath) -> CompiledMap:
         """Opens a file, which the system maps into memory: processes that open one file share it. It keeps a descriptor of the file.
 
-        The file must not be changed or cut meanwhile, since that may end the process: rename a new one over it. Raises OSError.
+        The file must not be changed or cut meanwhile, since that may end the process: rename a new one over it. Raises OSError, also of
+        what is no plain file, as a pipe.
 
         >>> import os, tempfile
         >>> with tempfile.TemporaryDirectory() as folder:
@@ -114,10 +117,17 @@ class CompiledMap(Handle):
         ...         map.sources
         ['a.ts']
         """
-        with open(path, "rb") as file:
-            if not os.fstat(file.fileno()).st_size:
+        file = os.open(path, os.O_RDONLY | getattr(os, "O_NONBLOCK", 0) | getattr(os, "O_CLOEXEC", 0))
+        try:
+            status = os.fstat(file)
+            if not stat.S_ISREG(status.st_mode):
+                reason = errno.EISDIR if stat.S_ISDIR(status.st_mode) else errno.EINVAL
+                raise OSError(reason, "Not a plain file", os.fspath(path))
+            if not status.st_size:
                 return CompiledMap(b"")
-            data = mmap(file.fileno(), 0, access=ACCESS_READ)
+            data = mmap(file, 0, access=ACCESS_READ)
+        finally:
+            os.close(file)
         try:
             return CompiledMap(data)
         except BaseException:
@@ -383,7 +393,9 @@ class CompiledMap(Handle):
         return self._read(copied)
 
     def decompile(self) -> Optional[SourceMap]:
-        """The map that was compiled; None if a text is not UTF-8.
+        """The map that was compiled. None if a text is not UTF-8, or, only in bytes that `SourceMap.compile` did not make, the tokens
+        of a line or the bytes of a text begin before those of the one in front, or the last ones end before they begin. A map of such
+        bytes may be unsorted.
 
         >>> CompiledMap(SourceMap.from_tokens([], sources=["a.ts"]).compile()).decompile().to_json()
         '{"version":3,"names":[],"sources":["a.ts"],"mappings":""}'

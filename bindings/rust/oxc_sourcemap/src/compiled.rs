@@ -288,8 +288,9 @@ impl<'a> CompiledMap<'a> {
         is == 1
     }
 
-    /// The map that was compiled; none if a text is not UTF-8. Fails with `OutOfMemory`. Of bytes that [`SourceMap::compile`] did not make
-    /// it may have the square of their length.
+    /// The map that was compiled. None if a text is not UTF-8, or, only in bytes that [`SourceMap::compile`] did not make, the tokens of
+    /// a line or the bytes of a text begin before those of the one in front, or the last ones end before they begin. A map of such bytes
+    /// may be unsorted. Fails with `OutOfMemory`.
     ///
     /// ```
     /// use oxc_sourcemap::{CompiledMap, SourceMap};

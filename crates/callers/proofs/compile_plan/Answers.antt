@@ -1,6 +1,8 @@
-use Rattle.std.proofs.Common.{refl, sym, subst, ap, ◌∙◌, Ok}
+use Rattle.std.proofs.Common.{refl, sym, subst, ap, ◌∙◌, Ok, inl, inr, IfErr, ◌≢◌, Err, ◌≡◌, false}
 use Rattle.std.proofs.lemmas.Result.{IfOk-weaker}
 use Rattle.oxc_sourcemap.specs.Words.{HaveSameTraces, EqualUpToRepeats, compiled_of}
+use Rattle.oxc_sourcemap.specs.Words.{FitsCompiled, are_tokens_sorted, Unsorted, Map, TooLarge}
+use Rattle.callers.proofs.Errors.{not-compiled}
 use Rattle.callers.proofs.compile_plan.Goals as goal
 
 pub returns-clause-means : goal.returns-clause-means
@@ -23,3 +25,12 @@ returns-clause-means c =
       refl,
     ))
     c.compile.ensures.meaning
+
+pub returns-clause-error : goal.returns-clause-error
+returns-clause-error c =
+    let m = c.in_ok-map.map in
+    let same = c.parts_of.ensures ∙ c.as_source_map.ensures in
+    let unsorted = subst (λ r. IfErr c.compile.result (λ e. e ≡ Unsorted → are_tokens_sorted r.tokens ≡ false)) same c.compile.ensures.sorted in
+    let large = subst (λ r. FitsCompiled r → c.compile.result ≢ Err (Map TooLarge)) same c.compile.ensures.large in
+    not-compiled m c.compile.result _ c.in_ok-map.ensures.map.sound.sorted c.compile.ensures.errors unsorted large (λ e is. inl is)
+    (λ e is misfit. inr (inl (is, m, c.in_ok-map.ensures.outcome, misfit)))

@@ -1,26 +1,43 @@
 //! Compiled maps made of maps, opened, and taken apart.
-ghost use Rattle.std.specs.Prelude.{◌≡◌, ◌≢◌, Some, None, length, IfOk, IfErr};
+ghost use Rattle.std.specs.Prelude.{◌≡◌, ◌≢◌, Some, None, Err, length, IfOk, IfErr};
 ghost use Rattle.oxc_sourcemap_c.specs.Words.{HoldsMap, HoldsString, HoldsCompiled, IsErrorAs};
 ghost use Rattle.oxc_sourcemap_c.specs.Words.{no_fault, out_of_memory, IsCompiledFrom, Lengths};
 ghost use Rattle.oxc_sourcemap_c.specs.Words.{IsCompileError, IsOpenError, IsDecompileError};
 ghost use Rattle.oxc_sourcemap_c.specs.Words.{held_compiled, held_map, compiled_fault};
-ghost use Rattle.oxc_sourcemap_c.specs.Words.{checked_map, compiled_in};
+ghost use Rattle.oxc_sourcemap_c.specs.Words.{code_of, CallError, IsTakenApart, IsUncompiled};
+ghost use Rattle.oxc_sourcemap_c.specs.Words.{IsSureDecompileError, IsSureCompileError, IsUnsorted};
 
 use oxc_sourcemap_compiled::{CompiledMap, compile};
 use oxc_sourcemap_handles::{CallError, Fault, Handle, Lent, put_bytes, put_compiled, put_map};
-use oxc_sourcemap_map::{OwnedSourceMap, parts_of};
+use oxc_sourcemap_map::{OwnedSourceMap, SourceMap, parts_of};
 use oxc_sourcemap_parts::owned_parts;
 use std::alloc::Global;
 
 /// The 32 bytes of a stamp. Fails with `Lengths` if there are more or fewer.
 fn stamp_of(bytes: &[u8]) -> Result<&[u8; 32], CallError>
     ensures stamp { IfOk result (λ stamp. stamp.now ≡ bytes.now) }
+    ensures size { IfOk result (λ stamp. length bytes.now ≡ 32) }
     ensures error { IfErr result (λ r. (r ≡ Lengths) × (length bytes.now ≢ 32)) }
 {
     match <&[u8; 32]>::try_from(bytes) {
         Ok(stamp) => Ok(stamp),
         Err(_) => Err(CallError::Lengths),
     }
+}
+
+/// The bytes of a map, compiled.
+fn compile_map(
+    alloc: Global,
+    map: &SourceMap<'static>,
+    text_length: u64,
+    stamp: &[u8; 32],
+) -> Result<Vec<u8>, CallError>
+    ensures bytes { IfOk result
+        (λ bytes. IsCompiledFrom map.now text_length stamp.now bytes.items) }
+    ensures error { IfErr result (λ r. (r ≢ out_of_memory) → IsUncompiled map.now r) }
+    ensures sure { (r : CallError) → IsUnsorted map.now r → result ≡ Err r }
+{
+    Ok(compile(alloc, parts_of(map), text_length, stamp)?)
 }
 
 /// The bytes of the map that is lent, compiled.
@@ -34,10 +51,12 @@ fn compile_lent(
         (λ m. IsCompiledFrom m text_length stamp.now bytes.items)) }
     ensures error { IfErr result (λ r. (r ≢ out_of_memory)
         → IsCompileError (held_map map.now.held) stamp.now r) }
+    ensures sure { (r : CallError) → IsSureCompileError (held_map map.now.held) stamp.now r
+        → result ≡ Err r }
 {
     let map = map.source_map()?;
     let stamp = stamp_of(stamp)?;
-    Ok(compile(alloc, parts_of(map.as_source_map()), text_length, stamp)?)
+    compile_map(alloc, map.as_source_map(), text_length, stamp)
 }
 
 /// Compiles a map, with the number of bytes of its text, and 32 bytes that are kept as they are.
@@ -55,6 +74,8 @@ pub extern "C" fn proved_compile(
     ensures no_error { result ≡ 0 → fault.new ≡ no_fault }
     ensures error { result ≢ 0 → (out.new.held ≡ out.old.held) × IsErrorAs result fault.new
         (IsCompileError (held_map map.now.held) stamp.now) }
+    ensures sure { (r : CallError) → IsSureCompileError (held_map map.now.held) stamp.now r
+        → result ≡ code_of r }
 {
     put_bytes(
         alloc,
@@ -89,11 +110,12 @@ pub extern "C" fn proved_open_compiled(
     put_compiled(alloc, open(bytes), out, fault)
 }
 
-/// The map that a compiled map was made of. Fails with `NoEntry` if a text is not UTF-8.
+/// The map that a compiled map was made of. Fails with `NoEntry` if its lines or texts go back, or a text is not UTF-8.
 fn decompile(alloc: Global, map: &Lent) -> Result<OwnedSourceMap, CallError>
     ensures map { IfOk result (λ made. HoldsCompiled map.now.held
-        (λ bytes. checked_map (compiled_in bytes).content ≡ Some made)) }
+        (λ bytes. IsTakenApart bytes made)) }
     ensures error { IfErr result (λ r. (r ≢ out_of_memory) → IsDecompileError map.now.held r) }
+    ensures sure { (r : CallError) → IsSureDecompileError map.now.held r → result ≡ Err r }
 {
     let compiled = map.compiled()?;
     match compiled.decompile(alloc)? {
@@ -111,10 +133,11 @@ pub extern "C" fn proved_decompile(
     fault: &mut Fault,
 ) -> u32
     ensures map { result ≡ 0 → HoldsMap out.new.held (λ m. HoldsCompiled map.now.held
-        (λ bytes. checked_map (compiled_in bytes).content ≡ Some m)) }
+        (λ bytes. IsTakenApart bytes m)) }
     ensures no_error { result ≡ 0 → fault.new ≡ no_fault }
     ensures error { result ≢ 0 → (out.new.held ≡ out.old.held)
         × IsErrorAs result fault.new (IsDecompileError map.now.held) }
+    ensures sure { (r : CallError) → IsSureDecompileError map.now.held r → result ≡ code_of r }
 {
     put_map(alloc, decompile(alloc, map), out, fault)
 }

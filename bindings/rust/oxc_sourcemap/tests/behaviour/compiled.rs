@@ -230,6 +230,18 @@ fn a_name_that_is_not_utf8_is_none() {
     assert_eq!(compiled.get_name(0), None);
 }
 
+#[test]
+fn no_map_is_made_of_lines_that_go_back() {
+    let bytes = compiled(&full());
+    assert!(CompiledMap::open(&bytes).unwrap().decompile().unwrap().is_some());
+    // The first line begins behind the second, or the last one ends before it begins.
+    for (at, start) in [(88, full().counts().tokens as u8), (96, 2)] {
+        let mut bytes = bytes.clone();
+        bytes[at] = start;
+        assert!(CompiledMap::open(&bytes).unwrap().decompile().unwrap().is_none(), "{at}");
+    }
+}
+
 /// All that a compiled map says, which only has to end.
 fn asked(map: &CompiledMap<'_>) -> String {
     let positions = positions_of(&full());

@@ -7,7 +7,7 @@ use Rattle.oxc_sourcemap_compiled.proofs.map.CompiledMap.find_all.Goals as goal
 
 pub loop-i-preserved : goal.loop-i-preserved
 loop-i-preserved c = record {
-  written = written-more (IsIndexFor c.args.bias c.args.self.now) c.args.positions.now c.loop-i.out c.loop-i.i _ c.find_index.result (omega (arith, c.min-i-end.ensures, c.loop-i.auto.i-end, c.loop-i-test.true)) (omega (arith, c.min-i-end.ensures, c.loop-i.auto.i-end, c.loop-i-test.true)) c.loop-i.invariant.written c.find_index.ensures.found;
+  written = written-more (IsIndexFor c.args.bias c.args.self.now) c.args.positions.now c.loop-i.out c.loop-i.i _ c.find_index.result (omega (arith, c.min-i-end.ensures, c.loop-i.auto.i-end, c.loop-i-test.true)) (omega (arith, c.min-i-end.ensures, c.loop-i.auto.i-end, c.loop-i-test.true)) c.loop-i.invariant.written (record { is = c.find_index.ensures.found; among = c.find_index.ensures.among });
   left = grind (arith, common_steps, c.loop-i.invariant.left);
 }
 

@@ -14,7 +14,7 @@ returns-in-Some c =
     let shown : IsShown m i t p = c.write_compiled.ensures in
     record {
       traced = λ order. is_trace c.args.bias m c.args.at p (Some i) (seen m i t p (c.in-Some.ensures.token order) shown) (λ sorted. c.in-Some.ensures.found order);
-      among = inr (record { index = i; token = t; on_line = c.in-Some.ensures.among; shown = shown });
+      among = inr (record { index = i; token = t; on_line = c.in-Some.ensures.among.0; is = c.in-Some.ensures.among.1; shown = shown });
     }
 
 pub returns-in-None : goal.returns-in-None

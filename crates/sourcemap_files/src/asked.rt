@@ -142,6 +142,7 @@ impl<'a, 'm> Asked<'a, 'm> {
             maps: self.maps.as_deref(),
             outside: self.has("outside"),
             prefixes: self.prefixes.as_slice(),
+            takes_compiled: false,
         }
     }
 

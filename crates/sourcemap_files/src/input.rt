@@ -1,6 +1,7 @@
 //! Files, standard input and standard output.
 use sourcemap_texts::push_visible;
 use sourcemap_words::{Failure, Outcome, failure_of, file_failure};
+use std::alloc::Global;
 use std::fs;
 use std::io::{Read, Write};
 
@@ -18,7 +19,7 @@ fn read_input(rt: &HostRuntime) -> Outcome<Vec<u8>> {
 }
 
 /// The bytes of a file, or of standard input for `-`.
-fn read_bytes(rt: &HostRuntime, path: &str) -> Outcome<Vec<u8>> {
+pub fn read_bytes(rt: &HostRuntime, path: &str) -> Outcome<Vec<u8>> {
     if path == "-" {
         return read_input(rt);
     }
@@ -28,10 +29,9 @@ fn read_bytes(rt: &HostRuntime, path: &str) -> Outcome<Vec<u8>> {
     }
 }
 
-/// The text of a file, or of standard input for `-`.
-pub fn read_text(rt: &HostRuntime, path: &str) -> Outcome<String> {
-    let alloc = rt.alloc();
-    match String::from_utf8(read_bytes(rt, path)?) {
+/// The text that the bytes of a file are.
+pub fn text_in(alloc: Global, path: &str, bytes: Vec<u8>) -> Outcome<String> {
+    match String::from_utf8(bytes) {
         Ok(text) => Ok(text),
         Err(error) => {
             let at = error.utf8_error().valid_up_to();
@@ -39,6 +39,11 @@ pub fn read_text(rt: &HostRuntime, path: &str) -> Outcome<String> {
             Err(failure_of(alloc, shown_name(path), text.as_str()))
         }
     }
+}
+
+/// The text of a file, or of standard input for `-`.
+pub fn read_text(rt: &HostRuntime, path: &str) -> Outcome<String> {
+    text_in(rt.alloc(), path, read_bytes(rt, path)?)
 }
 
 /// Writes bytes to standard output.
@@ -77,6 +82,14 @@ pub fn warn(rt: &HostRuntime, subject: &str, text: &str) {
 pub fn is_file(rt: &HostRuntime, path: &str) -> bool {
     match fs::metadata(rt, path) {
         Ok(metadata) => !metadata.is_dir(),
+        Err(_) => false,
+    }
+}
+
+/// Whether a file is there that is read without waiting: no pipe, nor a device.
+pub fn is_regular(rt: &HostRuntime, path: &str) -> bool {
+    match fs::metadata(rt, path) {
+        Ok(metadata) => metadata.is_file(),
         Err(_) => false,
     }
 }

@@ -3,6 +3,7 @@
 #![tactic(auto)]
 
 mod asked;
+mod compiled;
 mod finding;
 mod input;
 mod limit;
@@ -11,10 +12,13 @@ mod progress;
 mod writing;
 
 pub use asked::{Asked, Status};
+pub use compiled::{
+    COMPILED_END, Decompiled, Written, compiled_of, decompile, is_stale, read_written,
+};
 pub use finding::{
     CodeFile, InputPrefix, Lookup, MapText, Places, Sought, error_text, find_code,
     found_error_text, is_in_root, is_map, is_map_file, language_of, map_by_name, map_of_code,
-    map_of_file, map_without_code, read_map, rooted_map,
+    map_of_file, map_without_code, read_map, rooted_map, text_of_map,
 };
 pub use input::{is_file, print, print_bytes, read_text, shown_name, tell, usage, warn};
 pub use limit::{limit_of, limited_json};
@@ -22,4 +26,4 @@ pub use paths::{
     file_name, folder_of, is_inside, path_of_url, plain_path, real_name, with_slash, written_name,
 };
 pub use progress::Progress;
-pub use writing::{write_text, write_texts};
+pub use writing::{write_files, write_text};

@@ -1,5 +1,5 @@
 //! Writing files, so that each is there whole, as it was or as it is to be.
-use crate::input::print;
+use crate::input::print_bytes;
 use crate::paths::{folder_of, real_name};
 use sourcemap_words::{Failure, Outcome, failure_of, file_failure};
 use std::fs::{File, OpenOptions};
@@ -9,13 +9,13 @@ use std::{fs, io};
 /// So many names are tried for a file beside another one.
 const NAMES: u32 = 1000;
 
-/// A text on its way to a file.
+/// Bytes on their way to a file.
 #[derive(Drop)]
 struct Pending<'t> {
     /// How the file was named.
     path: &'t str,
-    text: &'t str,
-    /// The file, and the one beside it that has the text and is to replace it; None where the file itself is written.
+    bytes: &'t [u8],
+    /// The file, and the one beside it that has the bytes and is to replace it; None where the file itself is written.
     beside: Option<(String, String)>,
 }
 
@@ -42,13 +42,13 @@ fn new_file(rt: &HostRuntime, folder: &str) -> Outcome<io::Result<(File, String)
     Ok(Err(io::Error::from(ErrorKind::AlreadyExists)))
 }
 
-/// Writes a text to a new file, with the permissions of the one that it is to replace, through to the disk.
-fn fill(rt: &HostRuntime, file: File, target: &str, text: &str) -> io::Result<()> {
+/// Writes bytes to a new file, with the permissions of the one that it is to replace, through to the disk.
+fn fill(rt: &HostRuntime, file: File, target: &str, bytes: &[u8]) -> io::Result<()> {
     let mut file = file;
     if let Ok(old) = fs::metadata(rt, target) {
         file.set_permissions(old.permissions())?;
     }
-    file.write_all(text.as_bytes())?;
+    file.write_all(bytes)?;
     file.sync_all()
 }
 
@@ -69,11 +69,11 @@ fn check_writable(rt: &HostRuntime, path: &str) -> Outcome<()> {
     }
 }
 
-/// Writes a text beside its file; `-` and what is no file are left for later. So is a file in a folder that takes no new ones.
-fn begin<'t>(rt: &HostRuntime, path: &'t str, text: &'t str) -> Outcome<Pending<'t>> {
+/// Writes bytes beside their file; `-` and what is no file are left for later. So is a file in a folder that takes no new ones.
+fn begin<'t>(rt: &HostRuntime, path: &'t str, bytes: &'t [u8]) -> Outcome<Pending<'t>> {
     let mut pending = Pending {
         path,
-        text,
+        bytes,
         beside: None,
     };
     if path == "-" || !is_replaced(rt, path) {
@@ -86,7 +86,7 @@ fn begin<'t>(rt: &HostRuntime, path: &'t str, text: &'t str) -> Outcome<Pending<
         Err(error) if error.kind() == ErrorKind::PermissionDenied => return Ok(pending),
         Err(error) => return Err(write_failure(rt, path, error)),
     };
-    let filled = fill(rt, file, target.as_str(), text);
+    let filled = fill(rt, file, target.as_str(), bytes);
     if let Err(error) = filled {
         let _ = fs::remove_file(rt, beside.as_str());
         return Err(write_failure(rt, path, error));
@@ -95,15 +95,15 @@ fn begin<'t>(rt: &HostRuntime, path: &'t str, text: &'t str) -> Outcome<Pending<
     Ok(pending)
 }
 
-/// Puts a text where it is to be.
+/// Puts bytes where they are to be.
 fn finish(rt: &HostRuntime, pending: &Pending<'_>) -> Outcome<()> {
     let path = pending.path;
     if path == "-" {
-        return print(rt, pending.text);
+        return print_bytes(rt, pending.bytes);
     }
     let done = match &pending.beside {
         Some((target, beside)) => fs::rename(rt, beside.as_str(), target.as_str()),
-        None => fs::write(rt, path, pending.text),
+        None => fs::write(rt, path, pending.bytes),
     };
     match done {
         Ok(()) => Ok(()),
@@ -111,7 +111,7 @@ fn finish(rt: &HostRuntime, pending: &Pending<'_>) -> Outcome<()> {
     }
 }
 
-/// Removes the files that are left beside others: all, once a text could not be written.
+/// Removes the files that are left beside others: all, once one could not be written.
 fn give_up(rt: &HostRuntime, all: &[Pending<'_>]) {
     for pending in all {
         if let Some((_, beside)) = &pending.beside {
@@ -122,17 +122,17 @@ fn give_up(rt: &HostRuntime, all: &[Pending<'_>]) {
 
 fn begin_all<'t>(
     rt: &HostRuntime,
-    files: &[(&'t str, &'t str)],
+    files: &[(&'t str, &'t [u8])],
     all: &mut Vec<Pending<'t>>,
 ) -> Outcome<()> {
-    for (path, text) in files {
-        let pending = begin(rt, *path, *text)?;
+    for (path, bytes) in files {
+        let pending = begin(rt, *path, *bytes)?;
         all.push(pending)?;
     }
     Ok(())
 }
 
-/// Puts those texts where they are to be that replace a file, or those that do not.
+/// Puts those where they are to be that replace a file, or those that do not.
 fn finish_all(rt: &HostRuntime, all: &[Pending<'_>], replace: bool) -> Outcome<()> {
     for pending in all {
         if pending.beside.is_some() == replace {
@@ -142,11 +142,11 @@ fn finish_all(rt: &HostRuntime, all: &[Pending<'_>], replace: bool) -> Outcome<(
     Ok(())
 }
 
-/// Writes texts to files, or to standard output for `-`: each first to a new file beside the one that it replaces, and only once all are
-/// on the disk do they replace these. So where a text cannot be written, each file is as it was. A file keeps its permissions; of a link
+/// Writes bytes to files, or to standard output for `-`: each first to a new file beside the one that it replaces, and only once all are
+/// on the disk do they replace these. So where one cannot be written, each file is as it was. A file keeps its permissions; of a link
 /// the file that it leads to is replaced. Devices and pipes are written as they are, and so is a file in a folder that takes no new ones:
 /// these are written before a file is replaced, since that may fail.
-pub fn write_texts(rt: &HostRuntime, files: &[(&str, &str)]) -> Outcome<()> {
+pub fn write_files(rt: &HostRuntime, files: &[(&str, &[u8])]) -> Outcome<()> {
     let mut all = Vec::new(rt.alloc());
     let mut done = begin_all(rt, files, &mut all);
     if done.is_ok() {
@@ -161,7 +161,7 @@ pub fn write_texts(rt: &HostRuntime, files: &[(&str, &str)]) -> Outcome<()> {
     done
 }
 
-/// Writes a text to a file, or to standard output for `-`, as `write_texts` does.
+/// Writes a text to a file, or to standard output for `-`, as `write_files` does.
 pub fn write_text(rt: &HostRuntime, path: &str, text: &str) -> Outcome<()> {
-    write_texts(rt, &[(path, text)])
+    write_files(rt, &[(path, text.as_bytes())])
 }

@@ -8,7 +8,7 @@ use oxc_sourcemap_text::Language;
 use percent_encoding::{AsciiSet, CONTROLS, utf8_percent_encode};
 use sourcemap_files::{
     Asked, Lookup, Progress, Status, file_name, folder_of, language_of, limit_of, limited_json,
-    map_of_code, print, read_map, read_text, real_name, shown_name, usage, warn, write_texts,
+    map_of_code, print, read_map, read_text, real_name, shown_name, usage, warn, write_files,
     written_name,
 };
 use sourcemap_run::{Bundle, push_number_member, push_object, push_text_member};
@@ -89,7 +89,7 @@ fn push_file_object(
 }
 
 /// Refuses to write over a file that is read.
-fn refuse_overwriting(asked: &Asked<'_, '_>, read: &str, written: &str) -> Outcome<()> {
+pub fn refuse_overwriting(asked: &Asked<'_, '_>, read: &str, written: &str) -> Outcome<()> {
     if real_name(asked.rt, read)? != real_name(asked.rt, written)? {
         return Ok(());
     }
@@ -213,10 +213,10 @@ fn write(asked: &Asked<'_, '_>, output: String, bundle: Bundle, limit: u64) -> O
     let path = output_map(alloc, output.as_str())?;
     let text = limited_json(alloc, path.as_str(), parts_of(&map), limit)?;
     let files = [
-        (path.as_str(), text.as_str()),
-        (output.as_str(), code.as_str()),
+        (path.as_str(), text.as_str().as_bytes()),
+        (output.as_str(), code.as_str().as_bytes()),
     ];
-    write_texts(asked.rt, &files)
+    write_files(asked.rt, &files)
 }
 
 /// Runs the command `bundle`.

@@ -4,8 +4,9 @@ use oxc_sourcemap_map::SourceMap;
 use oxc_sourcemap_text::TextPositions;
 use oxc_sourcemap_tokens::{Error, Token};
 use sourcemap_files::{
-    Asked, Lookup, MapText, Progress, Status, error_text, found_error_text, is_file, is_map_file,
-    map_of_code, print, read_text, shown_name, tell,
+    Asked, COMPILED_END, Decompiled, Lookup, MapText, Progress, Status, Written, compiled_of,
+    decompile, error_text, found_error_text, is_file, is_map_file, is_stale, map_of_code, print,
+    read_text, read_written, shown_name, tell,
 };
 use sourcemap_run::{push_object, push_text_member};
 use sourcemap_texts::{push_shown, push_visible};
@@ -76,7 +77,7 @@ fn content_bytes(map: &SourceMap<'_>) -> usize {
     bytes
 }
 
-fn tell_summary(report: &mut Report, text: &str, map: &SourceMap<'_>) -> Outcome<()> {
+fn tell_summary(report: &mut Report, bytes: usize, map: &SourceMap<'_>) -> Outcome<()> {
     let alloc = report.alloc;
     let tokens = map.get_tokens().as_slice();
     let lines = tokens
@@ -86,7 +87,7 @@ fn tell_summary(report: &mut Report, text: &str, map: &SourceMap<'_>) -> Outcome
     let names = count_of(alloc, map.get_names().count() as u64, "name")?;
     let count = count_of(alloc, tokens.len() as u64, "token")?;
     let lines = count_of(alloc, lines, "line")?;
-    let (bytes, contents) = (text.len(), content_bytes(map));
+    let contents = content_bytes(map);
     let text = format!(in alloc;
         "{sources}, {names}, {count} on {lines}; {bytes} bytes, of which {contents} are contents"
     )?;
@@ -253,8 +254,17 @@ fn tell_unneeded(report: &mut Report, map: SourceMap<'static>) -> Outcome<()> {
     report.tell(Kind::Note, text.as_str())
 }
 
-/// What is told of a map, and of its code if there is one.
-fn check_map(report: &mut Report, text: &str, code: Option<&str>) -> Outcome<()> {
+/// What is told of a map that was read, and of its code if there is one.
+fn tell_held(report: &mut Report, map: SourceMap<'static>, code: Option<&str>) -> Outcome<()> {
+    if let Some(code) = code {
+        tell_past_code(report, code, map.get_tokens().as_slice())?;
+    }
+    tell_contents(report, &map)?;
+    tell_unneeded(report, map)
+}
+
+/// What is told of the text of a map.
+fn check_text(report: &mut Report, text: &str, code: Option<&str>) -> Outcome<()> {
     let alloc = report.alloc;
     let FoundParts { parts, mends } = match read_found_parts(alloc, text) {
         Ok(found) => found,
@@ -264,18 +274,37 @@ fn check_map(report: &mut Report, text: &str, code: Option<&str>) -> Outcome<()>
         }
     };
     let map = SourceMap::from_parts(parts);
-    tell_summary(report, text, &map)?;
+    tell_summary(report, text.len(), &map)?;
     tell_faults(report, text, mends.as_slice())?;
-    if let Some(code) = code {
-        tell_past_code(report, code, map.get_tokens().as_slice())?;
-    }
-    tell_contents(report, &map)?;
-    tell_unneeded(report, map)
+    tell_held(report, map, code)
 }
 
-/// The code of a map that is named as its code with `.map` at the end.
+/// What is told of a compiled map.
+fn check_compiled(report: &mut Report, bytes: &[u8], code: Option<&str>) -> Outcome<()> {
+    let parts = match decompile(report.alloc, bytes)? {
+        Decompiled::Map(parts) => parts,
+        Decompiled::Wrong(why) => return report.tell(Kind::Wrong, why.as_str()),
+    };
+    let map = SourceMap::from_parts(parts);
+    tell_summary(report, bytes.len(), &map)?;
+    tell_held(report, map, code)
+}
+
+/// What is told of a map, and of its code if there is one.
+fn check_map(report: &mut Report, map: &Written, code: Option<&str>) -> Outcome<()> {
+    match map {
+        Written::Text(text) => check_text(report, text.as_str(), code),
+        Written::Compiled(bytes) => check_compiled(report, bytes.as_slice(), code),
+    }
+}
+
+/// The code of a map that is named as its code with `.map` at the end, and `.smc` behind that if it is compiled.
 fn code_of(rt: &HostRuntime, map: &str) -> Outcome<Option<String>> {
-    match map.strip_suffix(".map") {
+    match map
+        .strip_suffix(COMPILED_END)
+        .unwrap_or(map)
+        .strip_suffix(".map")
+    {
         Some(code) if is_file(rt, code) => Ok(Some(read_text(rt, code)?)),
         _ => Ok(None),
     }
@@ -295,15 +324,52 @@ fn report_on(asked: &Asked<'_, '_>, file: &str) -> Result<Report, AllocError> {
 pub fn objects_of(asked: &Asked<'_, '_>, map: &MapText, code: &str) -> Outcome<String> {
     let mut report = report_on(asked, map.name.as_str())?;
     report.json = true;
-    check_map(&mut report, map.text.as_str(), Some(code))?;
+    check_map(&mut report, &map.written, Some(code))?;
     Ok(report.out)
 }
 
-/// What is told of a map, beside its code if that is there.
-fn check_as_map(rt: &HostRuntime, file: &str, text: &str, report: &mut Report) -> Outcome<()> {
-    match code_of(rt, file)? {
-        Some(code) => check_map(report, text, Some(code.as_str())),
-        None => check_map(report, text, None),
+/// Tells whether a compiled map is another one than that of the text which it was made of.
+fn tell_different(report: &mut Report, bytes: &[u8], name: &str, text: &str) -> Outcome<()> {
+    let alloc = report.alloc;
+    let parts = match read_found_parts(alloc, text) {
+        Ok(FoundParts { parts, mends: _ }) => parts,
+        Err(error) => {
+            let why = found_error_text(alloc, text, error)?;
+            let told = format!(in alloc; "{name}: {why}")?;
+            return report.tell(Kind::Wrong, told.as_str());
+        }
+    };
+    if compiled_of(alloc, name, &parts, text)?.as_slice() == bytes {
+        return Ok(());
+    }
+    let told = format!(in alloc; "differs from {name}: compile it again")?;
+    report.tell(Kind::Wrong, told.as_str())
+}
+
+/// Tells whether a compiled map is that of the map beside it.
+fn tell_stale(rt: &HostRuntime, file: &str, bytes: &[u8], report: &mut Report) -> Outcome<()> {
+    let Some(name) = file.strip_suffix(COMPILED_END) else {
+        return Ok(());
+    };
+    if !is_file(rt, name) {
+        let told = format!(in report.alloc; "not compared: {name} is not there")?;
+        return report.tell(Kind::Note, told.as_str());
+    }
+    let text = read_text(rt, name)?;
+    if !is_stale(bytes, text.as_str()) {
+        return tell_different(report, bytes, name, text.as_str());
+    }
+    let told = format!(in report.alloc; "stale: {name} has changed since: compile it again")?;
+    report.tell(Kind::Wrong, told.as_str())
+}
+
+/// What is told of a map, beside its code if that is there, and of a compiled one beside its map.
+fn check_as_map(rt: &HostRuntime, file: &str, map: &Written, report: &mut Report) -> Outcome<()> {
+    let code = code_of(rt, file)?;
+    check_map(report, map, code.as_deref())?;
+    match map {
+        Written::Text(_) => Ok(()),
+        Written::Compiled(bytes) => tell_stale(rt, file, bytes.as_slice(), report),
     }
 }
 
@@ -319,11 +385,13 @@ fn check_as_code(
             MapText {
                 name,
                 folder: _,
-                text,
+                is_file: _,
+                written,
+                behind: _,
             },
         ) => {
             report.file = name;
-            check_map(report, text.as_str(), Some(code))
+            check_map(report, &written, Some(code))
         }
         Lookup::None(why) => report.tell(Kind::Wrong, why.as_str()),
     }
@@ -332,11 +400,13 @@ fn check_as_code(
 /// What is told of a file.
 fn check_file(asked: &Asked<'_, '_>, file: &str) -> Outcome<Report> {
     let mut report = report_on(asked, file)?;
-    let text = read_text(asked.rt, file)?;
-    if is_map_file(file, text.as_str()) {
-        check_as_map(asked.rt, file, text.as_str(), &mut report)?;
-    } else {
+    let written = read_written(asked.rt, file)?;
+    if let Written::Text(text) = &written
+        && !is_map_file(file, text.as_str())
+    {
         check_as_code(asked, file, text.as_str(), &mut report)?;
+    } else {
+        check_as_map(asked.rt, file, &written, &mut report)?;
     }
     Ok(report)
 }

@@ -1,11 +1,12 @@
 //! `page`: a code beside its originals, in one file for browsers.
 use crate::check::objects_of;
 use sourcemap_files::{
-    Asked, Lookup, MapText, Status, folder_of, is_file, is_map, map_of_code, map_of_file, print,
-    read_map, read_text, real_name, shown_name, usage, write_text,
+    Asked, Lookup, MapText, Status, Written, folder_of, is_file, is_map, map_of_code, map_of_file,
+    print, read_map, read_text, read_written, real_name, shown_name, text_of_map, usage,
+    write_text,
 };
 use sourcemap_run::{DATA_MARK, fill_template, push_number_member, push_object, push_text_member};
-use sourcemap_words::{Outcome, failure_of};
+use sourcemap_words::{Failure, Outcome, failure_of};
 use std::alloc::{AllocError, Global};
 use std::env;
 
@@ -70,7 +71,8 @@ fn data_of(asked: &Asked<'_, '_>, code: &str, text: &str, map: &MapText) -> Outc
     let mut out = String::from_str(alloc, "{\"code\":")?;
     push_named(alloc, shown_name(code), text, &mut out)?;
     out.push_str(",\"map\":")?;
-    push_named(alloc, map.name.as_str(), map.text.as_str(), &mut out)?;
+    let held = text_of_map(asked.rt, map)?;
+    push_named(alloc, map.name.as_str(), held.as_str(), &mut out)?;
     out.push_str(",\"report\":[")?;
     let objects = objects_of(asked, map, text)?;
     for (i, object) in objects.as_str().lines().enumerate() {
@@ -143,16 +145,24 @@ fn check_output(asked: &Asked<'_, '_>, map: &MapText) -> Outcome<()> {
     Ok(())
 }
 
+/// The failure of a code in whose place a map is named.
+fn no_code(asked: &Asked<'_, '_>, code: &str) -> Failure {
+    failure_of(
+        asked.alloc(),
+        shown_name(code),
+        "is a map: name its code, and the map behind it",
+    )
+}
+
 /// The text of the code. A map in its place is refused.
 fn read_code(asked: &Asked<'_, '_>) -> Outcome<String> {
     let code = asked.word("CODE");
-    let text = read_text(asked.rt, code)?;
+    let text = match read_written(asked.rt, code)? {
+        Written::Text(text) => text,
+        Written::Compiled(_) => return Err(no_code(asked, code)),
+    };
     if is_map(text.as_str()) {
-        return Err(failure_of(
-            asked.alloc(),
-            shown_name(code),
-            "is a map: name its code, and the map behind it",
-        ));
+        return Err(no_code(asked, code));
     }
     Ok(text)
 }

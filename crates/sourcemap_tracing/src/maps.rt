@@ -171,6 +171,14 @@ fn map_of_text(
     }
 }
 
+/// Where files are looked for; compiled maps are taken.
+fn places_of<'a>(asked: &'a Asked<'_, '_>) -> Places<'a> {
+    Places {
+        takes_compiled: true,
+        ..asked.places()
+    }
+}
+
 /// The map of a code that was found.
 fn search_code(asked: &Asked<'_, '_>, file: &str, found: CodeFile) -> Outcome<Search> {
     let (rt, alloc) = (asked.rt, asked.alloc());
@@ -182,7 +190,7 @@ fn search_code(asked: &Asked<'_, '_>, file: &str, found: CodeFile) -> Outcome<Se
     let is_package = file
         .split(['/', '\\'].as_slice())
         .any(|part| part == "node_modules");
-    let places = asked.places();
+    let places = places_of(asked);
     let places = Places {
         root: folder.as_str(),
         maps: if is_package { None } else { places.maps },
@@ -243,7 +251,7 @@ fn not_there(asked: &Asked<'_, '_>, file: &str, sought: &Sought) -> Result<Strin
 
 /// The map of a file that frames name, or why there is none.
 fn search_file(asked: &Asked<'_, '_>, input: &mut InputPrefix, file: &str) -> Outcome<Search> {
-    let (rt, places) = (asked.rt, asked.places());
+    let (rt, places) = (asked.rt, places_of(asked));
     let sought = match find_code(rt, file, places, input)? {
         Sought::Code(found) => return search_code(asked, file, found),
         sought => sought,

@@ -143,7 +143,11 @@ const RESOLVE: Words = Words {
 const CHECK: Words = Words {
     about: "Tells what is wrong in maps, and what they hold",
     json: "An object a line: file, kind (wrong, note or summary), text",
-    words: &[Word("FILE", Kind::Files, "Maps, and codes whose maps are found")],
+    words: &[Word(
+        "FILE",
+        Kind::Files,
+        "Maps, and codes whose maps are found; compiled maps are compared with the maps beside them",
+    )],
 };
 
 const REMAP: Words = Words {
@@ -190,6 +194,23 @@ const BUNDLE: Words = Words {
             "Lines before and after each code",
         ),
         LIMIT,
+    ],
+};
+
+const COMPILE: Words = Words {
+    about: "Compiles maps, as bytes in which positions are looked up in place",
+    json: "An object a line, for each map: map, output, bytes",
+    words: &[
+        Word(
+            "FILE",
+            Kind::Files,
+            "Maps, and codes whose maps are found; each is written as its map with .smc at the end, or none if one cannot be read",
+        ),
+        Word(
+            "output",
+            Kind::Output,
+            "The folder to write to, which has to be there [default: that of each map]; sources stay relative to that of the map",
+        ),
     ],
 };
 
@@ -328,12 +349,13 @@ fn printer<'a>(alloc: Global, name: &'a str, about: &'a str, words: &[Word]) -> 
 }
 
 /// The names of the commands, in the order in which help lists them.
-const COMMANDS: [&str; 10] = [
+const COMMANDS: [&str; 11] = [
     "trace",
     "resolve",
     "check",
     "remap",
     "bundle",
+    "compile",
     "diff",
     "coverage",
     "page",
@@ -351,6 +373,7 @@ fn command_of<'a>(alloc: Global, name: &'a str) -> Built<'a> {
         "check" => command(alloc, name, &CHECK),
         "remap" => command(alloc, name, &REMAP),
         "bundle" => command(alloc, name, &BUNDLE),
+        "compile" => command(alloc, name, &COMPILE),
         "diff" => command(alloc, name, &DIFF),
         "coverage" => command(alloc, name, &COVERAGE),
         "page" => command(alloc, name, &PAGE),

@@ -1,11 +1,12 @@
 //! Finding the map of a code.
+use crate::compiled::{COMPILED_END, Decompiled, Written, decompile, read_fresh, read_written};
 use crate::finding::matching::{Below, CodePath, Files, Found as Match, InputPrefix, named_prefix};
-use crate::input::{is_file, read_text, shown_name, warn};
+use crate::input::{is_file, is_regular, read_text, shown_name, warn};
 use crate::paths::{
     file_name, folder_of, is_folder, is_inside, join_path, parts_of, path_of, path_of_url,
 };
 use oxc_sourcemap_found::{FoundParts, fault_reason, found_fault_at, read_found_parts};
-use oxc_sourcemap_json::json_fault_at;
+use oxc_sourcemap_json::{encode_parts_to_string_within, json_fault_at};
 use oxc_sourcemap_parts::{SourceMapParts, apply_root};
 use oxc_sourcemap_text::{Language, decode_data_url, source_mapping_url};
 use oxc_sourcemap_tokens::{Error, FaultPlace};
@@ -24,18 +25,26 @@ pub struct Places<'a> {
     pub outside: bool,
     /// Where codes lie that engines name by paths with these prefixes.
     pub prefixes: &'a [Prefix],
+    /// Whether the compiled map beside a map is read in its place.
+    pub takes_compiled: bool,
 }
 
 /// More bytes than a path may have.
 const TOO_LONG: usize = 4096;
+/// The most bytes of the text that is made of a compiled map.
+const LONGEST: usize = 268_435_456;
 
-/// The text of a map, and how it is named in messages.
+/// A map as it is written, and how it is named in messages.
 #[derive(Drop)]
 pub struct MapText {
     pub name: String,
     /// The folder that its sources are relative to, with a slash at its end.
     pub folder: String,
-    pub text: String,
+    /// Whether it has a file of its own, of this name.
+    pub is_file: bool,
+    pub written: Written,
+    /// The map that stands behind a compiled one, which is read if that is damaged.
+    pub behind: Option<String>,
 }
 
 /// The map of a code, or why there is none.
@@ -59,13 +68,36 @@ fn may_read(rt: &HostRuntime, path: &str, code: &str, places: Places<'_>) -> boo
     places.outside || is_inside(rt, path, places.root) || is_inside(rt, path, folder_of(code))
 }
 
-fn map_text(rt: &HostRuntime, path: &str) -> Outcome<Lookup> {
-    let alloc = rt.alloc();
+/// The map in a file.
+fn map_in(
+    alloc: Global,
+    path: &str,
+    written: Written,
+    behind: Option<String>,
+) -> Result<Lookup, AllocError> {
     Ok(Lookup::Map(MapText {
         name: String::from_str(alloc, path)?,
         folder: String::from_str(alloc, folder_of(path))?,
-        text: read_text(rt, path)?,
+        is_file: true,
+        written,
+        behind,
     }))
+}
+
+/// The map in a file; or its compiled form, where that is taken, lies beside it, and is fresh.
+fn map_text(rt: &HostRuntime, path: &str, places: Places<'_>) -> Outcome<Lookup> {
+    let alloc = rt.alloc();
+    let beside = format!(in alloc; "{path}{COMPILED_END}")?;
+    let beside = beside.as_str();
+    if places.takes_compiled
+        && is_regular(rt, beside)
+        && may_read(rt, beside, path, places)
+        && let Some(bytes) = read_fresh(rt, beside, path)?
+    {
+        let behind = String::from_str(alloc, path)?;
+        return Ok(map_in(alloc, beside, Written::Compiled(bytes), Some(behind))?);
+    }
+    Ok(map_in(alloc, path, read_written(rt, path)?, None)?)
 }
 
 /// The file in the root that a path from the root of a host names.
@@ -137,7 +169,7 @@ fn map_at_url(rt: &HostRuntime, code: &str, url: &str, places: Places<'_>) -> Ou
             "{code} names the map {path}, outside of the root: allow it by --outside"
         )?));
     }
-    map_text(rt, path.as_str())
+    map_text(rt, path.as_str(), places)
 }
 
 /// The map that a code names.
@@ -147,7 +179,9 @@ fn map_named(rt: &HostRuntime, code: &str, url: &str, places: Places<'_>) -> Out
         Ok(Some(text)) => Ok(Lookup::Map(MapText {
             name: format!(in alloc; "{} (its data URL)", shown_name(code))?,
             folder: String::from_str(alloc, folder_of(code))?,
-            text,
+            is_file: false,
+            written: Written::Text(text),
+            behind: None,
         })),
         Ok(None) => map_at_url(rt, code, url, places),
         Err(error) => Err(failure_of(alloc, shown_name(code), error)),
@@ -161,7 +195,7 @@ pub fn map_in_maps(rt: &HostRuntime, code: &str, places: Places<'_>) -> Outcome<
     };
     let path = format!(in rt.alloc(); "{maps}{}.map", file_name(code))?;
     if is_file(rt, path.as_str()) && is_inside(rt, path.as_str(), maps) {
-        return Ok(Some(map_text(rt, path.as_str())?));
+        return Ok(Some(map_text(rt, path.as_str(), places)?));
     }
     Ok(None)
 }
@@ -171,7 +205,7 @@ fn map_beside(rt: &HostRuntime, code: &str, places: Places<'_>) -> Outcome<Optio
     let beside = format!(in rt.alloc(); "{code}.map")?;
     let beside = beside.as_str();
     if code != "-" && is_file(rt, beside) && may_read(rt, beside, code, places) {
-        return Ok(Some(map_text(rt, beside)?));
+        return Ok(Some(map_text(rt, beside, places)?));
     }
     map_in_maps(rt, code, places)
 }
@@ -221,7 +255,7 @@ pub fn map_without_code(
     let beside = format!(in rt.alloc(); "{code}.map")?;
     let beside = beside.as_str();
     if is_file(rt, beside) && is_in_root(rt, beside, places) {
-        return Ok(Some(map_text(rt, beside)?));
+        return Ok(Some(map_text(rt, beside, places)?));
     }
     map_in_maps(rt, code, places)
 }
@@ -413,21 +447,25 @@ pub fn is_map_file(path: &str, text: &str) -> bool {
     is_map(text) || path.ends_with(".map") || path.ends_with(".json")
 }
 
-/// The text of a map, given as a map, or as a code whose map is found.
+/// A map, given as a map, or as a code whose map is found.
 pub fn map_of_file(rt: &HostRuntime, path: &str, places: Places<'_>) -> Outcome<MapText> {
     let alloc = rt.alloc();
-    let text = read_text(rt, path)?;
-    if is_map_file(path, text.as_str()) {
-        return Ok(MapText {
-            name: String::from_str(alloc, shown_name(path))?,
-            folder: String::from_str(alloc, folder_of(path))?,
-            text,
-        });
+    let written = read_written(rt, path)?;
+    if let Written::Text(text) = &written
+        && !is_map_file(path, text.as_str())
+    {
+        return match map_of_code(rt, path, text.as_str(), places)? {
+            Lookup::Map(map) => Ok(map),
+            Lookup::None(why) => Err(failure_of(alloc, shown_name(path), why.as_str())),
+        };
     }
-    match map_of_code(rt, path, text.as_str(), places)? {
-        Lookup::Map(map) => Ok(map),
-        Lookup::None(why) => Err(failure_of(alloc, shown_name(path), why.as_str())),
-    }
+    Ok(MapText {
+        name: String::from_str(alloc, shown_name(path))?,
+        folder: String::from_str(alloc, folder_of(path))?,
+        is_file: path != "-",
+        written,
+        behind: None,
+    })
 }
 
 /// What stands behind the reason of an error: a number by itself does not tell what is wrong with it.
@@ -466,22 +504,56 @@ pub fn found_error_text(alloc: Global, text: &str, error: Error) -> Result<Strin
     placed_text(alloc, text, found_fault_at(alloc, text), error)
 }
 
-/// Reads a map as it is found. What is mended is told as a warning.
-pub fn read_map(rt: &HostRuntime, map: &MapText) -> Outcome<SourceMapParts<'static>> {
+/// Reads the text of a map as it is found. What is mended is told as a warning.
+fn read_map_text(rt: &HostRuntime, name: &str, text: &str) -> Outcome<SourceMapParts<'static>> {
     let alloc = rt.alloc();
-    match read_found_parts(alloc, map.text.as_str()) {
+    match read_found_parts(alloc, text) {
         Ok(FoundParts { parts, mends }) => {
             for mend in &mends {
                 let text = format!(in alloc; "mended: {mend}")?;
-                warn(rt, map.name.as_str(), text.as_str());
+                warn(rt, name, text.as_str());
             }
             Ok(parts)
         }
         Err(error) => {
-            let text = found_error_text(alloc, map.text.as_str(), error)?;
-            Err(failure_of(alloc, map.name.as_str(), text.as_str()))
+            let text = found_error_text(alloc, text, error)?;
+            Err(failure_of(alloc, name, text.as_str()))
         }
     }
+}
+
+/// Reads the map behind a compiled one, which is damaged.
+fn read_behind(rt: &HostRuntime, map: &MapText, why: &str) -> Outcome<SourceMapParts<'static>> {
+    let Some(path) = map.behind.as_deref() else {
+        return Err(failure_of(rt.alloc(), map.name.as_str(), why));
+    };
+    warn(
+        rt,
+        map.name.as_str(),
+        "is damaged, so its map is read: compile that again",
+    );
+    let text = read_text(rt, path)?;
+    read_map_text(rt, path, text.as_str())
+}
+
+/// Reads a map: its text as it is found, or its compiled form.
+pub fn read_map(rt: &HostRuntime, map: &MapText) -> Outcome<SourceMapParts<'static>> {
+    match &map.written {
+        Written::Text(text) => read_map_text(rt, map.name.as_str(), text.as_str()),
+        Written::Compiled(bytes) => match decompile(rt.alloc(), bytes.as_slice())? {
+            Decompiled::Map(parts) => Ok(parts),
+            Decompiled::Wrong(why) => read_behind(rt, map, why.as_str()),
+        },
+    }
+}
+
+/// The text of a map; of a compiled one that of the map that it holds.
+pub fn text_of_map(rt: &HostRuntime, map: &MapText) -> Outcome<String> {
+    if let Written::Text(text) = &map.written {
+        return Ok(String::from_str(rt.alloc(), text.as_str())?);
+    }
+    let parts = read_map(rt, map)?;
+    Ok(encode_parts_to_string_within(rt.alloc(), &parts, LONGEST)?)
 }
 
 /// The map of a file, given as a map or as a code, with its source root applied.

@@ -31,6 +31,14 @@ Examples:
   sourcemap bundle a.js b.js -o out.js
   sourcemap bundle --wrap '(function () {' '})();' lib/*.js -o out.js";
 
+const COMPILE: &str =
+    "A compiled map can be given wherever a map can, but here. `resolve` takes one that lies beside its map, if that is as long, and is no
+newer or of the same SHA-256; else it tells that it is stale. `check X.map.smc` compares it with X.map; `resolve` looks for no damage.
+
+Examples:
+  sourcemap compile dist/*.js.map
+  sourcemap check dist/*.js.map.smc";
+
 const DIFF: &str = "Examples:
   sourcemap diff before.js.map after.js.map";
 
@@ -62,6 +70,7 @@ pub fn examples_of(command: &str) -> &'static str {
         "check" => CHECK,
         "remap" => REMAP,
         "bundle" => BUNDLE,
+        "compile" => COMPILE,
         "diff" => DIFF,
         "coverage" => COVERAGE,
         "page" => PAGE,

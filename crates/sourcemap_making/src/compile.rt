@@ -1,0 +1,134 @@
+//! `compile`: maps as bytes in which positions are looked up in place.
+use crate::bundle::refuse_overwriting;
+use sourcemap_files::{
+    Asked, COMPILED_END, MapText, Progress, Status, Written, compiled_of, file_name, folder_of,
+    is_file, map_of_file, print, read_map, real_name, usage, with_slash, write_files,
+};
+use sourcemap_run::{push_number_member, push_object, push_text_member};
+use sourcemap_words::{Outcome, failure_of};
+use std::alloc::AllocError;
+
+/// A compiled map, and the file that it is written to.
+#[derive(Drop)]
+struct Made {
+    /// How its map is named in messages.
+    map: String,
+    output: String,
+    /// The name of the output without links and dots.
+    place: String,
+    bytes: Vec<u8>,
+}
+
+/// The file that the compiled map of a file is written to: beside its map, or in the folder of `-o`. A map in a code is named as one
+/// beside it would be.
+fn output_of(asked: &Asked<'_, '_>, file: &str, map: &MapText) -> Outcome<String> {
+    let alloc = asked.alloc();
+    let (name, end) = if map.is_file {
+        (map.name.as_str(), "")
+    } else {
+        (file, ".map")
+    };
+    let output = asked.word("output");
+    if output.is_empty() {
+        return Ok(format!(in alloc; "{name}{end}{COMPILED_END}")?);
+    }
+    let folder = with_slash(alloc, output)?;
+    Ok(format!(in alloc; "{folder}{}{end}{COMPILED_END}", file_name(name))?)
+}
+
+/// The path of a file without links and dots, by which two names of one file are the same, even if it is not there.
+fn place_of(rt: &HostRuntime, path: &str) -> Result<String, AllocError> {
+    if is_file(rt, path) {
+        return real_name(rt, path);
+    }
+    let folder = match folder_of(path) {
+        "" => ".",
+        folder => folder,
+    };
+    let folder = real_name(rt, folder)?;
+    format!(in rt.alloc(); "{}/{}", folder.as_str(), file_name(path))
+}
+
+/// Reads the map of a file, and compiles it.
+fn made_of(asked: &Asked<'_, '_>, file: &str) -> Outcome<Made> {
+    let (rt, alloc) = (asked.rt, asked.alloc());
+    if file == "-" {
+        return Err(usage(
+            rt,
+            "standard input has no name for its compiled map: name a file",
+        ));
+    }
+    let map = map_of_file(rt, file, asked.places())?;
+    let Written::Text(text) = &map.written else {
+        return Err(failure_of(
+            alloc,
+            map.name.as_str(),
+            "is compiled already: name its map",
+        ));
+    };
+    let output = output_of(asked, file, &map)?;
+    refuse_overwriting(asked, map.name.as_str(), output.as_str())?;
+    let parts = read_map(rt, &map)?;
+    let bytes = compiled_of(alloc, map.name.as_str(), &parts, text.as_str())?;
+    Ok(Made {
+        map: map.name,
+        place: place_of(rt, output.as_str())?,
+        output,
+        bytes,
+    })
+}
+
+/// Refuses to write two maps to one file.
+fn refuse_twice(asked: &Asked<'_, '_>, all: &[Made], new: &Made) -> Outcome<()> {
+    if all.iter().any(|made| made.place == new.place) {
+        return Err(failure_of(
+            asked.alloc(),
+            new.output.as_str(),
+            "would be written twice: name each map once, and those of one name apart",
+        ));
+    }
+    Ok(())
+}
+
+/// Writes the compiled maps.
+fn write(asked: &Asked<'_, '_>, all: &[Made]) -> Outcome<()> {
+    let mut files = Vec::new(asked.alloc());
+    for made in all {
+        files.push((made.output.as_str(), made.bytes.as_slice()))?;
+    }
+    write_files(asked.rt, files.as_slice())
+}
+
+/// The objects of `--json`, one a line.
+fn objects_of(asked: &Asked<'_, '_>, all: &[Made]) -> Outcome<String> {
+    let alloc = asked.alloc();
+    let mut out = String::new(alloc);
+    for made in all {
+        let mut members = String::new(alloc);
+        push_text_member("map", made.map.as_str(), &mut members)?;
+        push_text_member("output", made.output.as_str(), &mut members)?;
+        push_number_member(alloc, "bytes", made.bytes.len() as u64, &mut members)?;
+        push_object(members.as_str(), &mut out)?;
+        out.push('\n')?;
+    }
+    Ok(out)
+}
+
+/// Runs the command `compile`.
+pub fn run(asked: &Asked<'_, '_>) -> Outcome<Status> {
+    let files = asked.words("FILE")?;
+    let mut progress = Progress::new(asked.rt, files.len());
+    let mut all = Vec::new(asked.alloc());
+    for file in &files {
+        progress.begin(asked.rt, file);
+        let made = made_of(asked, file)?;
+        refuse_twice(asked, all.as_slice(), &made)?;
+        all.push(made)?;
+    }
+    progress.clear(asked.rt);
+    write(asked, all.as_slice())?;
+    if asked.has("json") {
+        print(asked.rt, objects_of(asked, all.as_slice())?.as_str())?;
+    }
+    Ok(Status::Found)
+}

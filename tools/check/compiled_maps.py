@@ -1,0 +1,91 @@
+"""What `sourcemap compile` writes; and that `check` and `resolve` tell what is not of its map, by its length, its time and its SHA-256.
+For tools/check/sourcemap."""
+
+import base64
+import hashlib
+import json
+import os
+import struct
+import tempfile
+from pathlib import Path
+
+STALE = "is stale, so its map is read: compile that again"
+DAMAGED = "is damaged, so its map is read: compile that again"
+NONE = "not a compiled source map, so its map is read"
+
+
+def made(run, check, folder, text):
+    """Compiles a map, of a script that names it and of one that has it in itself; the bytes."""
+    url = base64.b64encode(text.encode()).decode()
+    Path(folder, "d.js").write_text(f"x\n//# sourceMappingURL=data:application/json;base64,{url}\n")
+    Path(folder, "maps").mkdir()
+    ran = [run(["compile", *words], folder) for words in (["app.js", "d.js", "-o", "maps"], ["app.js.map"])]
+    check(ran == [(0, "", "")] * 2, f"maps that are compiled: {ran}")
+    data = Path(folder, "app.js.map.smc").read_bytes()
+    head = b"smap" + struct.pack("<IQQ", 1, len(data), len(text)) + hashlib.sha256(text.encode()).digest()
+    check(data.startswith(head), f"a compiled map begins with {data[:56]!r}, not {head!r}")
+    for name in ("maps/app.js.map.smc", "maps/d.js.map.smc"):
+        check(Path(folder, name).read_bytes() == data, f"{name} is another one than that beside its map")
+    return data
+
+
+def resolved(run, folder, text, age):
+    """By which map a frame is led back, and where, if the map has this text and is so much older than its compiled one; what is told."""
+    when = os.stat(Path(folder, "app.js.map.smc")).st_mtime - age
+    Path(folder, "app.js.map").write_text(text)
+    os.utime(Path(folder, "app.js.map"), (when, when))
+    _, out, err = run(["resolve", "--json"], folder, "f@app.js:1:14\n")
+    told = json.loads(out)
+    return told["map"], told["source"], err
+
+
+def not_taken(run, check, folder, text, data):
+    """A compiled map whose first line begins behind its second, one that is none, and a pipe that nobody writes to: the map is read."""
+    file = Path(folder, "app.js.map.smc")
+    for written, why in ((data[:88] + b"\xff" + data[89:], DAMAGED), (b"", NONE), (None, "")):
+        file.unlink()
+        if written is None:
+            os.mkfifo(file)
+        else:
+            file.write_bytes(written)
+        _, source, err = resolved(run, folder, text, 60)
+        told = f"sourcemap: app.js.map.smc: {why}\n" if why else ""
+        check((source, err) == ("src/a.ts", told), f"a compiled map that is not taken: {source}, {err}, not {told}")
+    file.unlink()
+
+
+def refused(run, check, folder):
+    """One map by two names is compiled once; a compiled map without its map is compared with none."""
+    told = run(["compile", "app.js.map", "./app.js.map"], folder)
+    wanted = (2, "", "sourcemap: ./app.js.map.smc: would be written twice: name each map once, and those of one name apart\n")
+    check(told == wanted, f"a map that is compiled twice: {told}, not {wanted}")
+    told = run(["check", "maps/d.js.map.smc"], folder)
+    check(told[0] == 0 and "note: not compared: maps/d.js.map is not there\n" in told[1], f"a check without a map: {told}")
+
+
+def tried(run, check, code, text):
+    other = text.replace("a.ts", "c.ts")
+    with tempfile.TemporaryDirectory() as folder:
+        Path(folder, "app.js").write_text(code)
+        Path(folder, "app.js.map").write_text(text)
+        data = made(run, check, folder, text)
+        for now, age, wanted in (
+            (text, 0, ("app.js.map.smc", "src/a.ts", "")),
+            (text, -60, ("app.js.map.smc", "src/a.ts", "")),
+            (other, 60, ("app.js.map.smc", "src/a.ts", "")),
+            (other, -60, ("app.js.map", "src/c.ts", f"sourcemap: app.js.map.smc: {STALE}\n")),
+            (f"{text} ", 60, ("app.js.map", "src/a.ts", f"sourcemap: app.js.map.smc: {STALE}\n")),
+        ):
+            found = resolved(run, folder, now, age)
+            check(found == wanted, f"a map {age} s older than its compiled one: {found}, not {wanted}")
+        Path(folder, "app.js.map").write_text(text)
+        for damaged, wanted in (
+            (data.replace(b"a.ts", b"e.ts"), "differs from app.js.map: compile it again"),
+            (data[:-1], "a compiled source map has another length than it says"),
+            (data.replace(b"src", b"\xff\xff\xff"), "is damaged: compile its map again"),
+        ):
+            Path(folder, "app.js.map.smc").write_bytes(damaged)
+            status, out, _ = run(["check", "app.js.map.smc"], folder)
+            check(status == 1 and f"app.js.map.smc: wrong: {wanted}\n" in out, f"{wanted}: {status}, {out}")
+        refused(run, check, folder)
+        not_taken(run, check, folder, text, data)

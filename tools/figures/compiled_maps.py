@@ -10,6 +10,7 @@ with a stamp of its own, and ask each once: what memory they have that is not sh
 """
 
 import argparse
+import gc
 import hashlib
 import multiprocessing
 import os
@@ -111,10 +112,13 @@ def row(path, folder):
         text, *others = (ask(*at) for ask in asked)
         if any(it != text for it in others):
             sys.exit(f"{path}: at {at} {text}, {others}")
+    each = " / ".join(f"{lookup(ask, places):.1f}" for ask in asked)
+    # (no page of a file that is mapped leaves the page cache)
+    asked.clear()
+    gc.collect()
     size = path.stat().st_size
     sizes = " / ".join(f"{file.stat().st_size / size:.2f}" for _, file in forms[1:])
     times = [" / ".join(f"{first(opened, file, places[0], is_cold):.3g}" for opened, file in forms) for is_cold in (False, True)]
-    each = " / ".join(f"{lookup(ask, places):.1f}" for ask in asked)
     print(f"|{path.name}|{len(map)}|{size}|{sizes}|{times[0]}|{times[1]}|{each}|", flush=True)
 
 

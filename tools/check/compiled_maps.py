@@ -9,7 +9,7 @@ import struct
 import tempfile
 from pathlib import Path
 
-STALE = "is stale, so its map is read: compile that again"
+STALE = "is out of date, so its map is read: compile it again"
 DAMAGED = "is damaged, so its map is read: compile that again"
 NONE = "not a compiled source map, so its map is read"
 

@@ -148,6 +148,8 @@ def copies(path, count, folder):
     for it in all_:
         it.start()
     told = [out.get() for _ in all_]
+    if any(answers != 1 for *_, answers in told):
+        sys.exit(f"{path}: its copies do not answer alike")
     size = sum(it.stat().st_size for it in Path(folder).iterdir())
     private_ = sum(it[0] for it in told) / 1e6
     print(f"{count} copies of {path.name}, {size / 1e9:.1f} GB: four processes open and ask all in {max(it[1] for it in told):.1f} s, with {private_:.0f} MB of their own")

@@ -339,7 +339,7 @@ pub fn evaluated_text(alloc: Global, plan: &Plan<'_>) -> std::result::Result<Str
 /// Evaluates a plan, and compiles its map, with the length of a text and a stamp that are kept. The bytes are in order, so that lookups
 /// in them are exact, and mean a map that has at every position, exact and clamped, the trace that the plan means.
 ///
-/// Fails as `evaluate` does, and with `Map(TooLarge)` if the map that the steps of the plan make does not fit into a compiled map.
+/// Fails as `evaluate` does, and with `Map(TooLarge)` if the map that the steps of the plan make is not sure to fit into a compiled map.
 pub fn compile_plan(
     alloc: Global,
     plan: &Plan<'_>,

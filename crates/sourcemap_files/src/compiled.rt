@@ -78,7 +78,11 @@ fn is_taken(rt: &HostRuntime, path: &str, bytes: &[u8], of: &str) -> Outcome<boo
         Ok(map) => {
             let is_fresh = is_fresh(rt, path, &map, of)?;
             if !is_fresh {
-                warn(rt, path, "is stale, so its map is read: compile that again");
+                warn(
+                    rt,
+                    path,
+                    "is out of date, so its map is read: compile it again",
+                );
             }
             Ok(is_fresh)
         }

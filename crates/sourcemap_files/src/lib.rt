@@ -23,7 +23,8 @@ pub use finding::{
 pub use input::{is_file, print, print_bytes, read_text, shown_name, tell, usage, warn};
 pub use limit::{limit_of, limited_json};
 pub use paths::{
-    file_name, folder_of, is_inside, path_of_url, plain_path, real_name, with_slash, written_name,
+    file_name, folder_of, is_inside, path_of_url, place_of, plain_path, real_name, with_slash,
+    written_name,
 };
 pub use progress::Progress;
 pub use writing::{write_files, write_text};

@@ -136,6 +136,15 @@ pub fn real_name(rt: &HostRuntime, path: &str) -> Result<String, AllocError> {
     }
 }
 
+/// As `real_name`, but of a file that is not there in a folder that is: without links and dots in front of its name.
+pub fn place_of(rt: &HostRuntime, path: &str) -> Result<String, AllocError> {
+    if let Some(real) = real_path(rt, path) {
+        return Ok(real);
+    }
+    let folder = real_name(rt, folder_of(path))?;
+    format!(in rt.alloc(); "{}/{}", folder.as_str(), file_name(path))
+}
+
 /// The parts of a path in a folder, `.` left out and each `..` taken together with the part before it.
 fn plain_parts<'p>(
     alloc: Global,

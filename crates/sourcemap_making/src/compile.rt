@@ -1,12 +1,11 @@
 //! `compile`: maps as bytes in which positions are looked up in place.
 use crate::bundle::refuse_overwriting;
 use sourcemap_files::{
-    Asked, COMPILED_END, MapText, Progress, Status, Written, compiled_of, file_name, folder_of,
-    is_file, map_of_file, print, read_map, real_name, usage, with_slash, write_files,
+    Asked, COMPILED_END, MapText, Progress, Status, Written, compiled_of, file_name, map_of_file,
+    place_of, print, read_map, usage, with_slash, write_files,
 };
 use sourcemap_run::{push_number_member, push_object, push_text_member};
 use sourcemap_words::{Outcome, failure_of};
-use std::alloc::AllocError;
 
 /// A compiled map, and the file that it is written to.
 #[derive(Drop)]
@@ -34,19 +33,6 @@ fn output_of(asked: &Asked<'_, '_>, file: &str, map: &MapText) -> Outcome<String
     }
     let folder = with_slash(alloc, output)?;
     Ok(format!(in alloc; "{folder}{}{end}{COMPILED_END}", file_name(name))?)
-}
-
-/// The path of a file without links and dots, by which two names of one file are the same, even if it is not there.
-fn place_of(rt: &HostRuntime, path: &str) -> Result<String, AllocError> {
-    if is_file(rt, path) {
-        return real_name(rt, path);
-    }
-    let folder = match folder_of(path) {
-        "" => ".",
-        folder => folder,
-    };
-    let folder = real_name(rt, folder)?;
-    format!(in rt.alloc(); "{}/{}", folder.as_str(), file_name(path))
 }
 
 /// Reads the map of a file, and compiles it.

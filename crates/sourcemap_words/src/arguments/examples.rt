@@ -32,8 +32,9 @@ Examples:
   sourcemap bundle --wrap '(function () {' '})();' lib/*.js -o out.js";
 
 const COMPILE: &str =
-    "A compiled map can be given wherever a map can, but here. `resolve` takes one that lies beside its map, if that is as long, and is no
-newer or of the same SHA-256; else it tells that it is stale. `check X.map.smc` compares it with X.map; `resolve` looks for no damage.
+    "A compiled map can be given to each command that takes a map, except this one. `resolve` uses one that lies beside its map, if the
+map is as long, and is no newer or of the same SHA-256; else it says that the compiled map is out of date. `check X.map.smc` compares it
+with X.map; `resolve` looks for no damage.
 
 Examples:
   sourcemap compile dist/*.js.map

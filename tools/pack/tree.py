@@ -66,8 +66,8 @@ def text(content, mode=0o644):
 
 
 def usage():
-    """What `smap --help` says, as bin/smap of the repository has it, for the program where it is installed."""
-    return re.search(r"cat <<'TEXT'\n(.*?)^TEXT\n", (TOP / "bin/smap").read_text(), re.S | re.M)[1].replace("bin/s", "s")
+    """What `smap --help` says, as ./smap of the repository has it, for the program where it is installed."""
+    return re.search(r"cat <<'TEXT'\n(.*?)^TEXT\n", (TOP / "smap").read_text(), re.S | re.M)[1].replace("./s", "s")
 
 
 def pc(lib, has_rpath):
@@ -89,6 +89,7 @@ def development(products, processor, lib, has_rpath):
     up = "/".join([".."] * (lib.count("/") + 3))
     header = (products.library(processor) / "oxc_sourcemap.h").read_bytes()
     files = {f"{lib}/liboxc_sourcemap.a": File(products.static(processor)), "include/oxc_sourcemap.h": File(header)}
+    files["include/oxc_sourcemap.hpp"] = File((TOP / "bindings/c/oxc_sourcemap.hpp").read_bytes())
     files[f"{lib}/liboxc_sourcemap.so"] = File(link="liboxc_sourcemap.so.1")
     files[f"{lib}/pkgconfig/oxc_sourcemap.pc"] = text(pc(lib, has_rpath))
     files[f"{lib}/cmake/oxc_sourcemap/oxc_sourcemapConfig.cmake"] = text(CMAKE_CONFIG.format(up=up, lib=lib))

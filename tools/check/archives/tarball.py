@@ -27,7 +27,7 @@ def calls_of_header():
 
 def has_files(tree, processor):
     """The folder has what it is to have: programs that may be run, the library with its name, and a page for each function."""
-    wanted = "README lib/liboxc_sourcemap.a lib/liboxc_sourcemap.so.1 include/oxc_sourcemap.h share/doc/junketscarp/LICENSE"
+    wanted = "README lib/liboxc_sourcemap.a lib/liboxc_sourcemap.so.1 include/oxc_sourcemap.h include/oxc_sourcemap.hpp share/doc/junketscarp/LICENSE"
     wanted += " share/doc/junketscarp/LICENSES-OF-LIBRARIES share/doc/junketscarp/CHANGELOG.md share/doc/junketscarp/PROVED.txt share/man/man3/oxc_sourcemap.3"
     programs = [it for it in ("smap", "sourcemap") if (TOP / "crates" / it).is_dir()] if processor == "x64" else []
     for it in programs:

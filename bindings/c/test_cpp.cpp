@@ -1,0 +1,161 @@
+/* test_cpp FILE: tries oxc_sourcemap.hpp: each call once at least, errors as they are thrown, and what is moved and freed (under
+ * sanitizers). FILE is written, and removed. */
+#include "oxc_sourcemap.hpp"
+
+#include <cstdio>
+#include <cstdlib>
+#include <fstream>
+#include <type_traits>
+
+using namespace oxc_sourcemap;
+
+#define CHECK(condition) ((condition) ? void() : (std::printf("%s:%d: %s\n", __FILE__, __LINE__, #condition), std::exit(1)))
+
+namespace {
+
+const char *const SMALL = R"({"version":3,"sources":["a.js"],"names":["x"],"mappings":"AAAA,GAAIA"})";
+const char *const BUNDLE =
+    R"({"version":3,"file":"bundle.js","names":["area","box","width","height","who"],"sources":["area.js","hello.js"],"mappings":"AAAA,IAAIA,KAAO,SAAUC,GAAO,OAAOA,EAAIC,MAAQD,EAAIE,MAAQ;ACA3D,MAAM,MAASC,GAAQ,UAAUA"})";
+const char *const AREA =
+    R"({"version":3,"file":"area.js","sourceRoot":"","names":[],"sources":["area.ts"],"mappings":"AACA,IAAM,IAAI,GAAG,UAAC,GAAQ,IAAK,OAAA,GAAG,CAAC,KAAK,GAAG,GAAG,CAAC,MAAM,EAAtB,CAAsB,CAAC"})";
+const char *const HELLO = R"({"version":3,"names":[],"sources":["hello.ts"],"mappings":"AACA,MAAM,QAAQ,CAAC,QAAc,UAAU"})";
+const char *const ORIGINALS =
+    R"({"version":3,"file":"bundle.js","names":["area","box","width","height","who"],"sources":["area.ts","hello.ts"],"mappings":"AACA,IAAMA,KAAO,SAACC,GAAa,OAAAA,EAAIC,MAAQD,EAAIE,MAAhB;ACA3B,MAAM,MAASC,GAAc,UAAUA"})";
+
+/* The code of what is thrown, or 0. */
+template <class Call> std::uint32_t thrown(Call call) {
+    try {
+        call();
+    } catch (const Error &error) {
+        return error.code();
+    }
+    return SMAP_OK;
+}
+
+bool is(const std::optional<Original> &found, std::uint32_t index, std::string_view source, std::uint32_t line, std::uint32_t column) {
+    return found && found->index == index && found->source == source && found->token.src_line == line && found->token.src_col == column;
+}
+
+void reads_and_asks() {
+    auto map = SourceMap::from_json(SMALL);
+    CHECK(is(map.trace(0, 3), 1, "a.js", 0, 4) && map.trace(0, 3)->name == "x" && !map.trace(0, 2)->name);
+    CHECK(!map.trace(1, 0) && !map.trace(0, 4, Bias::After) && is(map.trace(0, 1, Bias::After), 1, "a.js", 0, 4));
+    auto all = map.trace_all({{0, 9}, {7, 0}});
+    CHECK(all.size() == 2 && is(all[0], 1, "a.js", 0, 4) && !all[1]);
+    CHECK((map.find_all({{0, 9}, {7, 0}, {0, 0}}, Bias::Clamped) == std::vector<std::uint32_t>{1, SMAP_NO_ID, 0}));
+    auto pieces = map.pieces({0, 1}, {0, 9});
+    CHECK(pieces.size() == 2 && pieces[0].index == 0 && pieces[1].begin.column == 3 && pieces[1].end.column == 9);
+    CHECK(thrown([&] { map.generated(0, 0, 4); }) == SMAP_NO_INDEX);
+    map.index_sources();
+    CHECK(map.generated(0, 0, 4)->first == 1 && map.generated(0, 0, 4)->second.dst_col == 3 && !map.generated(0, 0, 5));
+    CHECK(map.generated(0, 0, 9, Direction::For)->first == 1 && map.all_generated(0, 0, 0, Direction::OnLine).size() == 2);
+    CHECK(!map.first_difference(map.clone()) && map.first_difference(SourceMap::from_json(BUNDLE))->column == 0);
+}
+
+void holds() {
+    auto map = SourceMap::from_json(SMALL);
+    CHECK(map.counts().tokens == 2 && map.counts().lines == 1 && map.is_sorted() && map.is_sound());
+    CHECK(!map.file() && !map.source_root() && !map.debug_id() && !map.ignore_list() && !map.source_content(0));
+    map.set_file("a.min.js"), map.set_source_root("src"), map.set_debug_id("1-2"), map.set_ignore_list({0});
+    map.set_source_contents({""}), map.set_sources({"b.js"});
+    CHECK(map.file() == "a.min.js" && map.source_root() == "src" && map.debug_id() == "1-2" && map.source_content(0) == "");
+    CHECK(*map.ignore_list() == std::vector<std::uint32_t>{0} && map.source(0) == "b.js" && !map.source(1) && map.name(0) == "x");
+    map.apply_source_root();
+    CHECK(map.sources() == std::vector<std::string_view>{"src/b.js"} && map.names().size() == 1 && map.token(1)->name_id == 0 && !map.token(2));
+    CHECK(map.source_contents()[0] == "" && map.tokens()[1].src_col == 4);
+    map.set_source_contents({std::nullopt});
+    CHECK(map.source_contents().size() == 1 && !map.source_contents()[0]);
+    auto back = SourceMap::from_tokens({{0, 3, 0, 0, 0, SMAP_NO_ID}, {0, 0, 0, 0, SMAP_NO_ID, SMAP_NO_ID}}, {"y"}, {"c.js"}, {"c"}, {0});
+    CHECK(!back.is_sorted() && back.source_content(0) == "c");
+    back.sort(), back.simplify();
+    CHECK(back.is_sorted() && back.names().empty() && !back.trace(0, 0)->source && is(back.trace(0, 3), 1, "c.js", 0, 0));
+}
+
+void writes() {
+    auto map = SourceMap::from_json(SMALL);
+    CHECK(map.mappings().view() == "AAAA,GAAIA" && encode_mappings(map.tokens()).str() == "AAAA,GAAIA");
+    CHECK(SourceMap::decode_mappings("AAAA,GAAIA", 1, 1).tokens().size() == 2);
+    CHECK(thrown([&] { map.to_json(3); }) == SMAP_TOO_LARGE && thrown([&] { map.mappings(9); }) == SMAP_TOO_LARGE && map.mappings(10).view().size() == 10);
+    CHECK(decode_data_url(map.to_data_url())->view() == map.to_json().view() && !decode_data_url("a.js.map"));
+    CHECK(source_mapping_url("x\n//# sourceMappingURL=a.js.map\n") == "a.js.map" && !source_mapping_url("x"));
+    CHECK(source_mapping_url("x\n/*# sourceMappingURL=a.css.map */", Language::Css) == "a.css.map" && !source_mapping_url("x\n//# sourceMappingURL=a", Language::Css));
+    map.set_sources({"a.js"}), map.set_source_contents({"    x"});
+    CHECK(map.visualize("   x").view().find("a.js") != std::string_view::npos && map.visualizer_url("   x").view().substr(0, 6) == "https:");
+    SourceMapBuilder builder;
+    builder.set_file("file");
+    auto source = builder.add_source_and_content("baz.js", "");
+    builder.add_tokens({{0, 0, 0, 0, source, builder.add_name("x")}});
+    CHECK(builder.add_source("baz.js") == source && builder.add_source("other.js") == 1);
+    CHECK(builder.finish().to_json().view().substr(0, 62) == R"({"version":3,"file":"file","names":["x"],"sources":["baz.js",")");
+    CHECK(builder.finish().tokens().empty());
+}
+
+void makes_of_others() {
+    auto bundle = SourceMap::from_json(BUNDLE), area = SourceMap::from_json(AREA), hello = SourceMap::from_json(HELLO);
+    auto remapped = bundle.remap({{"area.js", area}, {"hello.js", hello}});
+    CHECK(remapped.to_json().view() == ORIGINALS && is(remapped.trace(1, 12), remapped.trace(1, 12)->index, "hello.ts", 1, 15));
+    CHECK(SourceMap::evaluate({"remap", "@0", "2", "area.js", "@1", "hello.js", "@2"}, {BUNDLE, AREA, HELLO}).to_json().view() == ORIGINALS);
+    auto joined = SourceMap::join({{area, {0, 0}}, {hello, {1, 4}}});
+    CHECK(is(joined.trace(1, 4), joined.trace(1, 4)->index, "hello.ts", 1, 0) && !joined.trace(1, 3) && joined.sources().size() == 2);
+    auto small = SourceMap::from_json(SMALL);
+    CHECK(is(small.compose(small).trace(0, 3), 1, "a.js", 0, 4));
+    auto found = SourceMap::read_found(std::string("\xef\xbb\xbf") + SMALL);
+    CHECK(found.mends.size() == 1 && found.mends[0].kind == SMAP_MEND_BYTE_ORDER_MARK && !message(found.mends[0]).empty());
+    CHECK(found.map.to_json().view() == small.to_json().view() && SourceMap::read_found(SMALL).mends.empty());
+}
+
+void compiles(const std::string &path) {
+    std::array<unsigned char, 32> stamp{};
+    stamp[31] = 7;
+    auto map = SourceMap::from_json(SMALL);
+    map.set_ignore_list({0}), map.set_file("a.min.js");
+    auto bytes = map.compile(5, stamp);
+    auto compiled = CompiledMap::open(bytes);
+    CHECK(compiled.counts().tokens == 2 && compiled.counts().text_length == 5 && compiled.stamp()[31] == 7 && compiled.is_ignored(0) && !compiled.is_ignored(1));
+    CHECK(is(compiled.trace(0, 3), 1, "a.js", 0, 4) && compiled.trace(0, 3)->name == "x" && !compiled.trace(9, 0));
+    CHECK(is(compiled.trace_all({{0, 9}})[0], 1, "a.js", 0, 4) && compiled.find_all({{0, 2}}, Bias::After)[0] == 1);
+    CHECK(compiled.token(1)->src_col == 4 && !compiled.token(2) && compiled.name(0) == "x" && compiled.source(0) == "a.js" && !compiled.source_content(0));
+    CHECK(compiled.file() == "a.min.js" && !compiled.source_root() && !compiled.debug_id());
+    CHECK(compiled.decompile()->to_json().view() == map.to_json().view());
+    CHECK(thrown([] { CompiledMap::open("smap"); }) == SMAP_NOT_COMPILED);
+    std::ofstream(path, std::ios::binary) << bytes.view();
+    {
+        CompiledFile file(path);
+        CompiledFile moved(std::move(file));
+        CHECK(is(moved->trace(0, 3), 1, "a.js", 0, 4) && moved.map().counts().sources == 1);
+    }
+    std::remove(path.c_str());
+    CHECK(thrown([&] { CompiledFile file(path); }) == SMAP_NO_FILE);
+}
+
+void fails() {
+    try {
+        SourceMap::from_json(R"({"version":3,"sources":["a.js"],"names":[],"mappings":"AAAA,DAAA"})");
+        CHECK(false);
+    } catch (const Error &error) {
+        CHECK(error.code() == SMAP_BAD_SEGMENT_SIZE && error.detail() == 0 && error.place() == "line 0, segment 1 (byte 5)");
+        CHECK(error.fault().place.kind == SMAP_PLACE_SEGMENT && std::string_view(error.what()).size() > 10);
+    }
+    CHECK(thrown([] { SourceMap::from_json("{"); }) == SMAP_JSON_READING);
+    auto map = SourceMap::from_json(SMALL);
+    CHECK(thrown([&] { map.trace(0, 0, static_cast<Bias>(9)); }) == SMAP_BAD_OPTION);
+    auto moved = std::move(map);
+    CHECK(thrown([&] { map.counts(); }) == SMAP_NULL_HANDLE && thrown([&] { map.ignore_list(); }) == SMAP_NULL_HANDLE && moved.counts().tokens == 2);
+    map = std::move(moved);
+    CHECK(map.counts().tokens == 2 && Error(smap_fault{}).place().empty());
+}
+
+static_assert(!std::is_copy_constructible_v<SourceMap> && std::is_nothrow_move_constructible_v<SourceMap>);
+static_assert(std::is_nothrow_move_constructible_v<CompiledFile> && std::is_nothrow_copy_constructible_v<Error>);
+
+} // namespace
+
+int main(int, char **words) {
+    reads_and_asks();
+    holds();
+    writes();
+    makes_of_others();
+    compiles(words[1]);
+    fails();
+    std::puts("passed");
+}

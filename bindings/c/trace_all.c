@@ -1,6 +1,6 @@
-/* trace_all FILE.map: answers each line `LINE COLUMN` of standard input with two lines, what the map says of the position and
- * what it says clamped: `nothing`, `unmapped`, or `SOURCE:LINE:COLUMN`, then a space and the name if there is one. Ends with
- * status 1 and a message if a call is refused or the map is not sorted. */
+/* trace_all [--compiled] FILE.map: answers each line `LINE COLUMN` of standard input with two lines, what the map says of the position
+ * and what it says clamped: `nothing`, `unmapped`, or `SOURCE:LINE:COLUMN`, then a space and the name if there is one. With --compiled it
+ * says what the compiled map says. Ends with status 1 and a message if a call is refused or the map is not sorted. */
 #include "oxc_sourcemap.h"
 
 #include <stdio.h>
@@ -39,6 +39,9 @@ static int refused(const smap_fault *fault) {
 
 int main(int argc, char **argv) {
     smap_map *map;
+    smap_string *made = NULL;
+    smap_compiled *compiled = NULL;
+    smap_text bytes;
     smap_fault fault;
     smap_original place;
     size_t len;
@@ -51,12 +54,18 @@ int main(int argc, char **argv) {
         fputs("Tokens are not in order of line and column\n", stderr);
         return 1;
     }
+    if (argc > 2 && (smap_compile(map, 0, NULL, &made, &fault) || smap_get_text(made, &bytes) ||
+                     smap_open_compiled(bytes.at, bytes.len, &compiled, &fault)))
+        return refused(&fault);
     while (scanf("%u %u", &line, &column) == 2) {
-        if (smap_trace(map, line, column, SMAP_BEFORE, &place, &fault)) return refused(&fault);
-        print(&place);
-        if (smap_trace(map, line, column, SMAP_CLAMPED, &place, &fault)) return refused(&fault);
-        print(&place);
+        for (uint32_t bias = SMAP_BEFORE; bias <= SMAP_CLAMPED; bias++) {
+            if (compiled ? smap_compiled_trace(compiled, line, column, bias, &place) : smap_trace(map, line, column, bias, &place, &fault))
+                return refused(&fault);
+            print(&place);
+        }
     }
+    smap_free_compiled(compiled);
+    smap_free_string(made);
     smap_free_map(map);
     return 0;
 }

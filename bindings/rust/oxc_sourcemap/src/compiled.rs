@@ -84,7 +84,8 @@ impl<'a> CompiledMap<'a> {
     /// ```
     pub fn open(bytes: &'a [u8]) -> Result<CompiledMap<'a>> {
         // SAFETY: the bytes are borrowed for as long as the handle lives, so nobody moves or changes them, and the outputs are ours.
-        let map = made(|out, fault| unsafe { sys::smap_open_compiled(bytes.as_ptr().cast(), bytes.len(), out, fault) })?;
+        let map =
+            made(|out, fault| unsafe { sys::smap_open_compiled(bytes.as_ptr().cast(), bytes.len(), out, fault) })?;
         Ok(CompiledMap { map, bytes: PhantomData })
     }
 

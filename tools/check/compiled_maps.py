@@ -10,7 +10,7 @@ import tempfile
 from pathlib import Path
 
 STALE = "is out of date, so its map is read: compile it again"
-DAMAGED = "is damaged, so its map is read: compile that again"
+DAMAGED = "is damaged, so its map is read: compile it again"
 NONE = "not a compiled source map, so its map is read"
 
 
@@ -55,10 +55,25 @@ def not_taken(run, check, folder, text, data):
 
 
 def refused(run, check, folder):
-    """One map by two names is compiled once; a compiled map without its map is compared with none."""
-    told = run(["compile", "app.js.map", "./app.js.map"], folder)
-    wanted = (2, "", "sourcemap: ./app.js.map.smc: would be written twice: name each map once, and those of one name apart\n")
-    check(told == wanted, f"a map that is compiled twice: {told}, not {wanted}")
+    """One map by two names is compiled once, and one that cannot be read keeps no other from it; a compiled map without its map is
+    compared with none, and one that is out of date is told where its map is checked."""
+    Path(folder, "bad.map").write_text('{"version":4}')
+    Path(folder, "app.js.map.smc").unlink()
+    told = run(["compile", "bad.map", "app.js.map", "./app.js.map"], folder)
+    twice = "./app.js.map.smc: would be written twice: name each map once, and those of one name apart"
+    wanted = [f"sourcemap: {it}" for it in (twice, "./app.js.map: was not compiled, see above")]
+    lines = told[2].splitlines()
+    check(told[:2] == (2, "") and lines[0].startswith("sourcemap: bad.map: ") and lines[1:] == wanted, f"maps that are not compiled: {told}")
+    check(run(["check", "app.js.map.smc"], folder)[0] == 0, "a map beside others that are not compiled is not compiled")
+    for file in ("app.js", "app.js.map"):
+        check("out of date" not in run(["check", file], folder)[1], f"{file}: its compiled map is not out of date")
+    text = Path(folder, "app.js.map").read_text()
+    Path(folder, "app.js.map").write_text(f"{text} ")
+    for file in ("app.js", "app.js.map"):
+        told = run(["check", file], folder)
+        wanted = "app.js.map: note: app.js.map.smc is out of date: compile it again\n"
+        check(told[0] == 0 and wanted in told[1], f"{file}: {told}, not {wanted}")
+    Path(folder, "app.js.map").write_text(text)
     told = run(["check", "maps/d.js.map.smc"], folder)
     check(told[0] == 0 and "note: not compared: maps/d.js.map is not there\n" in told[1], f"a check without a map: {told}")
 

@@ -20,7 +20,9 @@ pub use finding::{
     found_error_text, is_in_root, is_map, is_map_file, language_of, map_by_name, map_of_code,
     map_of_file, map_without_code, read_map, rooted_map, text_of_map,
 };
-pub use input::{is_file, print, print_bytes, read_text, shown_name, tell, usage, warn};
+pub use input::{
+    is_file, is_regular, print, print_bytes, read_text, shown_name, tell, usage, warn,
+};
 pub use limit::{limit_of, limited_json};
 pub use paths::{
     file_name, folder_of, is_inside, path_of_url, place_of, plain_path, real_name, with_slash,

@@ -2,10 +2,10 @@
 use crate::bundle::refuse_overwriting;
 use sourcemap_files::{
     Asked, COMPILED_END, MapText, Progress, Status, Written, compiled_of, file_name, map_of_file,
-    place_of, print, read_map, usage, with_slash, write_files,
+    place_of, print, read_map, tell, usage, with_slash, write_files,
 };
 use sourcemap_run::{push_number_member, push_object, push_text_member};
-use sourcemap_words::{Outcome, failure_of};
+use sourcemap_words::{Failure, Outcome, failure_of};
 
 /// A compiled map, and the file that it is written to.
 #[derive(Drop)]
@@ -100,21 +100,38 @@ fn objects_of(asked: &Asked<'_, '_>, all: &[Made]) -> Outcome<String> {
     Ok(out)
 }
 
-/// Runs the command `compile`.
+/// Compiles the map of a file, unless one of these is written to the same file.
+fn made_after(asked: &Asked<'_, '_>, all: &[Made], file: &str) -> Outcome<Made> {
+    let made = made_of(asked, file)?;
+    refuse_twice(asked, all, &made)?;
+    Ok(made)
+}
+
+/// Runs the command `compile`. A file that has no map, or one that cannot be compiled, is told, and the others are compiled.
 pub fn run(asked: &Asked<'_, '_>) -> Outcome<Status> {
     let files = asked.words("FILE")?;
     let mut progress = Progress::new(asked.rt, files.len());
     let mut all = Vec::new(asked.alloc());
+    let mut trouble = None;
     for file in &files {
         progress.begin(asked.rt, file);
-        let made = made_of(asked, file)?;
-        refuse_twice(asked, all.as_slice(), &made)?;
-        all.push(made)?;
+        match made_after(asked, all.as_slice(), file) {
+            Ok(made) => all.push(made)?,
+            Err(Failure::Told(text)) => {
+                progress.clear(asked.rt);
+                tell(asked.rt, text.as_str());
+                trouble = Some(*file);
+            }
+            Err(failure) => return Err(failure),
+        }
     }
     progress.clear(asked.rt);
     write(asked, all.as_slice())?;
     if asked.has("json") {
         print(asked.rt, objects_of(asked, all.as_slice())?.as_str())?;
     }
-    Ok(Status::Found)
+    match trouble {
+        Some(file) => Err(failure_of(asked.alloc(), file, "was not compiled, see above")),
+        None => Ok(Status::Found),
+    }
 }

@@ -5,8 +5,8 @@ use oxc_sourcemap_text::TextPositions;
 use oxc_sourcemap_tokens::{Error, Token};
 use sourcemap_files::{
     Asked, COMPILED_END, Decompiled, Lookup, MapText, Progress, Status, Written, compiled_of,
-    decompile, error_text, found_error_text, is_file, is_map_file, is_stale, map_of_code, print,
-    read_text, read_written, shown_name, tell,
+    decompile, error_text, found_error_text, is_file, is_map_file, is_regular, is_stale,
+    map_of_code, print, read_text, read_written, shown_name, tell,
 };
 use sourcemap_run::{push_object, push_text_member};
 use sourcemap_texts::{push_shown, push_visible};
@@ -359,16 +359,29 @@ fn tell_stale(rt: &HostRuntime, file: &str, bytes: &[u8], report: &mut Report) -
     if !is_stale(bytes, text.as_str()) {
         return tell_different(report, bytes, name, text.as_str());
     }
-    let told = format!(in report.alloc; "stale: {name} has changed since: compile it again")?;
+    let told = format!(in report.alloc; "out of date: {name} has changed since: compile it again")?;
     report.tell(Kind::Wrong, told.as_str())
 }
 
-/// What is told of a map, beside its code if that is there, and of a compiled one beside its map.
+/// Tells of the compiled map beside a map in a file, if that was made of another text.
+fn tell_stale_beside(rt: &HostRuntime, map: &str, text: &str, report: &mut Report) -> Outcome<()> {
+    let name = format!(in report.alloc; "{map}{COMPILED_END}")?;
+    if is_regular(rt, name.as_str())
+        && let Written::Compiled(bytes) = read_written(rt, name.as_str())?
+        && is_stale(bytes.as_slice(), text)
+    {
+        let told = format!(in report.alloc; "{name} is out of date: compile it again")?;
+        return report.tell(Kind::Note, told.as_str());
+    }
+    Ok(())
+}
+
+/// What is told of a map in a file, beside its code if that is there, and of it and a compiled one beside one another.
 fn check_as_map(rt: &HostRuntime, file: &str, map: &Written, report: &mut Report) -> Outcome<()> {
     let code = code_of(rt, file)?;
     check_map(report, map, code.as_deref())?;
     match map {
-        Written::Text(_) => Ok(()),
+        Written::Text(text) => tell_stale_beside(rt, file, text.as_str(), report),
         Written::Compiled(bytes) => tell_stale(rt, file, bytes.as_slice(), report),
     }
 }
@@ -385,13 +398,20 @@ fn check_as_code(
             MapText {
                 name,
                 folder: _,
-                is_file: _,
+                is_file,
                 written,
                 behind: _,
             },
         ) => {
             report.file = name;
-            check_map(report, &written, Some(code))
+            check_map(report, &written, Some(code))?;
+            match &written {
+                Written::Text(text) if is_file => {
+                    let name = String::from_str(report.alloc, report.file.as_str())?;
+                    tell_stale_beside(asked.rt, name.as_str(), text.as_str(), report)
+                }
+                _ => Ok(()),
+            }
         }
         Lookup::None(why) => report.tell(Kind::Wrong, why.as_str()),
     }

@@ -530,7 +530,7 @@ fn read_behind(rt: &HostRuntime, map: &MapText, why: &str) -> Outcome<SourceMapP
     warn(
         rt,
         map.name.as_str(),
-        "is damaged, so its map is read: compile that again",
+        "is damaged, so its map is read: compile it again",
     );
     let text = read_text(rt, path)?;
     read_map_text(rt, path, text.as_str())

@@ -99,21 +99,26 @@ def compile_module(room, archive, sanitizer=None):
 
 
 def keep_module(room, crate):
-    """Compiles the program in room/CRATE without a proof, and keeps its module of LLVM as a text, module.ll."""
+    """Compiles the program in room/CRATE without a proof, and keeps its module of LLVM, module.bc."""
     write_toolchain(room / "toolchain", room)
     words = command(crate, USES[crate], [], "src/main.rt")
     words[words.index("--toolchain") + 1] = str(room / "toolchain")
     ran = subprocess.run(words, cwd=room / crate, stdin=subprocess.DEVNULL, capture_output=True, text=True)
     if not (room / "module.bc").exists():
         sys.exit(f"{ran.stdout}{ran.stderr}{crate} is not compiled")
+
+
+def text_of_module(room):
+    """The module that was kept, as a text."""
     subprocess.run([*CLANG, "-S", "-emit-llvm", "module.bc", "-o", "module.ll"], cwd=room, check=True)
+    return (room / "module.ll").read_text()
 
 
 def make(room, archive, *others):
     """Makes the archives."""
     write_program(room)
     keep_module(room, CRATE)
-    (room / "module.ll").write_text(exported((room / "module.ll").read_text()))
+    (room / "module.ll").write_text(exported(text_of_module(room)))
     compile_module(room, os.path.abspath(archive))
     for it in others:
         kind, other = it.split("=", 1)

@@ -4,9 +4,10 @@
  *     if (auto found = map.trace(0, 3); found && found->source) std::cout << *found->source << ':' << found->token.src_line + 1 << '\n';
  *
  * oxc_sourcemap.h says what each call does and when it fails; here an error is thrown as an Error, and what has no entry is nullopt. Each
- * object owns one handle, is moved and not copied, and frees it. A text that an object lends (std::string_view) is valid until the
- * object is changed or gone. Any number of threads may call what is const of one object. An object that was moved from has no handle:
- * its calls throw SMAP_NULL_HANDLE. Lines, columns, ids and indices count from 0; columns are in UTF-16 code units. */
+ * object owns one handle, is moved and not copied, and frees it. A text that an object lends (std::string_view) is valid until the map
+ * that it owns is changed or freed: it stays where it is if the object is moved. Any number of threads may call what is const of one
+ * object. An object that was moved from has no handle, as one that is made of nothing: its calls throw SMAP_NULL_HANDLE. Lines, columns,
+ * ids and indices count from 0; columns are in UTF-16 code units. */
 #ifndef OXC_SOURCEMAP_HPP
 #define OXC_SOURCEMAP_HPP
 
@@ -22,8 +23,19 @@
 #include <stdexcept>
 #include <string>
 #include <string_view>
+#include <type_traits>
 #include <utility>
 #include <vector>
+
+/* What a member lends ends with its object, which some compilers look after. */
+#if defined(__has_cpp_attribute)
+#if __has_cpp_attribute(clang::lifetimebound)
+#define SMAP_LENT [[clang::lifetimebound]]
+#endif
+#endif
+#ifndef SMAP_LENT
+#define SMAP_LENT
+#endif
 
 namespace oxc_sourcemap {
 
@@ -50,6 +62,7 @@ template <class Call> std::string written(Call call) {
 inline std::string_view view(const smap_text &text) { return {text.len ? text.at : "", text.len}; }
 
 inline smap_text lent(std::string_view text) { return {text.data(), text.size()}; }
+inline smap_text lent(const std::string &text) { return {text.data(), text.size()}; }
 
 /* A text that is known even if it is empty, and one that may not be known. */
 inline smap_text lent(const std::optional<std::string_view> &text) {
@@ -74,22 +87,37 @@ template <class Handle, auto FREE> using Owner = std::unique_ptr<Handle, Frees<F
 
 } // namespace detail
 
-/* An error of the library: its code (SMAP_..), message and place in the input. (Want of memory is std::bad_alloc.) */
+/* An error of the library: its code (SMAP_..), message and place in the input. (Want of memory is std::bad_alloc. Where there is too
+ * little for the message, that is the name of the code.) */
 class Error : public std::runtime_error {
   public:
     explicit Error(const smap_fault &fault)
-        : std::runtime_error(detail::written([&](char *out, std::size_t len) { return smap_message(&fault, out, len); })), fault_(fault) {}
+        : std::runtime_error(words(fault)), fault_(fault) {}
 
     std::uint32_t code() const noexcept { return fault_.code; }
+    const char *name() const noexcept { return smap_code_name(fault_.code); }
     std::uint64_t detail() const noexcept { return fault_.detail; }
     const smap_fault &fault() const noexcept { return fault_; }
 
     /* Where the fault is, as `line 0, segment 3 (byte 12)`; empty where no place is told. */
     std::string place() const {
-        return detail::written([&](char *out, std::size_t len) { return smap_place_message(&fault_, out, len); });
+        auto words = detail::written([&](char *out, std::size_t len) { return smap_place_message(&fault_, out, len); });
+        if (words.empty() && fault_.place.kind != SMAP_PLACE_NONE) throw std::bad_alloc();
+        return words;
+    }
+
+    /* What is really wrong there, in the text that was refused; empty where the message tells. */
+    std::string reason(std::string_view text) const {
+        return detail::written(
+            [&](char *out, std::size_t len) { return smap_reason_message(text.data(), text.size(), &fault_, out, len); });
     }
 
   private:
+    static std::string words(const smap_fault &fault) {
+        auto words = detail::written([&](char *out, std::size_t len) { return smap_message(&fault, out, len); });
+        return words.empty() ? smap_code_name(fault.code) : words;
+    }
+
     smap_fault fault_;
 };
 
@@ -159,15 +187,24 @@ template <class Object, class Handle, class Call> Object made(Call call) {
 /* A text that the library made, or the bytes of a compiled map. */
 class Text {
   public:
+    Text() noexcept = default;
     explicit Text(smap_string *handle) noexcept : own_(handle) {}
 
-    std::string_view view() const {
+    std::string_view view() const SMAP_LENT {
         smap_text text{};
         detail::check(smap_get_text(own_.get(), &text));
         return detail::view(text);
     }
-    operator std::string_view() const { return view(); }
+    operator std::string_view() const SMAP_LENT { return view(); }
+    const char *data() const SMAP_LENT { return view().data(); }
+    std::size_t size() const { return view().size(); }
     std::string str() const { return std::string(view()); }
+    smap_string *release() noexcept { return own_.release(); }
+
+    friend bool operator==(const Text &one, std::string_view other) { return one.view() == other; }
+    template <class Stream> friend auto operator<<(Stream &to, const Text &text) -> decltype(to << std::string_view()) {
+        return to << text.view();
+    }
 
   private:
     detail::Owner<smap_string, smap_free_string> own_;
@@ -202,16 +239,22 @@ inline std::vector<std::optional<Original>> originals(const std::vector<smap_ori
 
 class SourceMap;
 
-/* A map in a join, and where its code begins there. */
+/* A map in a join, which has to stay until then, and where its code begins there. */
 struct JoinPart {
-    const SourceMap &map;
+    JoinPart(const SourceMap &part, Position begin) noexcept : map(&part), at(begin) {}
+    JoinPart(const SourceMap &&, Position) = delete;
+
+    const SourceMap *map;
     Position at;
 };
 
-/* A map of the source with this path. */
+/* The map of the source with this path. Both have to stay until they are remapped through. */
 struct RemapInput {
+    RemapInput(std::string_view source, const SourceMap &input) noexcept : path(source), map(&input) {}
+    RemapInput(std::string_view, const SourceMap &&) = delete;
+
     std::string_view path;
-    const SourceMap &map;
+    const SourceMap *map;
 };
 
 struct Found;
@@ -219,11 +262,13 @@ struct Found;
 /* A source map. */
 class SourceMap {
   public:
+    SourceMap() noexcept = default;
     explicit SourceMap(smap_map *handle) noexcept : own_(handle) {}
 
-    /* The handle, for calls of oxc_sourcemap.h. */
+    /* The handle, for calls of oxc_sourcemap.h; and taken away, to be freed by the caller. */
     const smap_map *get() const noexcept { return own_.get(); }
     smap_map *get() noexcept { return own_.get(); }
+    smap_map *release() noexcept { return own_.release(); }
 
     static SourceMap from_json(std::string_view json) {
         return made([&](smap_map **out, smap_fault *fault) { return smap_from_json_string(json.data(), json.size(), out, fault); });
@@ -247,7 +292,8 @@ class SourceMap {
     static SourceMap join(const std::vector<JoinPart> &parts) {
         std::vector<const smap_map *> maps;
         std::vector<Position> positions;
-        for (const auto &part : parts) maps.push_back(part.map.get()), positions.push_back(part.at);
+        maps.reserve(parts.size()), positions.reserve(parts.size());
+        for (const auto &part : parts) maps.push_back(part.map->get()), positions.push_back(part.at);
         return made([&](smap_map **out, smap_fault *fault) {
             return smap_join_all(maps.data(), maps.size(), positions.data(), positions.size(), out, fault);
         });
@@ -268,16 +314,17 @@ class SourceMap {
         });
     }
 
-    SourceMap clone() const {
+    [[nodiscard]] SourceMap clone() const {
         return made([&](smap_map **out, smap_fault *fault) { return smap_clone(get(), out, fault); });
     }
-    SourceMap compose(const SourceMap &input) const {
+    [[nodiscard]] SourceMap compose(const SourceMap &input) const {
         return made([&](smap_map **out, smap_fault *fault) { return smap_compose(get(), input.get(), out, fault); });
     }
-    SourceMap remap(const std::vector<RemapInput> &inputs) const {
+    [[nodiscard]] SourceMap remap(const std::vector<RemapInput> &inputs) const {
         std::vector<smap_text> paths;
         std::vector<const smap_map *> maps;
-        for (const auto &input : inputs) paths.push_back(detail::lent(input.path)), maps.push_back(input.map.get());
+        paths.reserve(inputs.size()), maps.reserve(inputs.size());
+        for (const auto &input : inputs) paths.push_back(detail::lent(input.path)), maps.push_back(input.map->get());
         return made([&](smap_map **out, smap_fault *fault) {
             return smap_remap(get(), paths.data(), paths.size(), maps.data(), maps.size(), out, fault);
         });
@@ -289,20 +336,20 @@ class SourceMap {
     bool is_sorted() const { return flag(smap_is_sorted); }
     bool is_sound() const { return flag(smap_is_sound); }
 
-    std::optional<std::string_view> file() const { return text(smap_get_file); }
-    std::optional<std::string_view> source_root() const { return text(smap_get_source_root); }
-    std::optional<std::string_view> debug_id() const { return text(smap_get_debug_id); }
-    std::optional<std::string_view> name(std::uint32_t id) const { return text_of(smap_get_name, id); }
-    std::optional<std::string_view> source(std::uint32_t id) const { return text_of(smap_get_source, id); }
-    std::optional<std::string_view> source_content(std::uint32_t id) const { return text_of(smap_get_source_content, id); }
+    std::optional<std::string_view> file() const SMAP_LENT { return text(smap_get_file); }
+    std::optional<std::string_view> source_root() const SMAP_LENT { return text(smap_get_source_root); }
+    std::optional<std::string_view> debug_id() const SMAP_LENT { return text(smap_get_debug_id); }
+    std::optional<std::string_view> name(std::uint32_t id) const SMAP_LENT { return text_of(smap_get_name, id); }
+    std::optional<std::string_view> source(std::uint32_t id) const SMAP_LENT { return text_of(smap_get_source, id); }
+    std::optional<std::string_view> source_content(std::uint32_t id) const SMAP_LENT { return text_of(smap_get_source_content, id); }
     std::optional<Token> token(std::uint32_t index) const {
         return detail::entry<Token>([&](Token *out) { return smap_get_token(get(), index, out); });
     }
 
     std::vector<Token> tokens() const { return list<Token>(smap_get_tokens); }
-    std::vector<std::string_view> names() const { return texts(smap_get_names); }
-    std::vector<std::string_view> sources() const { return texts(smap_get_sources); }
-    std::vector<std::optional<std::string_view>> source_contents() const {
+    std::vector<std::string_view> names() const SMAP_LENT { return texts(smap_get_names); }
+    std::vector<std::string_view> sources() const SMAP_LENT { return texts(smap_get_sources); }
+    std::vector<std::optional<std::string_view>> source_contents() const SMAP_LENT {
         std::vector<std::optional<std::string_view>> contents;
         for (const auto &it : list<smap_text>(smap_get_source_contents))
             contents.push_back(it.at ? std::optional(detail::view(it)) : std::nullopt);
@@ -316,12 +363,12 @@ class SourceMap {
 
     /* ---- lookups ---- */
 
-    std::optional<Original> trace(std::uint32_t line, std::uint32_t column, Bias bias = Bias::Before) const {
+    std::optional<Original> trace(std::uint32_t line, std::uint32_t column, Bias bias = Bias::Before) const SMAP_LENT {
         smap_original found{};
         detail::called([&](smap_fault *fault) { return smap_trace(get(), line, column, detail::number(bias), &found, fault); });
         return detail::original(found);
     }
-    std::vector<std::optional<Original>> trace_all(const std::vector<Position> &positions, Bias bias = Bias::Before) const {
+    std::vector<std::optional<Original>> trace_all(const std::vector<Position> &positions, Bias bias = Bias::Before) const SMAP_LENT {
         std::vector<smap_original> found(positions.size());
         detail::called([&](smap_fault *fault) {
             return smap_trace_all(get(), positions.data(), positions.size(), detail::number(bias), found.data(), found.size(), fault);
@@ -367,11 +414,12 @@ class SourceMap {
     void set_ignore_list(const std::vector<std::uint32_t> &ids) {
         change([&](smap_fault *fault) { return smap_set_ignore_list(get(), ids.data(), ids.size(), fault); });
     }
-    void set_sources(const std::vector<std::string_view> &sources) {
+    /* Of any list with a size of std::string_view or std::string; contents also of those that may not be known. */
+    template <class Texts = std::vector<std::string_view>> void set_sources(const Texts &sources) {
         auto lent = detail::all_lent(sources);
         change([&](smap_fault *fault) { return smap_set_sources(get(), lent.data(), lent.size(), fault); });
     }
-    void set_source_contents(const std::vector<std::optional<std::string_view>> &contents) {
+    template <class Texts = std::vector<std::optional<std::string_view>>> void set_source_contents(const Texts &contents) {
         auto lent = detail::all_lent(contents);
         change([&](smap_fault *fault) { return smap_set_source_contents(get(), lent.data(), lent.size(), fault); });
     }
@@ -388,7 +436,7 @@ class SourceMap {
     Text visualizer_url(std::string_view code) const { return shown(smap_visualizer_url, code); }
 
     /* The bytes of the compiled map, which CompiledMap opens. */
-    Text compile(std::uint64_t text_length = 0, const std::array<unsigned char, 32> &stamp = {}) const {
+    [[nodiscard]] Text compile(std::uint64_t text_length = 0, const std::array<unsigned char, 32> &stamp = {}) const {
         return detail::made<Text, smap_string>(
             [&](smap_string **out, smap_fault *fault) { return smap_compile(get(), text_length, stamp.data(), out, fault); });
     }
@@ -414,8 +462,10 @@ class SourceMap {
         return detail::list<T>([&](T *out, std::size_t len, std::size_t *count) { return call(get(), out, len, count); });
     }
     template <class Call> std::vector<std::string_view> texts(Call call) const {
+        auto lent = list<smap_text>(call);
         std::vector<std::string_view> all;
-        for (const auto &it : list<smap_text>(call)) all.push_back(detail::view(it));
+        all.reserve(lent.size());
+        for (const auto &it : lent) all.push_back(detail::view(it));
         return all;
     }
     template <class Call> Text written(Call call, std::size_t limit) const {
@@ -439,9 +489,9 @@ inline Found SourceMap::read_found(std::string_view text) {
     smap_mends *told = nullptr;
     auto map = made([&](smap_map **out, smap_fault *fault) { return smap_read_found(text.data(), text.size(), out, &told, fault); });
     detail::Owner<smap_mends, smap_free_mends> mends(told);
-    return {std::move(map), detail::list<Mend>([&](Mend *out, std::size_t len, std::size_t *count) {
-                return smap_get_mends(mends.get(), out, len, count);
-            })};
+    auto all = detail::list<Mend>(
+        [&](Mend *out, std::size_t len, std::size_t *count) { return smap_get_mends(mends.get(), out, len, count); });
+    return {std::move(map), std::move(all)};
 }
 
 /* A mend as words. */
@@ -466,15 +516,17 @@ class SourceMapBuilder {
             return smap_builder_add_source_and_content(own_.get(), path.data(), path.size(), content.data(), content.size(), id, fault);
         });
     }
-    void add_tokens(const std::vector<Token> &tokens) {
-        detail::called([&](smap_fault *fault) { return smap_builder_add_tokens(own_.get(), tokens.data(), tokens.size(), fault); });
+    void add_tokens(const Token *tokens, std::size_t len) {
+        detail::called([&](smap_fault *fault) { return smap_builder_add_tokens(own_.get(), tokens, len, fault); });
     }
+    void add_tokens(const std::vector<Token> &tokens) { add_tokens(tokens.data(), tokens.size()); }
+    void add_token(const Token &token) { add_tokens(&token, 1); }
     void set_file(std::string_view file) {
         detail::called([&](smap_fault *fault) { return smap_builder_set_file(own_.get(), file.data(), file.size(), fault); });
     }
 
     /* The map that was built. The builder is then as a new one. */
-    SourceMap finish() {
+    [[nodiscard]] SourceMap finish() {
         return detail::made<SourceMap, smap_map>([&](smap_map **out, smap_fault *fault) { return smap_builder_finish(own_.get(), out, fault); });
     }
 
@@ -488,26 +540,48 @@ class SourceMapBuilder {
     detail::Owner<smap_builder, smap_free_builder> own_;
 };
 
+/* Joins maps one by one, which need not stay. */
+class SourceMapJoin {
+  public:
+    SourceMapJoin() : SourceMapJoin(detail::made<SourceMapJoin, smap_join>(smap_join_new)) {}
+    explicit SourceMapJoin(smap_join *handle) noexcept : own_(handle) {}
+
+    /* Adds a map whose code begins at this position of the joined code. */
+    void add(const SourceMap &map, Position at) {
+        detail::called([&](smap_fault *fault) { return smap_join_add(own_.get(), map.get(), at.line, at.column, fault); });
+    }
+
+    /* The joined map. The join is then as a new one. */
+    [[nodiscard]] SourceMap finish() {
+        return detail::made<SourceMap, smap_map>([&](smap_map **out, smap_fault *fault) { return smap_join_finish(own_.get(), out, fault); });
+    }
+
+  private:
+    detail::Owner<smap_join, smap_free_join> own_;
+};
+
 /* A compiled map, opened in bytes that stay where they are, and unchanged, as long as it is there. */
 class CompiledMap {
   public:
+    CompiledMap() noexcept = default;
     explicit CompiledMap(smap_compiled *handle) noexcept : own_(handle) {}
 
     static CompiledMap open(std::string_view bytes) {
         return detail::made<CompiledMap, smap_compiled>(
             [&](smap_compiled **out, smap_fault *fault) { return smap_open_compiled(bytes.data(), bytes.size(), out, fault); });
     }
-    static CompiledMap open(Text &&) = delete; /* (its bytes would be gone) */
+    template <class Bytes, std::enable_if_t<std::is_same_v<Bytes, Text> || std::is_same_v<Bytes, std::string>, int> = 0>
+    static CompiledMap open(const Bytes &&) = delete; /* (its bytes would be gone) */
 
     CompiledCounts counts() const {
         return *detail::entry<CompiledCounts>([&](CompiledCounts *out) { return smap_compiled_get_counts(get(), out); });
     }
-    std::optional<Original> trace(std::uint32_t line, std::uint32_t column, Bias bias = Bias::Before) const {
+    std::optional<Original> trace(std::uint32_t line, std::uint32_t column, Bias bias = Bias::Before) const SMAP_LENT {
         smap_original found{};
         detail::check(smap_compiled_trace(get(), line, column, detail::number(bias), &found));
         return detail::original(found);
     }
-    std::vector<std::optional<Original>> trace_all(const std::vector<Position> &positions, Bias bias = Bias::Before) const {
+    std::vector<std::optional<Original>> trace_all(const std::vector<Position> &positions, Bias bias = Bias::Before) const SMAP_LENT {
         std::vector<smap_original> found(positions.size());
         detail::check(smap_compiled_trace_all(get(), positions.data(), positions.size(), detail::number(bias), found.data(),
                                               found.size()));
@@ -522,16 +596,19 @@ class CompiledMap {
     std::optional<Token> token(std::uint32_t index) const {
         return detail::entry<Token>([&](Token *out) { return smap_compiled_get_token(get(), index, out); });
     }
-    std::optional<std::string_view> name(std::uint32_t id) const { return text(SMAP_TEXT_NAME, id); }
-    std::optional<std::string_view> source(std::uint32_t id) const { return text(SMAP_TEXT_SOURCE, id); }
-    std::optional<std::string_view> source_content(std::uint32_t id) const { return text(SMAP_TEXT_SOURCE_CONTENT, id); }
-    std::optional<std::string_view> file() const { return text(SMAP_TEXT_FILE, 0); }
-    std::optional<std::string_view> source_root() const { return text(SMAP_TEXT_SOURCE_ROOT, 0); }
-    std::optional<std::string_view> debug_id() const { return text(SMAP_TEXT_DEBUG_ID, 0); }
+    std::optional<std::string_view> name(std::uint32_t id) const SMAP_LENT { return text(SMAP_TEXT_NAME, id); }
+    std::optional<std::string_view> source(std::uint32_t id) const SMAP_LENT { return text(SMAP_TEXT_SOURCE, id); }
+    std::optional<std::string_view> source_content(std::uint32_t id) const SMAP_LENT { return text(SMAP_TEXT_SOURCE_CONTENT, id); }
+    std::optional<std::string_view> file() const SMAP_LENT { return text(SMAP_TEXT_FILE, 0); }
+    std::optional<std::string_view> source_root() const SMAP_LENT { return text(SMAP_TEXT_SOURCE_ROOT, 0); }
+    std::optional<std::string_view> debug_id() const SMAP_LENT { return text(SMAP_TEXT_DEBUG_ID, 0); }
 
     /* The 32 bytes that `compile` was given. */
-    std::string_view stamp() const {
-        return *detail::text_entry([&](smap_text *out) { return smap_compiled_get_stamp(get(), out); });
+    std::array<unsigned char, 32> stamp() const {
+        auto text = detail::text_entry([&](smap_text *out) { return smap_compiled_get_stamp(get(), out); });
+        std::array<unsigned char, 32> stamp{};
+        std::copy_n(text->data(), std::min(text->size(), stamp.size()), stamp.begin());
+        return stamp;
     }
     bool is_ignored(std::uint32_t id) const {
         return *detail::entry<std::uint32_t>([&](std::uint32_t *out) { return smap_compiled_is_ignored(get(), id, out); }) != 0;
@@ -559,6 +636,13 @@ class CompiledFile {
   public:
     explicit CompiledFile(const std::string &path) : CompiledFile(mapped(path)) {}
 
+    CompiledFile(CompiledFile &&) noexcept = default;
+    CompiledFile &operator=(CompiledFile &&other) noexcept {
+        map_ = std::move(other.map_); /* (what is open in a file is freed before the file) */
+        file_ = std::move(other.file_);
+        return *this;
+    }
+
     const CompiledMap &map() const noexcept { return map_; }
     const CompiledMap *operator->() const noexcept { return &map_; }
 
@@ -570,6 +654,7 @@ class CompiledFile {
     static std::pair<Owner, std::string_view> mapped(const std::string &path) {
         smap_file *file = nullptr;
         smap_text bytes{};
+        if (path.find('\0') != std::string::npos) detail::check(SMAP_NO_FILE);
         detail::called([&](smap_fault *fault) { return smap_map_file(path.c_str(), &file, &bytes, fault); });
         return {Owner(file), detail::view(bytes)};
     }
@@ -603,6 +688,10 @@ inline std::optional<Text> decode_data_url(std::string_view url) {
     return Text(text);
 }
 
+/* The version of the interface of the library; SMAP_VERSION is that of its header. */
+inline std::uint32_t version() { return smap_version(); }
+
 } // namespace oxc_sourcemap
 
+#undef SMAP_LENT
 #endif

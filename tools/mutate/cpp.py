@@ -11,13 +11,14 @@ from tools.mutate.planting import TOP, Bug, chosen, listed, try_all
 
 HEADER = "oxc_sourcemap.hpp"
 FOLDER = TOP / "bindings/c"
+WRAPS = "-Wl,--wrap=malloc,--wrap=calloc,--wrap=realloc,--wrap=free"
 
 
 def found_by(bug, library):
     """What notices a bug."""
     with tempfile.TemporaryDirectory(prefix="planted-") as room:
         Path(room, HEADER).write_text(bug.text)
-        words = [os.environ.get("CXX", "c++"), "-std=c++17", "-fsanitize=address,undefined", "-fno-sanitize-recover=all", f"-I{room}"]
+        words = [os.environ.get("CXX", "c++"), "-std=c++17", "-fsanitize=address,undefined", "-fno-sanitize-recover=all", WRAPS, f"-I{room}"]
         words += [f"-I{library}", "-iquote", room, "-x", "c++", "-", "-x", "none", f"{library}/liboxc_sourcemap.a", "-o", f"{room}/test"]
         compiled = subprocess.run(words, input=(FOLDER / "test_cpp.cpp").read_bytes(), capture_output=True, check=False)
         if compiled.returncode:

@@ -5,7 +5,7 @@ use Rattle.std.proofs.Common.{refl, sym, ap, ◌∙◌, arith, subst, append_ass
 use Rattle.std.specs.List.{flat_map, range_with_len}
 use Rattle.oxc_sourcemap_tokens.specs.Token.{TokenRecord}
 use Rattle.oxc_sourcemap_compiled.specs.Compiled.{bytes_of, group_bytes_of, stride_of, widths_of}
-use Rattle.oxc_sourcemap_compiled.specs.Compiled.{no_block, packed, group_of}
+use Rattle.oxc_sourcemap_compiled.specs.Compiled.{no_block, group_of, group_bits}
 use Rattle.oxc_sourcemap_compiled.specs.declared.writing.blocks.Block.{Block}
 use Rattle.oxc_sourcemap_compiled.proofs.Bytes.{bytes-length}
 use Rattle.oxc_sourcemap_compiled.proofs.Slices.{flat_map-more}
@@ -96,68 +96,9 @@ bytes-within i (suc m) blocks le lt =
     (ap (λ n. group_bytes_of n blocks) next ∙ bytes-more (16 * i + m) blocks (omega (arith, le, lt))) (bytes-within i m blocks (omega (arith, le)) lt)
     (ap (λ k. stride_of (get_or blocks k no_block)) block)
 
--- ---- the parts of a group
-five-length : (a b c d e : List ℕ) → length (a ++ b ++ c ++ d ++ e) ≡ length a + length b + length c + length d + length e
-five-length a b c d e = omega (arith, length-append (a ++ b ++ c ++ d) e, length-append (a ++ b ++ c) d, length-append (a ++ b) c, length-append a b)
-
-five-sum : (a b c d e v w x y z : ℕ) → a ≡ v → b ≡ w → c ≡ x → d ≡ y → e ≡ z → a + b + c + d + e ≡ v + w + x + y + z
-five-sum a b c d e v w x y z p q r s t = omega (arith, p, q, r, s, t)
-
--- the bytes of a field in a group
-abbrev pub field_bytes : ℕ → Block → List TokenRecord → List ℕ
-field_bytes k b ts = bytes_of (packing_at k b).width (packed k (packing_at k b) ts)
-
-field-length : (k : ℕ) (b : Block) (ts : List TokenRecord) → length (field_bytes k b ts) ≡ (packing_at k b).width
-field-length k b ts = bytes-length (packing_at k b).width (packed k (packing_at k b) ts)
-
+-- ---- one group
 pub group-length : (b : Block) (ts : List TokenRecord) → length (group_of b ts) ≡ stride_of b
-group-length b ts =
-    five-length (field_bytes 0 b ts) (field_bytes 1 b ts) (field_bytes 2 b ts) (field_bytes 3 b ts) (field_bytes 4 b ts)
-    ∙ five-sum (length (field_bytes 0 b ts)) (length (field_bytes 1 b ts)) (length (field_bytes 2 b ts)) (length (field_bytes 3 b ts)) (length (field_bytes 4 b ts))
-    b.column.width b.source.width b.src_line.width b.src_col.width b.name.width
-    (field-length 0 b ts) (field-length 1 b ts) (field-length 2 b ts) (field-length 3 b ts) (field-length 4 b ts)
-
--- five parts lie one behind the other
-record FiveLie (at na nb nc nd : ℕ) (a b c d e all : List ℕ) : Type 0 where
-  first : LiesAt at a all
-  second : LiesAt (at + na) b all
-  third : LiesAt (at + na + nb) c all
-  fourth : LiesAt (at + na + nb + nc) d all
-  fifth : LiesAt (at + na + nb + nc + nd) e all
-
-five-lie : (at na nb nc nd : ℕ) (a b c d e all : List ℕ) → length a ≡ na → length b ≡ nb → length c ≡ nc → length d ≡ nd → LiesAt at (a ++ b ++ c ++ d ++ e) all → FiveLie at na nb nc nd a b c d e all
-five-lie at na nb nc nd a b c d e all la lb lc ld h =
-    let regrouped : a ++ b ++ c ++ d ++ e ≡ a ++ (b ++ (c ++ (d ++ e))) = simp append_assoc in
-    let h1 = subst (λ part. LiesAt at part all) regrouped h in
-    let h2 = lies-next at na a (b ++ (c ++ (d ++ e))) all h1 la in
-    let h3 = lies-next (at + na) nb b (c ++ (d ++ e)) all h2 lb in
-    let h4 = lies-next (at + na + nb) nc c (d ++ e) all h3 lc in
-    record {
-      first = lies-front at a (b ++ (c ++ (d ++ e))) all h1;
-      second = lies-front (at + na) b (c ++ (d ++ e)) all h2;
-      third = lies-front (at + na + nb) c (d ++ e) all h3;
-      fourth = lies-front (at + na + nb + nc) d e all h4;
-      fifth = lies-next (at + na + nb + nc) nd d e all h4 ld;
-    }
-
-by-number : (k at : ℕ) (b : Block) (ts : List TokenRecord) (all : List ℕ) → k < 5
-    → FiveLie at b.column.width b.source.width b.src_line.width b.src_col.width (field_bytes 0 b ts) (field_bytes 1 b ts) (field_bytes 2 b ts) (field_bytes 3 b ts) (field_bytes 4 b ts) all
-    → LiesAt (at + sum (take k (widths_of b))) (field_bytes k b ts) all
-by-number zero at b ts all lt f = lies-same at (at + 0) (field_bytes 0 b ts) all (omega arith) f.first
-by-number (suc zero) at b ts all lt f = lies-same (at + b.column.width) (at + sum (take 1 (widths_of b))) (field_bytes 1 b ts) all (omega arith) f.second
-by-number (suc (suc zero)) at b ts all lt f = lies-same (at + b.column.width + b.source.width) (at + sum (take 2 (widths_of b))) (field_bytes 2 b ts) all (omega arith) f.third
-by-number (suc (suc (suc zero))) at b ts all lt f =
-    lies-same (at + b.column.width + b.source.width + b.src_line.width) (at + sum (take 3 (widths_of b))) (field_bytes 3 b ts) all (omega arith) f.fourth
-by-number (suc (suc (suc (suc zero)))) at b ts all lt f =
-    lies-same (at + b.column.width + b.source.width + b.src_line.width + b.src_col.width) (at + sum (take 4 (widths_of b))) (field_bytes 4 b ts) all (omega arith) f.fifth
-by-number (suc (suc (suc (suc (suc k))))) at b ts all lt f = absurd (omega (arith, lt))
-
--- where a field of a group lies
-pub field-lies : (k at : ℕ) (b : Block) (ts : List TokenRecord) (all : List ℕ) → k < 5 → LiesAt at (group_of b ts) all → LiesAt (at + sum (take k (widths_of b))) (field_bytes k b ts) all
-field-lies k at b ts all lt h =
-    by-number k at b ts all lt (five-lie at b.column.width b.source.width b.src_line.width b.src_col.width
-    (field_bytes 0 b ts) (field_bytes 1 b ts) (field_bytes 2 b ts) (field_bytes 3 b ts) (field_bytes 4 b ts) all
-    (field-length 0 b ts) (field-length 1 b ts) (field-length 2 b ts) (field-length 3 b ts) h)
+group-length b ts = bytes-length (stride_of b) (group_bits b ts)
 
 -- ---- all groups
 -- a group of tokens, by its number

@@ -1,3 +1,4 @@
+mod Bits
 mod Blocks
 mod Bytes
 mod Comparisons

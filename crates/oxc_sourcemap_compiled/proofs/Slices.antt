@@ -2,12 +2,16 @@
 use Rattle.std.proofs.Common.{◌≡◌, ℕ, zero, suc, ◌+◌, ◌-◌, ◌<◌, ◌≤◌, Bool, true, false, List, []}
 use Rattle.std.proofs.Common.{◌∷◌, ◌++◌, take, drop, length, get_or, nat_lt, min}
 use Rattle.std.proofs.Common.{refl, sym, ap, ◌∙◌, arith, subst, length-drop, ◌⊎◌, inl, inr}
-use Rattle.std.proofs.Common.{append-nil, append_assoc, map}
+use Rattle.std.proofs.Common.{append-nil, append_assoc, map, Bor, option_map, slice_get, Option}
+use Rattle.std.proofs.Common.{Some, None, is_some}
+use Rattle.std.proofs.lemmas.Bool.Decides.{nat_tests}
+use Rattle.std.specs.Option.{unwrap_or}
+use Rattle.oxc_sourcemap_tokens.specs.Results.{lent_item}
 use Rattle.std.proofs.lemmas.List.FromFn.{map-range_with_len_more}
 use Rattle.oxc_sourcemap_parts.specs.Record.{MapRecord}
 use Rattle.oxc_sourcemap_compiled.specs.Compiled.{table, bytes_of, text_offset, stored_text}
 use Rattle.std.proofs.lemmas.List.{take_all, get_or_append_left, get_or-append-add}
-use Rattle.std.proofs.lemmas.Option.{slice_get-get_or}
+use Rattle.std.proofs.lemmas.Option.{slice_get-get_or, slice_get_past}
 use Rattle.std.specs.List.{range_with_len, flat_map}
 use Rattle.std.proofs.lemmas.Grind.{flat_map-append}
 use Rattle.oxc_sourcemap_tokens.specs.Token.{TokenRecord, last}
@@ -113,3 +117,12 @@ pub offset-next : (r : MapRecord) (t : ℕ) → text_offset r (t + 1) ≡ text_o
 offset-next r t =
     let next : t + 1 ≡ suc t = omega arith in
     ap (text_offset r) next
+
+-- what a slice lends at an index is what it has there
+pub lent-at : (o : Option (Bor TokenRecord)) (xs : List TokenRecord) (j : ℕ) → is_some o ≡ nat_lt j (length xs) → ((d : TokenRecord) → unwrap_or (option_map (λ x. x.now) o) d ≡ get_or xs j d) → lent_item o ≡ slice_get xs j
+lent-at None xs j e f =
+    let h : length xs ≤ j = grind (arith, nat_tests, e) in
+    sym (slice_get_past xs j h)
+lent-at (Some x) xs j e f =
+    let h : j < length xs = grind (arith, nat_tests, e) in
+    ap (λ (t : TokenRecord). Some t) (f x.now) ∙ sym (slice_get-get_or xs j x.now h)

@@ -3,17 +3,18 @@ use Rattle.std.proofs.Common.{◌≡◌, ℕ, zero, suc, ◌+◌, ◌-◌, ◌*�
 use Rattle.std.proofs.Common.{false, List, length, take, drop, get_or, slice_get, Option, Some}
 use Rattle.std.proofs.Common.{None, IfSome, sum, nat_lt, nat_le, refl, sym, ap, ◌∙◌, arith, subst}
 use Rattle.std.proofs.Common.{length-take, length-drop}
-use Rattle.std.proofs.Math.Nat.{mod-eq_of_lt}
+use Rattle.std.proofs.Math.Nat.{mod-eq_of_lt, add-mul-div_left, div-eq_of_lt, div-one, mod-add-div}
+use Rattle.std.proofs.Math.Nat.{add-mul-mod_self_left}
 use Rattle.std.proofs.lemmas.List.{get_or-take, get_or-drop}
 use Rattle.std.proofs.lemmas.List.Elements.{All-get_or}
-use Rattle.std.proofs.lemmas.Nat.{pow_pos}
+use Rattle.std.proofs.lemmas.Nat.{pow_pos, shr-shr, mul-add-lt, pow-add, mul-le}
 use Rattle.std.proofs.lemmas.Option.{slice_get-get_or, slice_get_past}
 use Rattle.std.specs.List.{flat_map, range_with_len}
 use Rattle.oxc_sourcemap_tokens.specs.Token.{TokenRecord, IsInBounds, AreInBounds}
 use Rattle.oxc_sourcemap_compiled.specs.Compiled.{id_number, field_number, IsPacked, AreBlocksOf}
 use Rattle.oxc_sourcemap_compiled.specs.Compiled.{group_bytes_of, stride_of, widths_of, no_block}
-use Rattle.oxc_sourcemap_compiled.specs.Compiled.{above_in, rows_of, groups_of, bytes_of, group_of}
-use Rattle.oxc_sourcemap_compiled.specs.Compiled.{four_in}
+use Rattle.oxc_sourcemap_compiled.specs.Compiled.{above_in, rows_of, groups_of, group_of, token_bits, group_bits}
+use Rattle.oxc_sourcemap_compiled.specs.Compiled.{FieldsFit, ArePacked}
 use Rattle.oxc_sourcemap_compiled.specs.Numbers.{number_at}
 use Rattle.oxc_sourcemap_compiled.specs.Layout.{rows_base, groups_base}
 use Rattle.oxc_sourcemap_compiled.specs.Fields.{value_in, value_of, field_in}
@@ -23,11 +24,11 @@ use Rattle.oxc_sourcemap_compiled.specs.declared.writing.blocks.Packing.{Packing
 use Rattle.oxc_sourcemap_compiled.specs.declared.writing.blocks.Block.{Block}
 use Rattle.oxc_sourcemap_compiled.proofs.Parts.{LiesAt, lies-whole, lies-same, lies-within}
 use Rattle.oxc_sourcemap_compiled.proofs.Parts.{lies-among}
-use Rattle.oxc_sourcemap_compiled.proofs.ReadNumbers.{number-read, number-split}
 use Rattle.oxc_sourcemap_compiled.proofs.Digits.{digit_of, four-fit, four-read}
 use Rattle.oxc_sourcemap_compiled.proofs.Rows.{packing_at, packed-at, rows-lie, field-read}
 use Rattle.oxc_sourcemap_compiled.proofs.Groups.{bytes-below, bytes-before, bytes-within}
-use Rattle.oxc_sourcemap_compiled.proofs.Groups.{field_bytes, field-lies, group_at, groups-length}
+use Rattle.oxc_sourcemap_compiled.proofs.Groups.{group_at, groups-length, group-length}
+use Rattle.oxc_sourcemap_compiled.proofs.Bits.{window, low-value}
 
 -- ---- parts of lists
 part-get : {A : Type 0} (xs : List A) (n s i : ℕ) (d : A) → i < n → s + i < length xs → slice_get (take n (drop s xs)) i ≡ Some (get_or xs (s + i) d)
@@ -73,7 +74,7 @@ module _ (k : ℕ) (tokens : List TokenRecord) (i : ℕ) (p : Packing) (are : Is
       subst (λ t. field_number k t - p.least < 2 ^ (2 * p.width)) token.1 (are.fits (i % 64) d token.0)
 
 -- what is written of one of four tokens fits
-above-small-by : (b : Bool) (k : ℕ) (tokens : List TokenRecord) (p : Packing) (s n : ℕ) → nat_lt (s + n) (length tokens) ≡ b → n < 4
+pub above-small-by : (b : Bool) (k : ℕ) (tokens : List TokenRecord) (p : Packing) (s n : ℕ) → nat_lt (s + n) (length tokens) ≡ b → n < 4
     → (s + n < length tokens → (d : TokenRecord) → field_number k (get_or tokens (s + n) d) - p.least < 2 ^ (2 * p.width)) → (d : TokenRecord) → above_in k p (slice_get (take 4 (drop s tokens)) n) < 2 ^ (2 * p.width)
 above-small-by true k tokens p s n e lt fits d =
     let there : s + n < length tokens = grind (arith, e) in
@@ -81,6 +82,24 @@ above-small-by true k tokens p s n e lt fits d =
 above-small-by false k tokens p s n e lt fits d =
     let past : length tokens ≤ s + n = grind (arith, e) in
     subst (λ o. above_in k p o < 2 ^ (2 * p.width)) (sym (part-past tokens 4 s n past)) (pow_pos (2 * p.width))
+
+-- what is written of each field of four tokens of a block fits
+one-fits : (tokens : List TokenRecord) (b : Block) (g n j : ℕ) → n < 4 → j < 5 → ArePacked (take 64 (drop (64 * (g / 16)) tokens)) b
+    → above_in j (packing_at j b) (slice_get (take 4 (drop (4 * g) tokens)) n) < 2 ^ (2 * (packing_at j b).width)
+one-fits tokens b g n j lt is are =
+    let same : g / 16 ≡ (4 * g + n) / 64 = omega (arith, lt) in
+    let packed = subst (λ k. IsPacked j (take 64 (drop (64 * k) tokens)) (packing_at j b)) same (packed-at j (take 64 (drop (64 * (g / 16)) tokens)) b is are) in
+    above-small-by (nat_lt (4 * g + n) (length tokens)) j tokens (packing_at j b) (4 * g) n refl lt (λ less d. above-fits j tokens (4 * g + n) (packing_at j b) packed d less)
+    (record { dst_line = 0; dst_col = 0; src_line = 0; src_col = 0; source_id = None; name_id = None })
+
+pub group-fits : (tokens : List TokenRecord) (b : Block) (g n : ℕ) → n < 4 → ArePacked (take 64 (drop (64 * (g / 16)) tokens)) b → FieldsFit b (slice_get (take 4 (drop (4 * g) tokens)) n)
+group-fits tokens b g n lt are = record {
+  column = one-fits tokens b g n 0 lt (omega arith) are;
+  source = one-fits tokens b g n 1 lt (omega arith) are;
+  src_line = one-fits tokens b g n 2 lt (omega arith) are;
+  src_col = one-fits tokens b g n 3 lt (omega arith) are;
+  name = one-fits tokens b g n 4 lt (omega arith) are;
+}
 
 digit-pick : (f : ℕ → ℕ) (j : ℕ) → j < 4 → digit_of j (f 0) (f 1) (f 2) (f 3) ≡ f j
 digit-pick f zero lt = refl
@@ -90,34 +109,129 @@ digit-pick f (suc (suc (suc zero))) lt = refl
 digit-pick f (suc (suc (suc (suc j)))) lt = absurd (omega (arith, lt))
 
 -- the value of a field, by the word that is read
-value-is : (bytes : List ℕ) (f : Field) (j v : ℕ) → nat_le (f.at + j / 4 * f.stride + 16) (length bytes) ≡ true
-    → (f.least + number_at 16 bytes (f.at + j / 4 * f.stride) / 2 ^ (2 * f.width * (j % 4)) % 2 ^ (2 * f.width)) % 2 ^ 32 ≡ v → value_in bytes f j ≡ v
+value-is : (bytes : List ℕ) (f : Field) (j v : ℕ) → nat_le (f.at + (f.first + j * (2 * f.stride)) / 8 + 8) (length bytes) ≡ true
+    → (f.least + number_at 8 bytes (f.at + (f.first + j * (2 * f.stride)) / 8) / 2 ^ ((f.first + j * (2 * f.stride)) % 8) % 2 ^ (2 * f.width)) % 2 ^ 32 ≡ v → value_in bytes f j ≡ v
 unfolding value_in
 value-is bytes f j v room is = rw room is
 
--- ---- a value in the word of its group
--- the word that is read at a field of a group has the token's value among its digits
-word-read : (bytes : List ℕ) (at w j : ℕ) (f : ℕ → ℕ) → w ≤ 16 → j < 4 → ((n : ℕ) → n < 4 → f n < 2 ^ (2 * w))
-    → (LiesAt at (bytes_of w (four_in (2 ^ (2 * w)) (f 0) (f 1) (f 2) (f 3))) bytes) → number_at 16 bytes at / 2 ^ (2 * w * j) % 2 ^ (2 * w) ≡ f j
-word-read bytes at w j f narrow lt small lies =
-    let four = four_in (2 ^ (2 * w)) (f 0) (f 1) (f 2) (f 3) in
-    let s0 = small 0 (omega arith) in
-    let s1 = small 1 (omega arith) in
-    let s2 = small 2 (omega arith) in
-    let s3 = small 3 (omega arith) in
-    let rest = number_at (16 - w) bytes (at + w) in
-    let low = number-read w four at bytes lies (four-fit w (f 0) (f 1) (f 2) (f 3) s0 s1 s2 s3) in
-    let word = number-split w (16 - w) 16 at bytes (omega (arith, narrow)) ∙ ap (λ n. n + 256 ^ w * rest) low in
-    ap (λ n. n / 2 ^ (2 * w * j) % 2 ^ (2 * w)) word ∙ four-read w (f 0) (f 1) (f 2) (f 3) rest j s0 s1 s2 s3 lt ∙ digit-pick f j lt
+-- ---- the fields of a token in its bits
+skip : (v rest w r : ℕ) → v < 2 ^ w → (v + 2 ^ w * rest) / 2 ^ (w + r) ≡ rest / 2 ^ r
+skip v rest w r lt =
+    let none : 0 + rest ≡ rest = omega arith in
+    sym (shr-shr (v + 2 ^ w * rest) w r) ∙ ap (λ n. n / 2 ^ r) (add-mul-div_left v rest (pow_pos w) ∙ ap (λ q. q + rest) (div-eq_of_lt lt) ∙ none)
 
-sums : (a l s p m x y : ℕ) → l ≡ p + m * x → y ≡ x → a + l + s ≡ a + p + s + m * y
-sums a l s p m x y e f = omega (arith, e, ap (λ y. m * y) f)
+front : (v rest w : ℕ) → v < 2 ^ w → (v + 2 ^ w * rest) / 2 ^ 0 % 2 ^ w ≡ v
+front v rest w lt = ap (λ n. n % 2 ^ w) (div-one (v + 2 ^ w * rest)) ∙ add-mul-mod_self_left v (2 ^ w) rest ∙ mod-eq_of_lt lt
 
-ends-within : (base before s at size groups all : ℕ) → base + before + s ≡ at → 0 + before + s + size ≤ groups → base + groups + 16 ≤ all → at + 16 ≤ all
-ends-within base before s at size groups all e f g = omega (arith, e, f, g)
+field-bits : (k : ℕ) (b : Block) (t : Option TokenRecord) → k < 5 → FieldsFit b t
+    → token_bits b t / 2 ^ (2 * sum (take k (widths_of b))) % 2 ^ (2 * (packing_at k b).width) ≡ above_in k (packing_at k b) t
+field-bits zero b t lt fit = front (above_in 0 b.column t) _ (2 * b.column.width) fit.column
+field-bits (suc zero) b t lt fit =
+    let at : 2 * sum (take 1 (widths_of b)) ≡ 2 * b.column.width + 0 = omega arith in
+    ap (λ e. token_bits b t / 2 ^ e % 2 ^ (2 * b.source.width)) at ∙ ap (λ n. n % 2 ^ (2 * b.source.width)) (skip (above_in 0 b.column t) _ (2 * b.column.width) 0 fit.column)
+    ∙ front (above_in 1 b.source t) _ (2 * b.source.width) fit.source
+field-bits (suc (suc zero)) b t lt fit =
+    let at : 2 * sum (take 2 (widths_of b)) ≡ 2 * b.column.width + (2 * b.source.width + 0) = omega arith in
+    ap (λ e. token_bits b t / 2 ^ e % 2 ^ (2 * b.src_line.width)) at
+    ∙ ap (λ n. n % 2 ^ (2 * b.src_line.width)) (skip (above_in 0 b.column t) _ (2 * b.column.width) (2 * b.source.width + 0) fit.column ∙ skip (above_in 1 b.source t) _ (2 * b.source.width) 0 fit.source)
+    ∙ front (above_in 2 b.src_line t) _ (2 * b.src_line.width) fit.src_line
+field-bits (suc (suc (suc zero))) b t lt fit =
+    let at : 2 * sum (take 3 (widths_of b)) ≡ 2 * b.column.width + (2 * b.source.width + (2 * b.src_line.width + 0)) = omega arith in
+    ap (λ e. token_bits b t / 2 ^ e % 2 ^ (2 * b.src_col.width)) at
+    ∙ ap (λ n. n % 2 ^ (2 * b.src_col.width)) (skip (above_in 0 b.column t) _ (2 * b.column.width) (2 * b.source.width + (2 * b.src_line.width + 0)) fit.column
+    ∙ skip (above_in 1 b.source t) _ (2 * b.source.width) (2 * b.src_line.width + 0) fit.source ∙ skip (above_in 2 b.src_line t) _ (2 * b.src_line.width) 0 fit.src_line)
+    ∙ front (above_in 3 b.src_col t) _ (2 * b.src_col.width) fit.src_col
+field-bits (suc (suc (suc (suc zero)))) b t lt fit =
+    let v = above_in 4 b.name t in
+    let at : 2 * sum (take 4 (widths_of b)) ≡ 2 * b.column.width + (2 * b.source.width + (2 * b.src_line.width + (2 * b.src_col.width + 0))) = omega arith in
+    ap (λ e. token_bits b t / 2 ^ e % 2 ^ (2 * b.name.width)) at
+    ∙ ap (λ n. n % 2 ^ (2 * b.name.width)) (skip (above_in 0 b.column t) _ (2 * b.column.width) (2 * b.source.width + (2 * b.src_line.width + (2 * b.src_col.width + 0))) fit.column
+    ∙ skip (above_in 1 b.source t) _ (2 * b.source.width) (2 * b.src_line.width + (2 * b.src_col.width + 0)) fit.source
+    ∙ skip (above_in 2 b.src_line t) _ (2 * b.src_line.width) (2 * b.src_col.width + 0) fit.src_line ∙ skip (above_in 3 b.src_col t) v (2 * b.src_col.width) 0 fit.src_col ∙ div-one v)
+    ∙ mod-eq_of_lt fit.name
+field-bits (suc (suc (suc (suc (suc k))))) b t lt fit = absurd (omega (arith, lt))
+
+one-more : (w s v rest : ℕ) → v < 2 ^ w → rest < 2 ^ s → v + 2 ^ w * rest < 2 ^ (w + s)
+one-more w s v rest hv hr = omega (arith, mul-add-lt rest (2 ^ w) v (2 ^ s) hr hv, pow-add 2 w s)
+
+-- the bits of a token are as many as it says
+token-small : (b : Block) (t : Option TokenRecord) → FieldsFit b t → token_bits b t < 2 ^ (2 * stride_of b)
+token-small b t fit =
+    let whole : 2 * b.column.width + (2 * b.source.width + (2 * b.src_line.width + (2 * b.src_col.width + 2 * b.name.width))) ≡ 2 * stride_of b = omega arith in
+    subst (λ e. token_bits b t < 2 ^ e) whole
+    (one-more (2 * b.column.width) _ _ _ fit.column (one-more (2 * b.source.width) _ _ _ fit.source (one-more (2 * b.src_line.width) _ _ _ fit.src_line
+    (one-more (2 * b.src_col.width) _ _ _ fit.src_col fit.name))))
+
+-- a value within the lowest bits of a number is one of the number
+inner : (x t f w s : ℕ) → f + w + s ≡ t → x % 2 ^ t / 2 ^ f % 2 ^ w ≡ x / 2 ^ f % 2 ^ w
+inner x t f w s e =
+    let whole : x ≡ x % 2 ^ t + 2 ^ t * (x / 2 ^ t) = omega (arith, mod-add-div x (2 ^ t)) in
+    sym (ap (λ n. n / 2 ^ f % 2 ^ w) whole ∙ low-value (x % 2 ^ t) (x / 2 ^ t) t f w s e)
 
 five-widths : (b : Block) → sum (widths_of b) ≡ stride_of b
 five-widths b = omega arith
+
+-- ---- where a token's bits lie
+split-bits : (g m s f : ℕ) → f + (4 * g + m) * (2 * s) ≡ 8 * (g * s) + (m * (2 * s) + f)
+split-bits g m s f = omega arith
+
+div-eight : (x y : ℕ) → (8 * x + y) / 8 ≡ x + y / 8
+div-eight x y = omega arith
+
+mod-eight : (x y : ℕ) → (8 * x + y) % 8 ≡ y % 8
+mod-eight x y = omega arith
+
+-- a field ends within the bits of its token
+field-within : (k : ℕ) (b : Block) → k < 5 → 2 * sum (take k (widths_of b)) + 2 * (packing_at k b).width ≤ 2 * stride_of b
+field-within zero b lt = omega arith
+field-within (suc zero) b lt = omega arith
+field-within (suc (suc zero)) b lt = omega arith
+field-within (suc (suc (suc zero))) b lt = omega arith
+field-within (suc (suc (suc (suc zero)))) b lt = omega arith
+field-within (suc (suc (suc (suc (suc k))))) b lt = absurd (omega (arith, lt))
+
+-- and so within those of four
+within-four : (m f w s : ℕ) → m < 4 → f + w ≤ 2 * s → m * (2 * s) + f + w ≤ 8 * s
+within-four m f w s lt le = omega (arith, le, mul-le m (2 * s) 3 (2 * s) (omega (arith, lt)) (omega arith))
+
+-- Of four tokens in the bytes of a group: the field of one of them, through a window of eight bytes.
+module _ (b : Block) (ts : List TokenRecord) (at : ℕ) (bytes : List ℕ) (fit : (n : ℕ) → n < 4 → FieldsFit b (slice_get ts n)) (lies : LiesAt at (group_of b ts) bytes) where
+  module _ (k m : ℕ) (is_field : k < 5) (lt : m < 4) (narrow : (packing_at k b).width ≤ 16) where
+    abbrev of : ℕ → ℕ
+    of n = token_bits b (slice_get ts n)
+
+    abbrev ahead : ℕ
+    ahead = 2 * sum (take k (widths_of b))
+
+    abbrev begin : ℕ
+    begin = m * (2 * stride_of b) + ahead
+
+    abbrev bits : ℕ
+    bits = 2 * (packing_at k b).width
+
+    each-small : (n : ℕ) → n < 4 → of n < 2 ^ (2 * stride_of b)
+    each-small n less = token-small b (slice_get ts n) (fit n less)
+
+    fits : begin + bits ≤ 8 * stride_of b
+    fits = within-four m ahead bits (stride_of b) lt (field-within k b is_field)
+
+    token-read : group_bits b ts / 2 ^ (2 * stride_of b * m) % 2 ^ (2 * stride_of b) ≡ of m
+    token-read =
+        let none : group_bits b ts ≡ group_bits b ts + 256 ^ stride_of b * 0 = omega arith in
+        ap (λ n. n / 2 ^ (2 * stride_of b * m) % 2 ^ (2 * stride_of b)) none
+        ∙ four-read (stride_of b) (of 0) (of 1) (of 2) (of 3) 0 m (each-small 0 (omega arith)) (each-small 1 (omega arith)) (each-small 2 (omega arith)) (each-small 3 (omega arith)) lt ∙ digit-pick of m lt
+
+    pub value-of-group : number_at 8 bytes (at + begin / 8) / 2 ^ (begin % 8) % 2 ^ bits ≡ above_in k (packing_at k b) (slice_get ts m)
+    value-of-group =
+        let s = stride_of b in
+        let number = group_bits b ts in
+        let all : number < 256 ^ s = four-fit s (of 0) (of 1) (of 2) (of 3) (each-small 0 (omega arith)) (each-small 1 (omega arith)) (each-small 2 (omega arith)) (each-small 3 (omega arith)) in
+        let window_is = window number s (begin / 8) (begin % 8) bits at bytes all lies (omega (arith, fits)) (omega (arith, narrow)) (omega (arith, fits)) in
+        let whole : 8 * (begin / 8) + begin % 8 ≡ 2 * s * m + ahead = omega arith in
+        let rest : ahead + bits + (2 * s - (ahead + bits)) ≡ 2 * s = omega (arith, field-within k b is_field) in
+        window_is ∙ ap (λ e. number / 2 ^ e % 2 ^ bits) whole ∙ ap (λ n. n % 2 ^ bits) (sym (shr-shr number (2 * s * m) ahead))
+        ∙ sym (inner (number / 2 ^ (2 * s * m)) (2 * s) ahead bits (2 * s - (ahead + bits)) rest) ∙ ap (λ n. n / 2 ^ ahead % 2 ^ bits) token-read
+        ∙ field-bits k b (slice_get ts m) is_field (fit m lt)
 
 -- ---- the field of a token in bytes that have the rows and the groups of its blocks
 module _ (tokens : List TokenRecord) (blocks : List Block) (bytes : List ℕ) (h : Header) (are : AreBlocksOf tokens blocks) (bounds : AreInBounds tokens)
@@ -144,10 +258,13 @@ module _ (tokens : List TokenRecord) (blocks : List Block) (bytes : List ℕ) (h
     before = length (flat_map (group_at blocks tokens) (range_with_len 0 (i / 4)))
 
     abbrev field : Field
-    field = record { least = packing.least; at = groups_base h + place + sum (take k (widths_of block)); stride = sum (widths_of block); width = packing.width }
+    field = record { least = packing.least; at = groups_base h + place; first = 2 * sum (take k (widths_of block)); stride = sum (widths_of block); width = packing.width }
+
+    abbrev bit : ℕ
+    bit = i % 64 % 4 * (2 * stride_of block) + 2 * sum (take k (widths_of block))
 
     abbrev at : ℕ
-    at = groups_base h + place + sum (take k (widths_of block)) + i % 64 / 4 * sum (widths_of block)
+    at = groups_base h + before + bit / 8
 
     abbrev number : ℕ
     number = field_number k (get_or tokens i d)
@@ -158,8 +275,14 @@ module _ (tokens : List TokenRecord) (blocks : List Block) (bytes : List ℕ) (h
     few-groups : all_groups ≤ 16 * length blocks
     few-groups = omega (arith, are.count)
 
+    abbrev first : ℕ
+    first = 2 * sum (take k (widths_of block))
+
+    fields-at : (j : ℕ) → j < 5 → IsPacked j (take 64 (drop (64 * (i / 64)) tokens)) (packing_at j block)
+    fields-at j is = packed-at j (take 64 (drop (64 * (i / 64)) tokens)) block is (are.each (i / 64) no_block block-there)
+
     fields : IsPacked k (take 64 (drop (64 * (i / 64)) tokens)) packing
-    fields = packed-at k (take 64 (drop (64 * (i / 64)) tokens)) block is_field (are.each (i / 64) no_block block-there)
+    fields = fields-at k is_field
 
     least-reached : packing.least ≤ number
     least-reached = least-below k tokens i packing fields d there
@@ -192,39 +315,61 @@ module _ (tokens : List TokenRecord) (blocks : List Block) (bytes : List ℕ) (h
         groups-length (i / 4) blocks tokens (omega (arith, few-groups, there)) ∙ ap (λ n. group_bytes_of n blocks) split
         ∙ bytes-within (i / 64) (i % 64 / 4) blocks (omega arith) block-there ∙ ap (λ n. n + i % 64 / 4 * stride_of block) (sym place-is)
 
-    at-is : groups_base h + before + sum (take k (widths_of block)) ≡ at
-    at-is = sums (groups_base h) before (sum (take k (widths_of block))) place (i % 64 / 4) (stride_of block) (sum (widths_of block)) before-is (five-widths block)
+    -- the bits of the field begin where they are read
+    bits-are : (first + i % 64 * (2 * sum (widths_of block))) ≡ 8 * (i % 64 / 4 * stride_of block) + bit
+    bits-are =
+        let split : i % 64 ≡ 4 * (i % 64 / 4) + i % 64 % 4 = omega arith in
+        ap (λ s. first + i % 64 * (2 * s)) (five-widths block) ∙ ap (λ j. first + j * (2 * stride_of block)) split ∙ split-bits (i % 64 / 4) (i % 64 % 4) (stride_of block) first
 
-    lies : LiesAt at (field_bytes k block group) bytes
-    lies =
-        lies-same (groups_base h + before + sum (take k (widths_of block))) at (field_bytes k block group) bytes at-is
-        (field-lies k (groups_base h + before) block group bytes is_field (group-lies (groups_base h) bytes groups))
+    at-is : groups_base h + place + (first + i % 64 * (2 * sum (widths_of block))) / 8 ≡ at
+    at-is =
+        let far = ap (λ n. n / 8) bits-are ∙ div-eight (i % 64 / 4 * stride_of block) bit in
+        omega (arith, far, before-is)
 
-    within : at + 16 ≤ length bytes
+    bit-is : (first + i % 64 * (2 * sum (widths_of block))) % 8 ≡ bit % 8
+    bit-is = ap (λ n. n % 8) bits-are ∙ mod-eight (i % 64 / 4 * stride_of block) bit
+
+    within : at + 8 ≤ length bytes
     within =
-        let inner = field-lies k (0 + before) block group (groups_of blocks tokens) is_field (group-lies 0 (groups_of blocks tokens) (lies-whole (groups_of blocks tokens))) in
-        ends-within (groups_base h) before (sum (take k (widths_of block))) at (length (field_bytes k block group)) (length (groups_of blocks tokens)) (length bytes) at-is
-        (lies-within (0 + before + sum (take k (widths_of block))) (field_bytes k block group) (groups_of blocks tokens) inner) room
+        let inner = lies-within (0 + before) (group_of block group) (groups_of blocks tokens) (group-lies 0 (groups_of blocks tokens) (lies-whole (groups_of blocks tokens))) in
+        let fits = within-four (i % 64 % 4) first (2 * packing.width) (stride_of block) (omega arith) (field-within k block is_field) in
+        omega (arith, inner, group-length block group, room, fits)
 
-    values-small : (n : ℕ) → n < 4 → above_in k packing (slice_get group n) < 2 ^ (2 * packing.width)
-    values-small n lt =
+    one-small : (j n : ℕ) → j < 5 → n < 4 → above_in j (packing_at j block) (slice_get group n) < 2 ^ (2 * (packing_at j block).width)
+    one-small j n is lt =
         let s = 4 * (i / 4) in
         let same : i / 64 ≡ (s + n) / 64 = omega (arith, lt) in
-        above-small-by (nat_lt (s + n) (length tokens)) k tokens packing s n refl lt
-        (λ less d. above-fits k tokens (s + n) packing (subst (λ b. IsPacked k (take 64 (drop (64 * b) tokens)) packing) same fields) d less) d
+        above-small-by (nat_lt (s + n) (length tokens)) j tokens (packing_at j block) s n refl lt
+        (λ less d. above-fits j tokens (s + n) (packing_at j block) (subst (λ b. IsPacked j (take 64 (drop (64 * b) tokens)) (packing_at j block)) same (fields-at j is)) d less) d
+
+    values-small : (n : ℕ) → n < 4 → FieldsFit block (slice_get group n)
+    values-small n lt = record {
+      column = one-small 0 n (omega arith) lt;
+      source = one-small 1 n (omega arith) lt;
+      src_line = one-small 2 n (omega arith) lt;
+      src_col = one-small 3 n (omega arith) lt;
+      name = one-small 4 n (omega arith) lt;
+    }
 
     token-is : slice_get group (i % 64 % 4) ≡ Some (get_or tokens i d)
     token-is =
         let here : 4 * (i / 4) + i % 64 % 4 ≡ i = omega arith in
         part-get tokens 4 (4 * (i / 4)) (i % 64 % 4) d (omega arith) (omega (arith, here, there)) ∙ ap (λ n. Some (get_or tokens n d)) here
 
-    above-is : number_at 16 bytes at / 2 ^ (2 * packing.width * (i % 64 % 4)) % 2 ^ (2 * packing.width) ≡ number - packing.least
-    above-is = word-read bytes at packing.width (i % 64 % 4) (λ n. above_in k packing (slice_get group n)) fields.width (omega arith) values-small lies ∙ ap (above_in k packing) token-is
+    above-is : number_at 8 bytes at / 2 ^ (bit % 8) % 2 ^ (2 * packing.width) ≡ number - packing.least
+    above-is =
+        value-of-group block group (groups_base h + before) bytes values-small (group-lies (groups_base h) bytes groups) k (i % 64 % 4) is_field (omega arith) fields.width
+        ∙ ap (above_in k packing) token-is
+
+    read-is : number_at 8 bytes (field.at + (first + i % 64 * (2 * field.stride)) / 8) / 2 ^ ((first + i % 64 * (2 * field.stride)) % 8) % 2 ^ (2 * packing.width) ≡ number - packing.least
+    read-is =
+        ap (λ a. number_at 8 bytes a / 2 ^ ((first + i % 64 * (2 * field.stride)) % 8) % 2 ^ (2 * packing.width)) at-is
+        ∙ ap (λ r. number_at 8 bytes at / 2 ^ r % 2 ^ (2 * packing.width)) bit-is ∙ above-is
 
     pub value-read : value_of bytes h k i ≡ field_number k (get_or tokens i d)
     value-read =
         let whole : packing.least + (number - packing.least) ≡ number = omega (arith, least-reached) in
         let low : number < 4294967296 = omega (arith, small) in
-        let room : nat_le (at + 16) (length bytes) ≡ true = grind (arith, within) in
+        let room : nat_le (field.at + (first + i % 64 * (2 * field.stride)) / 8 + 8) (length bytes) ≡ true = grind (arith, within, at-is) in
         ap (λ f. value_in bytes f (i % 64)) field-is
-        ∙ value-is bytes field (i % 64) number room (ap (λ n. (packing.least + n) % 4294967296) above-is ∙ ap (λ n. n % 4294967296) whole ∙ mod-eq_of_lt low)
+        ∙ value-is bytes field (i % 64) number room (ap (λ n. (packing.least + n) % 4294967296) read-is ∙ ap (λ n. n % 4294967296) whole ∙ mod-eq_of_lt low)

@@ -15,6 +15,7 @@ use Rattle.oxc_sourcemap_compiled.specs.Layout.{texts_base}
 use Rattle.oxc_sourcemap_compiled.specs.declared.layout.Header.{Header}
 use Rattle.oxc_sourcemap_compiled.specs.declared.writing.blocks.Packing.{Packing}
 use Rattle.oxc_sourcemap_compiled.specs.declared.writing.blocks.Block.{Block}
+use Rattle.oxc_sourcemap_compiled.specs.declared.writing.blocks.Rest.{Rest}
 
 -- a number as this many bytes, the lowest first
 unfoldable pub bytes_of : ℕ → ℕ → List ℕ
@@ -105,9 +106,19 @@ above_in k p (Some t) = field_number k t - p.least
 abbrev pub four_in : ℕ → ℕ → ℕ → ℕ → ℕ → ℕ
 four_in factor a b c d = a + factor * (b + factor * (c + factor * d))
 
--- the values of a field in up to four tokens, in one number, the first token's lowest
-abbrev pub packed : ℕ → Packing → List TokenRecord → ℕ
-packed k p ts = four_in (2 ^ (2 * p.width)) (above_in k p (slice_get ts 0)) (above_in k p (slice_get ts 1)) (above_in k p (slice_get ts 2)) (above_in k p (slice_get ts 3))
+-- what is written of each field of a token fits into its bits
+pub record FieldsFit (b : Block) (t : Option TokenRecord) : Type 0 where
+  pub column : above_in 0 b.column t < 2 ^ (2 * b.column.width)
+  pub source : above_in 1 b.source t < 2 ^ (2 * b.source.width)
+  pub src_line : above_in 2 b.src_line t < 2 ^ (2 * b.src_line.width)
+  pub src_col : above_in 3 b.src_col t < 2 ^ (2 * b.src_col.width)
+  pub name : above_in 4 b.name t < 2 ^ (2 * b.name.width)
+
+-- what is written of a token, in one number, its column lowest
+abbrev pub token_bits : Block → Option TokenRecord → ℕ
+token_bits b t =
+    above_in 0 b.column t + 2 ^ (2 * b.column.width) * (above_in 1 b.source t + 2 ^ (2 * b.source.width) * (above_in 2 b.src_line t
+    + 2 ^ (2 * b.src_line.width) * (above_in 3 b.src_col t + 2 ^ (2 * b.src_col.width) * above_in 4 b.name t)))
 
 -- all widths of a block are those of numbers of 32 bits
 pub record AreNarrow (b : Block) : Type 0 where
@@ -117,11 +128,21 @@ pub record AreNarrow (b : Block) : Type 0 where
   pub src_col : b.src_col.width ≤ 16
   pub name : b.name.width ≤ 16
 
--- the bytes of a group of tokens
+-- up to four tokens, in one number, the first one lowest
+abbrev pub group_bits : Block → List TokenRecord → ℕ
+group_bits b ts =
+    four_in (2 ^ (2 * stride_of b)) (token_bits b (slice_get ts 0)) (token_bits b (slice_get ts 1)) (token_bits b (slice_get ts 2)) (token_bits b (slice_get ts 3))
+
+-- Of a number of so many bits the whole bytes are written, and the rest of it is left.
+pub record IsWritten (old out : List ℕ) (rest : Rest) (bits number : ℕ) : Type 0 where
+  pub items : out ≡ old ++ bytes_of (bits / 8) number
+  pub left : rest.bits ≡ number / 256 ^ (bits / 8)
+  pub count : rest.count ≡ bits % 8
+  pub small : number < 2 ^ bits
+
+-- their bytes
 abbrev pub group_of : Block → List TokenRecord → List ℕ
-group_of b ts = bytes_of b.column.width (packed 0 b.column ts) ++ bytes_of b.source.width (packed 1 b.source ts)
-    ++ bytes_of b.src_line.width (packed 2 b.src_line ts) ++ bytes_of b.src_col.width (packed 3 b.src_col ts)
-    ++ bytes_of b.name.width (packed 4 b.name ts)
+group_of b ts = bytes_of (stride_of b) (group_bits b ts)
 
 -- a block, for reads past the end
 abbrev pub no_packing : Packing

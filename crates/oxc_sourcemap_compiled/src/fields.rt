@@ -1,22 +1,23 @@
-//! Fields of the tokens of a block, in groups of four tokens.
+//! Fields of the tokens of a block, bit by bit.
 ghost use Rattle.std.specs.Prelude.{◌≡◌, ◌+◌, ◌-◌, ◌*◌, ◌/◌, ◌%◌, ◌^◌, ◌≤◌, ◌<◌, length};
 ghost use Rattle.oxc_sourcemap_compiled.specs.Words.{IsField, value_in};
 
-use crate::numbers::u128_at;
+use crate::numbers::u64_at;
 
-/// One field of the tokens of a block: where it lies in the first group of four tokens, how far apart the groups lie, how many
-/// bytes its four values take, and what is added to each.
+/// One field of the tokens of a block: where the block lies, at which bit of each token the field begins, how many bytes four tokens
+/// take and four values of the field, and what is added to each value.
 #[derive(Clone, Copy)]
 pub(crate) struct Field {
     pub(crate) least: u32,
     pub(crate) at: usize,
+    pub(crate) first: usize,
     pub(crate) stride: usize,
     pub(crate) width: usize,
 }
 
 /// The greatest number of this many bits.
 #[inline(always)]
-fn mask_of(bits: usize) -> u128
+fn mask_of(bits: usize) -> u64
     requires { bits ≤ 32 }
     ensures { result ≡ 2 ^ bits - 1 }
 {
@@ -25,8 +26,8 @@ fn mask_of(bits: usize) -> u128
 
 /// The number of this many bits from a bit on.
 #[inline(always)]
-fn bits_from(word: u128, from: usize, bits: usize) -> u32
-    requires from { from ≤ 96 }
+fn bits_from(word: u64, from: usize, bits: usize) -> u32
+    requires from { from ≤ 31 }
     requires bits { bits ≤ 32 }
     ensures { result ≡ word / 2 ^ from % 2 ^ bits }
 {
@@ -42,12 +43,12 @@ impl Field {
         requires there { j < 64 }
         ensures { result ≡ value_in bytes.now self.now j }
     {
-        let at = self.at + j / 4 * self.stride;
-        if at + 16 > bytes.len() {
+        let bit = self.first + j * (2 * self.stride);
+        let at = self.at + bit / 8;
+        if at + 8 > bytes.len() {
             return self.least;
         }
-        let bits = 2 * self.width;
-        let above = bits_from(u128_at(bytes, at), bits * (j % 4), bits);
+        let above = bits_from(u64_at(bytes, at), bit % 8, 2 * self.width);
         self.least.wrapping_add(above)
     }
 }

@@ -130,7 +130,8 @@ impl<'a> Opened<'a> {
         let widths = &bytes[row + 24..row + 29];
         Field {
             least: u32_at(bytes, row + 4 + 4 * k),
-            at: self.layout.groups + u32_at(bytes, row) as usize + width_before(widths, k),
+            at: self.layout.groups + u32_at(bytes, row) as usize,
+            first: 2 * width_before(widths, k),
             stride: width_of_all(widths),
             width: usize::from(widths[k]).min(16),
         }

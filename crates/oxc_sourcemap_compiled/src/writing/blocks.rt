@@ -1,11 +1,11 @@
 //! Blocks of 64 tokens: their rows, and their groups of four.
 ghost use Rattle.std.specs.Prelude.{◌≡◌, ◌≤◌, ◌<◌, ◌+◌, ◌-◌, ◌*◌, ◌/◌, ◌^◌, ℕ, IfOk, OnOk, length};
-ghost use Rattle.std.specs.Prelude.{get_or};
+ghost use Rattle.std.specs.Prelude.{get_or, slice_get, List};
 ghost use Rattle.std.specs.Prelude.{◌++◌, take, drop};
 ghost use Rattle.oxc_sourcemap_compiled.specs.Words.{field_number, IsPacked, ArePacked};
 ghost use Rattle.oxc_sourcemap_compiled.specs.Words.{AreBlocksOf};
-ghost use Rattle.oxc_sourcemap_compiled.specs.Words.{bytes_of, stride_of, rows_of, packed};
-ghost use Rattle.oxc_sourcemap_compiled.specs.Words.{group_of};
+ghost use Rattle.oxc_sourcemap_compiled.specs.Words.{stride_of, rows_of, token_bits};
+ghost use Rattle.oxc_sourcemap_compiled.specs.Words.{group_of, FieldsFit, IsWritten};
 ghost use Rattle.oxc_sourcemap_compiled.specs.Words.{group_bytes_of, id_number, row_of, above_in};
 ghost use Rattle.oxc_sourcemap_compiled.specs.Words.{AreNarrow};
 ghost use Rattle.oxc_sourcemap_compiled.specs.Words.{groups_of};
@@ -208,63 +208,67 @@ fn above(token: Option<&Token>, k: usize, packing: Packing) -> u32
     }
 }
 
-/// A number with another one above it.
-fn with_above(low: u32, factor: u128, high: u128) -> u128
-    requires factor { factor ≤ 4294967296 }
-    requires high { high < 79228162514264337593543950336 }
-    ensures value { result ≡ low + factor * high }
-    ensures small { (limit : ℕ) → high < limit → result < 4294967296 * limit }
-{
-    u128::from(low) + factor * high
+/// The bits behind the last whole byte: how many, fewer than eight, and the number that they are.
+#[derive(Clone, Copy)]
+pub(crate) struct Rest {
+    bits: u64,
+    count: usize,
 }
 
-/// The values of a field in up to four tokens, in one number.
-fn packed_values(tokens: &[Token], k: usize, packing: Packing) -> u128
-    requires field { k < 5 }
-    requires width { packing.width ≤ 16 }
-    ensures { result ≡ packed k packing tokens.now }
+/// Appends a value of this many bits behind the bits that are left, as far as there are whole bytes. What is left then.
+fn push_bits(out: &mut Vec<u8>, rest: Rest, value: u32, width: usize) -> Memory<Rest>
+    requires left { rest.bits < 2 ^ rest.count }
+    requires few { rest.count ≤ 7 }
+    requires width { width ≤ 32 }
+    requires fits { value < 2 ^ width }
+    ensures written { IfOk result (λ r. (old : List ℕ) (bits number : ℕ)
+        → IsWritten old out.old.items rest bits number
+        → IsWritten old out.new.items r (bits + width) (number + 2 ^ bits * value)) }
+    ensures left { IfOk result (λ r. r.bits < 2 ^ r.count) }
+    ensures few { IfOk result (λ r. r.count ≤ 7) }
 {
-    let factor = factor_of(packing.width);
-    let three = above(tokens.get(3), k, packing);
-    let two = with_above(above(tokens.get(2), k, packing), factor, u128::from(three));
-    let one = with_above(above(tokens.get(1), k, packing), factor, two);
-    with_above(above(tokens.first(), k, packing), factor, one)
+    let all = rest.bits + (u64::from(value) << rest.count);
+    let count = rest.count + width;
+    push_number(out, u128::from(all), count / 8)?;
+    Ok(Rest {
+        bits: all >> (count / 8 * 8),
+        count: count % 8,
+    })
 }
 
-/// By what a value is above the one before it: how many values there are of twice as many bits as the width.
-fn factor_of(width: u8) -> u128
-    requires { width ≤ 16 }
-    ensures value { result ≡ 2 ^ (2 * width) }
-    ensures small { result ≤ 4294967296 }
+/// Appends a token.
+fn push_token(out: &mut Vec<u8>, rest: Rest, block: Block, token: Option<&Token>) -> Memory<Rest>
+    requires left { rest.bits < 2 ^ rest.count }
+    requires few { rest.count ≤ 7 }
+    requires narrow { AreNarrow block }
+    requires fits { FieldsFit block (lent_item token) }
+    ensures written { IfOk result (λ r. (old : List ℕ) (bits number : ℕ)
+        → IsWritten old out.old.items rest bits number
+        → IsWritten old out.new.items r (bits + 2 * stride_of block)
+        (number + 2 ^ bits * token_bits block (lent_item token.entry))) }
+    ensures left { IfOk result (λ r. r.bits < 2 ^ r.count) }
+    ensures few { IfOk result (λ r. r.count ≤ 7) }
 {
-    1 << (2 * u32::from(width))
+    let rest = push_bits(out, rest, above(token, 0, block.column), 2 * usize::from(block.column.width))?;
+    let rest = push_bits(out, rest, above(token, 1, block.source), 2 * usize::from(block.source.width))?;
+    let rest = push_bits(out, rest, above(token, 2, block.src_line), 2 * usize::from(block.src_line.width))?;
+    let rest = push_bits(out, rest, above(token, 3, block.src_col), 2 * usize::from(block.src_col.width))?;
+    let rest = push_bits(out, rest, above(token, 4, block.name), 2 * usize::from(block.name.width))?;
+    Ok(rest)
 }
 
 /// Appends a group of up to four tokens.
 fn push_group(out: &mut Vec<u8>, block: &Block, tokens: &[Token]) -> Memory<()>
-    requires { AreNarrow block.now }
+    requires narrow { AreNarrow block.now }
+    requires fits { (n : ℕ) → n < 4 → FieldsFit block.now (slice_get tokens.now n) }
     ensures { OnOk result (out.new.items ≡ out.old.items ++ group_of block.now tokens.now) }
 {
     let block = *block;
-    push_field(out, tokens, 0, block.column)?;
-    push_field(out, tokens, 1, block.source)?;
-    push_field(out, tokens, 2, block.src_line)?;
-    push_field(out, tokens, 3, block.src_col)?;
-    push_field(out, tokens, 4, block.name)
-}
-
-/// Appends a field of a group.
-fn push_field(out: &mut Vec<u8>, tokens: &[Token], k: usize, packing: Packing) -> Memory<()>
-    requires field { k < 5 }
-    requires width { packing.width ≤ 16 }
-    ensures { OnOk result (out.new.items
-        ≡ out.old.items ++ bytes_of packing.width (packed k packing tokens.now)) }
-{
-    push_number(
-        out,
-        packed_values(tokens, k, packing),
-        usize::from(packing.width),
-    )
+    let rest = push_token(out, Rest { bits: 0, count: 0 }, block, tokens.first())?;
+    let rest = push_token(out, rest, block, tokens.get(1))?;
+    let rest = push_token(out, rest, block, tokens.get(2))?;
+    push_token(out, rest, block, tokens.get(3))?;
+    Ok(())
 }
 
 /// Appends the groups of all tokens.

@@ -1,18 +1,27 @@
 use Rattle.std.proofs.Common.{◌*◌, ◌/◌, ◌++◌, ℕ, get_or, take, drop, ap, ◌∙◌, sym, arith}
-use Rattle.std.proofs.Common.{append_assoc}
+use Rattle.std.proofs.Common.{append_assoc, slice_get, subst, ◌<◌}
 use Rattle.std.specs.List.{flat_map, range_with_len}
-use Rattle.oxc_sourcemap_compiled.specs.Compiled.{group_of, no_block}
+use Rattle.oxc_sourcemap_compiled.specs.Compiled.{group_of, no_block, FieldsFit}
+use Rattle.oxc_sourcemap_compiled.proofs.Values.{group-fits}
 use Rattle.oxc_sourcemap_compiled.proofs.Slices.{part-is, flat_map-more}
 use Rattle.oxc_sourcemap_compiled.proofs.writing.blocks.push_groups.Goals as goal
 
 pub push_group-requires : goal.push_group-requires
 push_group-requires c =
-    let fits = c.requires.blocks.each (c.loop-g.g / 16) no_block (omega (arith, c.loop-g-test.true, c.requires.blocks.count)) in record {
-      column = fits.column.width;
-      source = fits.source.width;
-      src_line = fits.src_line.width;
-      src_col = fits.src_col.width;
-      name = fits.name.width;
+    let tokens = c.args.tokens.now in
+    let g = c.loop-g.g in
+    let block = get_or c.args.blocks.now (g / 16) no_block in
+    let are = c.requires.blocks.each (g / 16) no_block (omega (arith, c.loop-g-test.true, c.requires.blocks.count)) in
+    let part = part-is tokens (4 * g) 4 c.min-end.result c.min-end.ensures in
+    record {
+      narrow = record {
+        column = are.column.width;
+        source = are.source.width;
+        src_line = are.src_line.width;
+        src_col = are.src_col.width;
+        name = are.name.width;
+      };
+      fits = λ n lt. subst (λ ts. FieldsFit block (slice_get ts n)) (sym part) (group-fits tokens block g n lt are);
     }
 
 pub loop-g-preserved : goal.loop-g-preserved

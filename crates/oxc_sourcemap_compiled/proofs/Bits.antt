@@ -1,6 +1,7 @@
 -- Values side by side in the bits of a number: as bytes, step by step, and each read back through a window of eight bytes.
-use Rattle.std.proofs.Common.{◌≡◌, ℕ, zero, suc, ◌+◌, ◌-◌, ◌*◌, ◌/◌, ◌%◌, ◌^◌, ◌<◌, ◌≤◌, List, [], ◌∷◌}
-use Rattle.std.proofs.Common.{append_assoc, append-nil, ◌++◌, refl, sym, ap, ◌∙◌, arith, subst, Bool, true, false, nat_le}
+use Rattle.std.proofs.Common.{◌≡◌, ℕ, zero, suc, ◌+◌, ◌-◌, ◌*◌, ◌/◌, ◌%◌, ◌^◌, ◌<◌, ◌≤◌, List, ◌∷◌}
+use Rattle.std.proofs.Common.{append_assoc, append-nil, ◌++◌, refl, sym, ap, ◌∙◌, arith, subst}
+use Rattle.std.proofs.Common.{Bool, true, false, nat_le}
 use Rattle.std.proofs.Math.Nat.{add-mul-mod_self_left, add-mul-div_left, div-one, pow-suc}
 use Rattle.std.proofs.lemmas.Nat.{pow-add, shr-shr, pow_pos, div_below, mul-add-lt}
 use Rattle.oxc_sourcemap_compiled.specs.Numbers.{number_at}
@@ -41,7 +42,7 @@ bytes-append zero c n =
 bytes-append (suc a) c n =
     let next : suc a + c ≡ suc (a + c) = omega arith in
     let more : n / 256 / 256 ^ a ≡ n / 256 ^ suc a =
-        ap (λ p. n / 256 / p) (bytes-bits a) ∙ shr-shr n 8 (8 * a) ∙ ap (λ k. n / 2 ^ k) (omega arith) ∙ ap (λ p. n / p) (sym (bytes-bits (suc a))) in
+    ap (λ p. n / 256 / p) (bytes-bits a) ∙ shr-shr n 8 (8 * a) ∙ ap (λ k. n / 2 ^ k) (omega arith) ∙ ap (λ p. n / p) (sym (bytes-bits (suc a))) in
     ap (λ k. bytes_of k n) next ∙ ap (λ xs. n % 256 ∷ xs) (bytes-append a c (n / 256) ∙ ap (λ m. bytes_of a (n / 256) ++ bytes_of c m) more)
 
 -- what is above them changes none of them

@@ -1,16 +1,14 @@
 -- The groups of tokens: how many bytes they take, and where each lies.
 use Rattle.std.proofs.Common.{◌≡◌, ℕ, zero, suc, ◌+◌, ◌-◌, ◌*◌, ◌/◌, ◌<◌, ◌≤◌, Bool, true, false}
-use Rattle.std.proofs.Common.{List, [], ◌∷◌, ◌++◌, length, take, drop, get_or, min, sum, nat_lt}
-use Rattle.std.proofs.Common.{refl, sym, ap, ◌∙◌, arith, subst, append_assoc, length-append}
+use Rattle.std.proofs.Common.{List, [], ◌∷◌, length, take, drop, get_or, min, nat_lt}
+use Rattle.std.proofs.Common.{refl, sym, ap, ◌∙◌, arith, length-append}
 use Rattle.std.specs.List.{flat_map, range_with_len}
 use Rattle.oxc_sourcemap_tokens.specs.Token.{TokenRecord}
-use Rattle.oxc_sourcemap_compiled.specs.Compiled.{bytes_of, group_bytes_of, stride_of, widths_of}
+use Rattle.oxc_sourcemap_compiled.specs.Compiled.{group_bytes_of, stride_of}
 use Rattle.oxc_sourcemap_compiled.specs.Compiled.{no_block, group_of, group_bits}
 use Rattle.oxc_sourcemap_compiled.specs.declared.writing.blocks.Block.{Block}
 use Rattle.oxc_sourcemap_compiled.proofs.Bytes.{bytes-length}
 use Rattle.oxc_sourcemap_compiled.proofs.Slices.{flat_map-more}
-use Rattle.oxc_sourcemap_compiled.proofs.Parts.{LiesAt, lies-front, lies-next, lies-same}
-use Rattle.oxc_sourcemap_compiled.proofs.Rows.{packing_at}
 
 -- ---- how many bytes they take
 no-groups : (blocks : List Block) → group_bytes_of 0 blocks ≡ 0

@@ -13,7 +13,8 @@ use Rattle.std.specs.List.{flat_map, range_with_len}
 use Rattle.oxc_sourcemap_tokens.specs.Token.{TokenRecord, IsInBounds, AreInBounds}
 use Rattle.oxc_sourcemap_compiled.specs.Compiled.{id_number, field_number, IsPacked, AreBlocksOf}
 use Rattle.oxc_sourcemap_compiled.specs.Compiled.{group_bytes_of, stride_of, widths_of, no_block}
-use Rattle.oxc_sourcemap_compiled.specs.Compiled.{above_in, rows_of, groups_of, group_of, token_bits, group_bits}
+use Rattle.oxc_sourcemap_compiled.specs.Compiled.{above_in, rows_of, groups_of, group_of}
+use Rattle.oxc_sourcemap_compiled.specs.Compiled.{token_bits, group_bits}
 use Rattle.oxc_sourcemap_compiled.specs.Compiled.{FieldsFit, ArePacked}
 use Rattle.oxc_sourcemap_compiled.specs.Numbers.{number_at}
 use Rattle.oxc_sourcemap_compiled.specs.Layout.{rows_base, groups_base}
@@ -22,7 +23,7 @@ use Rattle.oxc_sourcemap_compiled.specs.declared.fields.Field.{Field}
 use Rattle.oxc_sourcemap_compiled.specs.declared.layout.Header.{Header}
 use Rattle.oxc_sourcemap_compiled.specs.declared.writing.blocks.Packing.{Packing}
 use Rattle.oxc_sourcemap_compiled.specs.declared.writing.blocks.Block.{Block}
-use Rattle.oxc_sourcemap_compiled.proofs.Parts.{LiesAt, lies-whole, lies-same, lies-within}
+use Rattle.oxc_sourcemap_compiled.proofs.Parts.{LiesAt, lies-whole, lies-within}
 use Rattle.oxc_sourcemap_compiled.proofs.Parts.{lies-among}
 use Rattle.oxc_sourcemap_compiled.proofs.Digits.{digit_of, four-fit, four-read}
 use Rattle.oxc_sourcemap_compiled.proofs.Rows.{packing_at, packed-at, rows-lie, field-read}

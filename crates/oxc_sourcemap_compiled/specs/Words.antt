@@ -4,7 +4,8 @@ pub use Rattle.oxc_sourcemap_compiled.specs.Compiled.{id_number, field_number, I
 pub use Rattle.oxc_sourcemap_compiled.specs.Compiled.{AreBlocksOf, stride_of, group_bytes_of}
 pub use Rattle.oxc_sourcemap_compiled.specs.Compiled.{row_of, FitsCompiled}
 pub use Rattle.oxc_sourcemap_compiled.specs.Compiled.{rows_of, group_of, above_in}
-pub use Rattle.oxc_sourcemap_compiled.specs.Compiled.{AreNarrow, token_bits, group_bits, FieldsFit, IsWritten}
+pub use Rattle.oxc_sourcemap_compiled.specs.Compiled.{AreNarrow, FieldsFit, IsWritten}
+pub use Rattle.oxc_sourcemap_compiled.specs.Compiled.{token_bits, group_bits}
 pub use Rattle.oxc_sourcemap_compiled.specs.Compiled.{groups_of, ignored_of, AreCountsOf}
 pub use Rattle.oxc_sourcemap_compiled.specs.Compiled.{stored_text}
 pub use Rattle.oxc_sourcemap_compiled.specs.Compiled.{stored_count, text_offset, header_bytes}

@@ -25,17 +25,3 @@ pub(crate) fn u64_at(bytes: &[u8], at: usize) -> u64
         eight[0], eight[1], eight[2], eight[3], eight[4], eight[5], eight[6], eight[7],
     ])
 }
-
-/// The number of the sixteen bytes from here on.
-#[inline(always)]
-#[tactic(auto, unfolding(crate::specs::Numbers::number_at))]
-pub(crate) fn u128_at(bytes: &[u8], at: usize) -> u128
-    requires { at + 16 ≤ length bytes.now }
-    ensures { result ≡ number_at 16 bytes.now at }
-{
-    let all = &bytes[at..at + 16];
-    u128::from_le_bytes([
-        all[0], all[1], all[2], all[3], all[4], all[5], all[6], all[7], all[8], all[9], all[10],
-        all[11], all[12], all[13], all[14], all[15],
-    ])
-}

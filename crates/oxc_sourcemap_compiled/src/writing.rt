@@ -64,8 +64,8 @@ fn push_header(
 {
     push_u32(out, 1885433203)?;
     push_u32(out, 1)?;
-    push_number(out, u128::from(length), 8)?;
-    push_number(out, u128::from(text_length), 8)?;
+    push_number(out, length, 8)?;
+    push_number(out, text_length, 8)?;
     out.extend_from_slice(stamp)?;
     push_u32(out, header.tokens)?;
     push_u32(out, header.lines)?;

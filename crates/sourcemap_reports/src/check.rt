@@ -363,17 +363,24 @@ fn tell_stale(rt: &HostRuntime, file: &str, bytes: &[u8], report: &mut Report) -
     report.tell(Kind::Wrong, told.as_str())
 }
 
-/// Tells of the compiled map beside a map in a file, if that was made of another text.
+/// Tells of the compiled map beside a map in a file, if that was made of another text, or cannot be read: the map is checked all the same.
 fn tell_stale_beside(rt: &HostRuntime, map: &str, text: &str, report: &mut Report) -> Outcome<()> {
     let name = format!(in report.alloc; "{map}{COMPILED_END}")?;
-    if is_regular(rt, name.as_str())
-        && let Written::Compiled(bytes) = read_written(rt, name.as_str())?
-        && is_stale(bytes.as_slice(), text)
-    {
-        let told = format!(in report.alloc; "{name} is out of date: compile it again")?;
-        return report.tell(Kind::Note, told.as_str());
+    if !is_regular(rt, name.as_str()) {
+        return Ok(());
     }
-    Ok(())
+    match read_written(rt, name.as_str()) {
+        Ok(Written::Compiled(bytes)) => {
+            if !is_stale(bytes.as_slice(), text) {
+                return Ok(());
+            }
+            let told = format!(in report.alloc; "{name} is out of date: compile it again")?;
+            report.tell(Kind::Note, told.as_str())
+        }
+        Ok(Written::Text(_)) => Ok(()),
+        Err(Failure::Told(why)) => report.tell(Kind::Note, why.as_str()),
+        Err(failure) => Err(failure),
+    }
 }
 
 /// What is told of a map in a file, beside its code if that is there, and of it and a compiled one beside one another.

@@ -229,7 +229,7 @@ fn push_bits(out: &mut Vec<u8>, rest: Rest, value: u32, width: usize) -> Memory<
 {
     let all = rest.bits + (u64::from(value) << rest.count);
     let count = rest.count + width;
-    push_number(out, u128::from(all), count / 8)?;
+    push_number(out, all, count / 8)?;
     Ok(Rest {
         bits: all >> (count / 8 * 8),
         count: count % 8,
@@ -249,11 +249,36 @@ fn push_token(out: &mut Vec<u8>, rest: Rest, block: Block, token: Option<&Token>
     ensures left { IfOk result (λ r. r.bits < 2 ^ r.count) }
     ensures few { IfOk result (λ r. r.count ≤ 7) }
 {
-    let rest = push_bits(out, rest, above(token, 0, block.column), 2 * usize::from(block.column.width))?;
-    let rest = push_bits(out, rest, above(token, 1, block.source), 2 * usize::from(block.source.width))?;
-    let rest = push_bits(out, rest, above(token, 2, block.src_line), 2 * usize::from(block.src_line.width))?;
-    let rest = push_bits(out, rest, above(token, 3, block.src_col), 2 * usize::from(block.src_col.width))?;
-    let rest = push_bits(out, rest, above(token, 4, block.name), 2 * usize::from(block.name.width))?;
+    let rest = push_bits(
+        out,
+        rest,
+        above(token, 0, block.column),
+        2 * usize::from(block.column.width),
+    )?;
+    let rest = push_bits(
+        out,
+        rest,
+        above(token, 1, block.source),
+        2 * usize::from(block.source.width),
+    )?;
+    let rest = push_bits(
+        out,
+        rest,
+        above(token, 2, block.src_line),
+        2 * usize::from(block.src_line.width),
+    )?;
+    let rest = push_bits(
+        out,
+        rest,
+        above(token, 3, block.src_col),
+        2 * usize::from(block.src_col.width),
+    )?;
+    let rest = push_bits(
+        out,
+        rest,
+        above(token, 4, block.name),
+        2 * usize::from(block.name.width),
+    )?;
     Ok(rest)
 }
 

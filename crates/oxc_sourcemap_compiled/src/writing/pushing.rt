@@ -7,7 +7,7 @@ use oxc_sourcemap_tokens::Memory;
 
 /// Appends a number as this many bytes, the lowest first.
 #[inline(always)]
-pub(crate) fn push_number(out: &mut Vec<u8>, number: u128, width: usize) -> Memory<()>
+pub(crate) fn push_number(out: &mut Vec<u8>, number: u64, width: usize) -> Memory<()>
     ensures { OnOk result (out.new.items ≡ out.old.items ++ bytes_of width number) }
 {
     let mut rest = number;
@@ -22,7 +22,7 @@ pub(crate) fn push_number(out: &mut Vec<u8>, number: u128, width: usize) -> Memo
 pub(crate) fn push_u32(out: &mut Vec<u8>, number: usize) -> Memory<()>
     ensures { OnOk result (out.new.items ≡ out.old.items ++ bytes_of 4 number) }
 {
-    push_number(out, u128::from(number as u64), 4)
+    push_number(out, number as u64, 4)
 }
 
 /// Appends numbers as four bytes each.

@@ -1,7 +1,6 @@
 use Rattle.oxc_sourcemap_compiled.proofs.Means.{compiled-means, compiled-in-order}
 use Rattle.oxc_sourcemap_compiled.proofs.Means.{compiled-looks-up, compiled-taken-apart}
 use Rattle.oxc_sourcemap_compiled.proofs.StoredMaps.{stored-means}
-use Rattle.oxc_sourcemap_compiled.proofs.Bits.{window, step}
 use Rattle.oxc_sourcemap_compiled.proofs.laws.compiled_means_map.Goals as goal
 
 pub returns-clause-means : goal.returns-clause-means

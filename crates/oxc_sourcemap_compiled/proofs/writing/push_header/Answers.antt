@@ -5,8 +5,8 @@ use Rattle.oxc_sourcemap_compiled.proofs.writing.push_header.Goals as goal
 
 pub returns : goal.returns
 returns c =
-    let length = c.in_ok-push_number.ensures ∙ ap (λ n. c.push_u32-2.new.out.items ++ bytes_of 8 n) c.from.ensures in
-    let text = c.in_ok-push_number-2.ensures ∙ ap (λ n. c.push_number.new.out.items ++ bytes_of 8 n) c.from-2.ensures in
+    let length = c.in_ok-push_number.ensures in
+    let text = c.in_ok-push_number-2.ensures in
     let ignored = c.in_ok-push_u32-8.ensures ∙ ap (λ n. c.push_u32-7.new.out.items ++ bytes_of 4 n) c.flag.ensures in
     let listed = c.in_ok-push_u32-9.ensures ∙ ap (λ n. c.push_u32-8.new.out.items ++ bytes_of 4 n) c.flag-2.ensures in
     let x11 : c.push_u32-10.new.out.items ≡ c.push_u32-8.new.out.items ++ ((bytes_of 4 (flag_of c.args.header.now.has_line_numbers)) ++ (bytes_of 4 c.args.header.now.group_bytes)) = appended c.push_u32-8.new.out.items c.push_u32-9.new.out.items c.push_u32-10.new.out.items (bytes_of 4 (flag_of c.args.header.now.has_line_numbers)) ((bytes_of 4 c.args.header.now.group_bytes)) (listed) (c.in_ok-push_u32-10.ensures) in

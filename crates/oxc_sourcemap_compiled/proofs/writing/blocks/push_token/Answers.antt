@@ -13,7 +13,7 @@ returns-clause-written c = λ old bits number h.
     let h5 = c.in_ok-rest-5.ensures.written old _ _ h4 in
     let b = c.args.block in
     let whole : bits + 2 * c.from.result + 2 * c.from-2.result + 2 * c.from-3.result + 2 * c.from-4.result + 2 * c.from-5.result ≡ bits + 2 * stride_of b =
-        omega (arith, c.from.ensures, c.from-2.ensures, c.from-3.ensures, c.from-4.ensures, c.from-5.ensures) in
+    omega (arith, c.from.ensures, c.from-2.ensures, c.from-3.ensures, c.from-4.ensures, c.from-5.ensures) in
     same-written old c.push_bits-5.new.out.items c.in_ok-rest-5.rest _ _ _ _ whole
     (five-values number bits (2 * c.from.result) (2 * c.from-2.result) (2 * c.from-3.result) (2 * c.from-4.result) c.above.result c.above-2.result c.above-3.result c.above-4.result c.above-5.result
     ∙ five-same number (2 ^ bits) c.from.result c.from-2.result c.from-3.result c.from-4.result b.column.width b.source.width b.src_line.width b.src_col.width

@@ -52,6 +52,14 @@ pub fn is_stale(bytes: &[u8], text: &str) -> bool {
     }
 }
 
+/// Whether two compiled maps were made of one text, by the lengths and stamps that they have; not if one of them is none.
+pub fn is_of_same_text(a: &[u8], b: &[u8]) -> bool {
+    match (CompiledMap::open(a), CompiledMap::open(b)) {
+        (Ok(a), Ok(b)) => a.text_length() == b.text_length() && a.stamp() == b.stamp(),
+        _ => false,
+    }
+}
+
 /// Whether a file was written last no earlier than another one; not if the system does not tell.
 fn is_no_older(a: &Metadata, b: &Metadata) -> bool {
     match (a.modified(), b.modified()) {

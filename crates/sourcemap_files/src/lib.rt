@@ -4,6 +4,7 @@
 
 mod asked;
 mod compiled;
+mod contents;
 mod finding;
 mod input;
 mod limit;
@@ -15,10 +16,11 @@ pub use asked::{Asked, Status};
 pub use compiled::{
     COMPILED_END, Decompiled, Written, compiled_of, decompile, is_stale, read_written,
 };
+pub use contents::{CONTENTS_END, is_made_of, take_contents};
 pub use finding::{
     CodeFile, InputPrefix, Lookup, MapText, Places, Sought, error_text, find_code,
     found_error_text, is_in_root, is_map, is_map_file, language_of, map_by_name, map_of_code,
-    map_of_file, map_without_code, read_map, rooted_map, text_of_map,
+    map_of_file, map_without_code, read_map, read_map_alone, rooted_map, text_of_map,
 };
 pub use input::{
     is_file, is_regular, print, print_bytes, read_text, shown_name, tell, usage, warn,

@@ -1,13 +1,14 @@
 //! `compile`: maps as bytes in which positions are looked up in place.
 use crate::bundle::refuse_overwriting;
+use oxc_sourcemap_parts::SourceMapParts;
 use sourcemap_files::{
-    Asked, COMPILED_END, MapText, Progress, Status, Written, compiled_of, file_name, map_of_file,
-    place_of, print, read_map, tell, usage, with_slash, write_files,
+    Asked, COMPILED_END, CONTENTS_END, MapText, Progress, Status, Written, compiled_of, file_name,
+    map_of_file, place_of, print, read_map, take_contents, tell, usage, with_slash, write_files,
 };
 use sourcemap_run::{push_number_member, push_object, push_text_member};
 use sourcemap_words::{Failure, Outcome, failure_of};
 
-/// A compiled map, and the file that it is written to.
+/// A compiled map, or the contents that lie apart from it, and the file that it is written to.
 #[derive(Drop)]
 struct Made {
     /// How its map is named in messages.
@@ -18,25 +19,51 @@ struct Made {
     bytes: Vec<u8>,
 }
 
-/// The file that the compiled map of a file is written to: beside its map, or in the folder of `-o`. A map in a code is named as one
-/// beside it would be.
-fn output_of(asked: &Asked<'_, '_>, file: &str, map: &MapText) -> Outcome<String> {
+/// The file that is made of the map of a file, by the end of its name: beside the map, or in the folder of `-o`. A map in a code is
+/// named as one beside it would be.
+fn output_of(asked: &Asked<'_, '_>, file: &str, map: &MapText, end: &str) -> Outcome<String> {
     let alloc = asked.alloc();
-    let (name, end) = if map.is_file {
+    let (name, dot_map) = if map.is_file {
         (map.name.as_str(), "")
     } else {
         (file, ".map")
     };
     let output = asked.word("output");
     if output.is_empty() {
-        return Ok(format!(in alloc; "{name}{end}{COMPILED_END}")?);
+        return Ok(format!(in alloc; "{name}{dot_map}{end}")?);
     }
     let folder = with_slash(alloc, output)?;
-    Ok(format!(in alloc; "{folder}{}{end}{COMPILED_END}", file_name(name))?)
+    Ok(format!(in alloc; "{folder}{}{dot_map}{end}", file_name(name))?)
 }
 
-/// Reads the map of a file, and compiles it.
-fn made_of(asked: &Asked<'_, '_>, file: &str) -> Outcome<Made> {
+/// A map that is compiled: its text, and the file that was named for it.
+#[derive(Clone, Copy)]
+struct Source<'a> {
+    file: &'a str,
+    map: &'a MapText,
+    text: &'a str,
+}
+
+/// Compiles parts of a map, for the file with this end of its name.
+fn made_with(
+    asked: &Asked<'_, '_>,
+    of: Source<'_>,
+    parts: &SourceMapParts<'_>,
+    end: &str,
+) -> Outcome<Made> {
+    let name = of.map.name.as_str();
+    let output = output_of(asked, of.file, of.map, end)?;
+    refuse_overwriting(asked, name, output.as_str())?;
+    Ok(Made {
+        map: String::from_str(asked.alloc(), name)?,
+        place: place_of(asked.rt, output.as_str())?,
+        output,
+        bytes: compiled_of(asked.alloc(), name, parts, of.text)?,
+    })
+}
+
+/// Reads the map of a file, and compiles it: to one file, or to another one with the contents too.
+fn made_of(asked: &Asked<'_, '_>, file: &str) -> Outcome<Vec<Made>> {
     let (rt, alloc) = (asked.rt, asked.alloc());
     if file == "-" {
         return Err(usage(
@@ -52,26 +79,33 @@ fn made_of(asked: &Asked<'_, '_>, file: &str) -> Outcome<Made> {
             "is compiled already: name its map",
         ));
     };
-    let output = output_of(asked, file, &map)?;
-    refuse_overwriting(asked, map.name.as_str(), output.as_str())?;
-    let parts = read_map(rt, &map)?;
-    let bytes = compiled_of(alloc, map.name.as_str(), &parts, text.as_str())?;
-    Ok(Made {
-        map: map.name,
-        place: place_of(rt, output.as_str())?,
-        output,
-        bytes,
-    })
+    let of = Source {
+        file,
+        map: &map,
+        text: text.as_str(),
+    };
+    let mut parts = read_map(rt, &map)?;
+    let mut all = Vec::new(alloc);
+    if asked.has("contents-apart") {
+        let apart = take_contents(alloc, &mut parts)?;
+        all.push(made_with(asked, of, &apart, CONTENTS_END)?)?;
+    } else if asked.has("no-contents") {
+        take_contents(alloc, &mut parts)?;
+    }
+    all.push(made_with(asked, of, &parts, COMPILED_END)?)?;
+    Ok(all)
 }
 
 /// Refuses to write two maps to one file.
-fn refuse_twice(asked: &Asked<'_, '_>, all: &[Made], new: &Made) -> Outcome<()> {
-    if all.iter().any(|made| made.place == new.place) {
-        return Err(failure_of(
-            asked.alloc(),
-            new.output.as_str(),
-            "would be written twice: name each map once, and those of one name apart",
-        ));
+fn refuse_twice(asked: &Asked<'_, '_>, all: &[Made], new: &[Made]) -> Outcome<()> {
+    for one in new {
+        if all.iter().any(|made| made.place == one.place) {
+            return Err(failure_of(
+                asked.alloc(),
+                one.output.as_str(),
+                "would be written twice: name each map once, and those of one name apart",
+            ));
+        }
     }
     Ok(())
 }
@@ -101,9 +135,9 @@ fn objects_of(asked: &Asked<'_, '_>, all: &[Made]) -> Outcome<String> {
 }
 
 /// Compiles the map of a file, unless one of these is written to the same file.
-fn made_after(asked: &Asked<'_, '_>, all: &[Made], file: &str) -> Outcome<Made> {
+fn made_after(asked: &Asked<'_, '_>, all: &[Made], file: &str) -> Outcome<Vec<Made>> {
     let made = made_of(asked, file)?;
-    refuse_twice(asked, all, &made)?;
+    refuse_twice(asked, all, made.as_slice())?;
     Ok(made)
 }
 
@@ -116,7 +150,7 @@ pub fn run(asked: &Asked<'_, '_>) -> Outcome<Status> {
     for file in &files {
         progress.begin(asked.rt, file);
         match made_after(asked, all.as_slice(), file) {
-            Ok(made) => all.push(made)?,
+            Ok(mut made) => all.append(&mut made)?,
             Err(Failure::Told(text)) => {
                 progress.clear(asked.rt);
                 tell(asked.rt, text.as_str());

@@ -4,9 +4,9 @@ use oxc_sourcemap_map::SourceMap;
 use oxc_sourcemap_text::TextPositions;
 use oxc_sourcemap_tokens::{Error, Token};
 use sourcemap_files::{
-    Asked, COMPILED_END, Decompiled, Lookup, MapText, Progress, Status, Written, compiled_of,
-    decompile, error_text, found_error_text, is_file, is_map_file, is_regular, is_stale,
-    map_of_code, print, read_text, read_written, shown_name, tell,
+    Asked, COMPILED_END, CONTENTS_END, Decompiled, Lookup, MapText, Progress, Status, Written,
+    decompile, error_text, found_error_text, is_file, is_made_of, is_map_file, is_regular,
+    is_stale, map_of_code, print, read_text, read_written, shown_name, tell,
 };
 use sourcemap_run::{push_object, push_text_member};
 use sourcemap_texts::{push_shown, push_visible};
@@ -328,8 +328,14 @@ pub fn objects_of(asked: &Asked<'_, '_>, map: &MapText, code: &str) -> Outcome<S
     Ok(report.out)
 }
 
-/// Tells whether a compiled map is another one than that of the text which it was made of.
-fn tell_different(report: &mut Report, bytes: &[u8], name: &str, text: &str) -> Outcome<()> {
+/// Tells whether a compiled map is another one than that of the text which it was made of, or, if it has contents that lie apart, these.
+fn tell_different(
+    report: &mut Report,
+    bytes: &[u8],
+    name: &str,
+    text: &str,
+    is_apart: bool,
+) -> Outcome<()> {
     let alloc = report.alloc;
     let parts = match read_found_parts(alloc, text) {
         Ok(FoundParts { parts, mends: _ }) => parts,
@@ -339,7 +345,7 @@ fn tell_different(report: &mut Report, bytes: &[u8], name: &str, text: &str) -> 
             return report.tell(Kind::Wrong, told.as_str());
         }
     };
-    if compiled_of(alloc, name, &parts, text)?.as_slice() == bytes {
+    if is_made_of(alloc, name, parts, text, bytes, is_apart)? {
         return Ok(());
     }
     let told = format!(in alloc; "differs from {name}: compile it again")?;
@@ -348,7 +354,9 @@ fn tell_different(report: &mut Report, bytes: &[u8], name: &str, text: &str) -> 
 
 /// Tells whether a compiled map is that of the map beside it.
 fn tell_stale(rt: &HostRuntime, file: &str, bytes: &[u8], report: &mut Report) -> Outcome<()> {
-    let Some(name) = file.strip_suffix(COMPILED_END) else {
+    let is_apart = file.ends_with(CONTENTS_END);
+    let end = if is_apart { CONTENTS_END } else { COMPILED_END };
+    let Some(name) = file.strip_suffix(end) else {
         return Ok(());
     };
     if !is_file(rt, name) {
@@ -357,7 +365,7 @@ fn tell_stale(rt: &HostRuntime, file: &str, bytes: &[u8], report: &mut Report) -
     }
     let text = read_text(rt, name)?;
     if !is_stale(bytes, text.as_str()) {
-        return tell_different(report, bytes, name, text.as_str());
+        return tell_different(report, bytes, name, text.as_str(), is_apart);
     }
     let told = format!(in report.alloc; "out of date: {name} has changed since: compile it again")?;
     report.tell(Kind::Wrong, told.as_str())

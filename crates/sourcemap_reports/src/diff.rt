@@ -27,7 +27,7 @@ fn places_of(alloc: Global, a: &Tracer, b: &Tracer) -> Result<Vec<(u32, u32)>, A
 
 /// A map of an argument, with its source root applied.
 fn tracer_of(asked: &Asked<'_, '_>, name: &str) -> Outcome<Tracer> {
-    let parts = rooted_map(asked.rt, asked.word(name), asked.places())?;
+    let parts = rooted_map(asked.rt, asked.word(name), asked.places(), true)?;
     Ok(Tracer::new(asked.alloc(), parts)?)
 }
 

@@ -3,7 +3,7 @@ use oxc_sourcemap_parts::apply_root;
 use oxc_sourcemap_tokens::Position;
 use sourcemap_files::{
     Asked, CodeFile, InputPrefix, Lookup, Places, Sought, find_code, is_file, is_in_root,
-    map_by_name, map_of_code, map_without_code, read_map, read_text,
+    map_by_name, map_of_code, map_without_code, read_map_alone, read_text,
 };
 use sourcemap_run::{Answer, Target, Tracer, answer_to, frame_position};
 use sourcemap_words::{Failure, Named, Outcome};
@@ -295,7 +295,7 @@ impl Maps {
             Lookup::Map(text) => text,
             Lookup::None(why) => return Ok(Known::None(Stay { reason, why })),
         };
-        let mut parts = match read_map(asked.rt, &text) {
+        let mut parts = match read_map_alone(asked.rt, &text) {
             Ok(parts) => parts,
             Err(Failure::Told(why)) => return Ok(Known::None(Stay { reason, why })),
             Err(failure) => return Err(failure),

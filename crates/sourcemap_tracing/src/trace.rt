@@ -224,7 +224,8 @@ pub fn run(asked: &Asked<'_, '_>) -> Outcome<Status> {
             "standard input is the map: give positions as arguments, or name the map, and standard input has them",
         ));
     }
-    let parts = rooted_map(asked.rt, asked.word("MAP"), asked.places())?;
+    let with_contents = asked.number("context").is_some();
+    let parts = rooted_map(asked.rt, asked.word("MAP"), asked.places(), with_contents)?;
     if is_forward {
         forward(asked, parts, style)
     } else {

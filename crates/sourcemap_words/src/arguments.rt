@@ -199,12 +199,22 @@ const BUNDLE: Words = Words {
 
 const COMPILE: Words = Words {
     about: "Compiles maps, as bytes in which positions are looked up in place",
-    json: "An object a line, for each map: map, output, bytes",
+    json: "An object a line, for each file that is written: map, output, bytes",
     words: &[
         Word(
             "FILE",
             Kind::Files,
-            "Maps, and codes whose maps are found; each is written as its map with .smc at the end, or none if one cannot be read",
+            "Maps, and codes whose maps are found; each is written as its map with .smc at the end",
+        ),
+        Word(
+            "contents-apart",
+            Kind::Flag,
+            "Writes the contents of sources apart, as the map with .contents.smc at the end, which is read where they are needed",
+        ),
+        Word(
+            "no-contents",
+            Kind::Flag,
+            "Leaves out the contents of sources",
         ),
         Word(
             "output",
@@ -308,10 +318,11 @@ fn arg_of<'a>(alloc: Global, word: &Word) -> Arg<'a> {
     }
 }
 
-/// The option that an argument excludes: what `--json` prints has no place for it.
+/// The option that an argument excludes: what `--json` prints has no place for it, or it says another thing.
 fn excluded_by(name: &str) -> Option<&'static str> {
     match name {
         "context" | "lcov" => Some("json"),
+        "no-contents" => Some("contents-apart"),
         _ => None,
     }
 }

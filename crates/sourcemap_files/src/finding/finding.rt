@@ -1,5 +1,6 @@
 //! Finding the map of a code.
 use crate::compiled::{COMPILED_END, Decompiled, Written, decompile, read_fresh, read_written};
+use crate::contents::put_contents;
 use crate::finding::matching::{Below, CodePath, Files, Found as Match, InputPrefix, named_prefix};
 use crate::input::{is_file, is_regular, read_text, shown_name, warn};
 use crate::paths::{
@@ -536,8 +537,17 @@ fn read_behind(rt: &HostRuntime, map: &MapText, why: &str) -> Outcome<SourceMapP
     read_map_text(rt, path, text.as_str())
 }
 
-/// Reads a map: its text as it is found, or its compiled form.
+/// Reads a map: its text as it is found, or its compiled form with the contents that lie apart.
 pub fn read_map(rt: &HostRuntime, map: &MapText) -> Outcome<SourceMapParts<'static>> {
+    let mut parts = read_map_alone(rt, map)?;
+    if let Written::Compiled(bytes) = &map.written {
+        put_contents(rt, map.name.as_str(), bytes.as_slice(), &mut parts)?;
+    }
+    Ok(parts)
+}
+
+/// The same, without contents that lie apart.
+pub fn read_map_alone(rt: &HostRuntime, map: &MapText) -> Outcome<SourceMapParts<'static>> {
     match &map.written {
         Written::Text(text) => read_map_text(rt, map.name.as_str(), text.as_str()),
         Written::Compiled(bytes) => match decompile(rt.alloc(), bytes.as_slice())? {
@@ -556,14 +566,19 @@ pub fn text_of_map(rt: &HostRuntime, map: &MapText) -> Outcome<String> {
     Ok(encode_parts_to_string_within(rt.alloc(), &parts, LONGEST)?)
 }
 
-/// The map of a file, given as a map or as a code, with its source root applied.
+/// The map of a file, given as a map or as a code, with its source root applied; contents that lie apart only if they are asked for.
 pub fn rooted_map(
     rt: &HostRuntime,
     path: &str,
     places: Places<'_>,
+    with_contents: bool,
 ) -> Outcome<SourceMapParts<'static>> {
     let text = map_of_file(rt, path, places)?;
-    let mut map = read_map(rt, &text)?;
+    let mut map = if with_contents {
+        read_map(rt, &text)?
+    } else {
+        read_map_alone(rt, &text)?
+    };
     apply_root(rt.alloc(), &mut map)?;
     Ok(map)
 }

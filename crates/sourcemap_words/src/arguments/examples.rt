@@ -32,13 +32,14 @@ Examples:
   sourcemap bundle --wrap '(function () {' '})();' lib/*.js -o out.js";
 
 const COMPILE: &str =
-    "A compiled map can be given to each command that takes a map, except this one. `resolve` uses one that lies beside its map, if the
-map is as long, and is no newer or of the same SHA-256; else it says that the compiled map is out of date. `check X.map.smc` compares it
-with X.map; `resolve` looks for no damage.
+    "A compiled map can be given to each command that takes a map, except this one. `resolve` uses one that lies beside its map, if it
+was made of a map as long as that, and is no older or knows its SHA-256; else it says that the compiled map is out of date.
+`check X.map.smc` compares it with X.map; `resolve` looks for no damage.
 
 Examples:
   sourcemap compile dist/*.js.map
-  sourcemap check dist/*.js.map.smc";
+  sourcemap compile --contents-apart dist/*.js.map
+  sourcemap check dist/*.smc";
 
 const DIFF: &str = "Examples:
   sourcemap diff before.js.map after.js.map";

@@ -1,0 +1,96 @@
+//! Contents of sources that lie apart from a compiled map, in another one that has sources and contents alone.
+use crate::compiled::{COMPILED_END, Decompiled, compiled_of, decompile, is_of_same_text};
+use crate::input::{is_regular, read_bytes, warn};
+use crate::paths::{folder_of, is_inside};
+use oxc_sourcemap_parts::{SourceMapParts, clone_texts};
+use sourcemap_words::Outcome;
+use std::alloc::Global;
+use std::mem;
+
+/// What the name of a file with the contents of a map has behind that of the map.
+pub const CONTENTS_END: &str = ".contents.smc";
+
+/// Takes the contents out of a map: the sources with them, and nothing else.
+pub fn take_contents(
+    alloc: Global,
+    parts: &mut SourceMapParts<'static>,
+) -> Outcome<SourceMapParts<'static>> {
+    let mut apart = SourceMapParts::empty(alloc)?;
+    apart.sources = clone_texts(alloc, parts.sources.as_slice())?;
+    apart.source_contents = mem::replace(&mut parts.source_contents, Vec::new(alloc));
+    Ok(apart)
+}
+
+/// Whether bytes are what a map is compiled to: with its contents or without them, or, apart, they alone. `name` is for messages.
+pub fn is_made_of(
+    alloc: Global,
+    name: &str,
+    parts: SourceMapParts<'static>,
+    text: &str,
+    bytes: &[u8],
+    is_apart: bool,
+) -> Outcome<bool> {
+    let mut parts = parts;
+    if !is_apart && compiled_of(alloc, name, &parts, text)?.as_slice() == bytes {
+        return Ok(true);
+    }
+    let apart = take_contents(alloc, &mut parts)?;
+    let other = if is_apart { apart } else { parts };
+    Ok(compiled_of(alloc, name, &other, text)?.as_slice() == bytes)
+}
+
+/// Whether a map has sources, and the content of none.
+fn lacks_contents(parts: &SourceMapParts<'_>) -> bool {
+    !parts.sources.is_empty()
+        && parts
+            .source_contents
+            .iter()
+            .all(|content| content.is_none())
+}
+
+/// The map in a file with the contents of the compiled map in the file `path`, whose bytes are these; None if there is no such file.
+/// One that is not of the same text is told as a warning.
+fn read_contents(
+    rt: &HostRuntime,
+    path: &str,
+    bytes: &[u8],
+) -> Outcome<Option<SourceMapParts<'static>>> {
+    let alloc = rt.alloc();
+    let name = path.strip_suffix(COMPILED_END).unwrap_or(path);
+    let apart = format!(in alloc; "{name}{CONTENTS_END}")?;
+    let apart = apart.as_str();
+    if !is_regular(rt, apart) || !is_inside(rt, apart, folder_of(path)) {
+        return Ok(None);
+    }
+    let found = read_bytes(rt, apart)?;
+    if !is_of_same_text(bytes, found.as_slice()) {
+        warn(
+            rt,
+            apart,
+            "is out of date, so it is not read: compile its map again",
+        );
+        return Ok(None);
+    }
+    match decompile(alloc, found.as_slice())? {
+        Decompiled::Map(parts) => Ok(Some(parts)),
+        Decompiled::Wrong(why) => {
+            warn(rt, apart, why.as_str());
+            Ok(None)
+        }
+    }
+}
+
+/// Puts the contents that lie apart from the compiled map in the file `path`, whose bytes are these, into its parts.
+pub fn put_contents(
+    rt: &HostRuntime,
+    path: &str,
+    bytes: &[u8],
+    parts: &mut SourceMapParts<'static>,
+) -> Outcome<()> {
+    if lacks_contents(parts)
+        && let Some(apart) = read_contents(rt, path, bytes)?
+    {
+        parts.source_contents = apart.source_contents;
+    }
+    Ok(())
+}

@@ -2,7 +2,7 @@
 use crate::compiled::{COMPILED_END, Decompiled, compiled_of, decompile, is_of_same_text};
 use crate::input::{is_regular, read_bytes, warn};
 use crate::paths::{folder_of, is_inside};
-use oxc_sourcemap_parts::{SourceMapParts, clone_texts};
+use oxc_sourcemap_parts::{SourceMapParts, owned_text};
 use sourcemap_words::Outcome;
 use std::alloc::Global;
 use std::mem;
@@ -16,7 +16,9 @@ pub fn take_contents(
     parts: &mut SourceMapParts<'static>,
 ) -> Outcome<SourceMapParts<'static>> {
     let mut apart = SourceMapParts::empty(alloc)?;
-    apart.sources = clone_texts(alloc, parts.sources.as_slice())?;
+    for source in &parts.sources {
+        apart.sources.push(owned_text(alloc, source.as_str())?)?;
+    }
     apart.source_contents = mem::replace(&mut parts.source_contents, Vec::new(alloc));
     Ok(apart)
 }

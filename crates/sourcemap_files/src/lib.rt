@@ -16,7 +16,7 @@ pub use asked::{Asked, Status};
 pub use compiled::{
     COMPILED_END, Decompiled, Written, compiled_of, decompile, is_stale, read_written,
 };
-pub use contents::{CONTENTS_END, is_made_of, take_contents};
+pub use contents::{CONTENTS_END, is_made_of, put_contents, take_contents};
 pub use finding::{
     CodeFile, InputPrefix, Lookup, MapText, Places, Sought, error_text, find_code,
     found_error_text, is_in_root, is_map, is_map_file, language_of, map_by_name, map_of_code,

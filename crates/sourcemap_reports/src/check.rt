@@ -6,7 +6,7 @@ use oxc_sourcemap_tokens::{Error, Token};
 use sourcemap_files::{
     Asked, COMPILED_END, CONTENTS_END, Decompiled, Lookup, MapText, Progress, Status, Written,
     decompile, error_text, found_error_text, is_file, is_made_of, is_map_file, is_regular,
-    is_stale, map_of_code, print, read_text, read_written, shown_name, tell,
+    is_stale, map_of_code, print, put_contents, read_text, read_written, shown_name, tell,
 };
 use sourcemap_run::{push_object, push_text_member};
 use sourcemap_texts::{push_shown, push_visible};
@@ -279,22 +279,37 @@ fn check_text(report: &mut Report, text: &str, code: Option<&str>) -> Outcome<()
     tell_held(report, map, code)
 }
 
-/// What is told of a compiled map.
-fn check_compiled(report: &mut Report, bytes: &[u8], code: Option<&str>) -> Outcome<()> {
+/// What is told of a compiled map; of one that has contents that lie apart, how many.
+fn check_compiled(
+    rt: &HostRuntime,
+    report: &mut Report,
+    bytes: &[u8],
+    code: Option<&str>,
+) -> Outcome<()> {
     let parts = match decompile(report.alloc, bytes)? {
         Decompiled::Map(parts) => parts,
         Decompiled::Wrong(why) => return report.tell(Kind::Wrong, why.as_str()),
     };
     let map = SourceMap::from_parts(parts);
     tell_summary(report, bytes.len(), &map)?;
-    tell_held(report, map, code)
+    if report.file.ends_with(CONTENTS_END) {
+        return Ok(());
+    }
+    let mut parts = map.into_parts();
+    put_contents(rt, report.file.as_str(), bytes, &mut parts)?;
+    tell_held(report, SourceMap::from_parts(parts), code)
 }
 
 /// What is told of a map, and of its code if there is one.
-fn check_map(report: &mut Report, map: &Written, code: Option<&str>) -> Outcome<()> {
+fn check_map(
+    rt: &HostRuntime,
+    report: &mut Report,
+    map: &Written,
+    code: Option<&str>,
+) -> Outcome<()> {
     match map {
         Written::Text(text) => check_text(report, text.as_str(), code),
-        Written::Compiled(bytes) => check_compiled(report, bytes.as_slice(), code),
+        Written::Compiled(bytes) => check_compiled(rt, report, bytes.as_slice(), code),
     }
 }
 
@@ -324,7 +339,7 @@ fn report_on(asked: &Asked<'_, '_>, file: &str) -> Result<Report, AllocError> {
 pub fn objects_of(asked: &Asked<'_, '_>, map: &MapText, code: &str) -> Outcome<String> {
     let mut report = report_on(asked, map.name.as_str())?;
     report.json = true;
-    check_map(&mut report, &map.written, Some(code))?;
+    check_map(asked.rt, &mut report, &map.written, Some(code))?;
     Ok(report.out)
 }
 
@@ -394,7 +409,7 @@ fn tell_stale_beside(rt: &HostRuntime, map: &str, text: &str, report: &mut Repor
 /// What is told of a map in a file, beside its code if that is there, and of it and a compiled one beside one another.
 fn check_as_map(rt: &HostRuntime, file: &str, map: &Written, report: &mut Report) -> Outcome<()> {
     let code = code_of(rt, file)?;
-    check_map(report, map, code.as_deref())?;
+    check_map(rt, report, map, code.as_deref())?;
     match map {
         Written::Text(text) => tell_stale_beside(rt, file, text.as_str(), report),
         Written::Compiled(bytes) => tell_stale(rt, file, bytes.as_slice(), report),
@@ -419,7 +434,7 @@ fn check_as_code(
             },
         ) => {
             report.file = name;
-            check_map(report, &written, Some(code))?;
+            check_map(asked.rt, report, &written, Some(code))?;
             match &written {
                 Written::Text(text) if is_file => {
                     let name = String::from_str(report.alloc, report.file.as_str())?;

@@ -1,24 +1,43 @@
 //! Contents of sources that lie apart from a compiled map, in another one that has sources and contents alone.
+ghost use Rattle.std.specs.Prelude.{◌≡◌, IfOk};
+ghost use Rattle.oxc_sourcemap_parts.specs.Words.{cow_texts, record_of_parts, texts_of};
+ghost use Rattle.sourcemap_files.specs.Contents.{contents_alone, without_contents};
+
 use crate::compiled::{COMPILED_END, Decompiled, compiled_of, decompile, is_of_same_text};
 use crate::input::{is_regular, read_bytes, warn};
 use crate::paths::{folder_of, is_inside};
 use oxc_sourcemap_parts::{SourceMapParts, owned_text};
 use sourcemap_words::Outcome;
 use std::alloc::Global;
+use std::borrow::CowStr;
 use std::mem;
 
 /// What the name of a file with the contents of a map has behind that of the map.
 pub const CONTENTS_END: &str = ".contents.smc";
 
+/// Copies of texts.
+fn copies_of(alloc: Global, texts: &[CowStr<'static>]) -> Outcome<Vec<CowStr<'static>>>
+    ensures { IfOk result (λ copies. texts_of copies ≡ cow_texts texts.now) }
+{
+    let mut copies = Vec::with_capacity(alloc, texts.len())?;
+    for text in texts {
+        copies.push(owned_text(alloc, text.as_str())?)?;
+    }
+    Ok(copies)
+}
+
 /// Takes the contents out of a map: the sources with them, and nothing else.
 pub fn take_contents(
     alloc: Global,
     parts: &mut SourceMapParts<'static>,
-) -> Outcome<SourceMapParts<'static>> {
+) -> Outcome<SourceMapParts<'static>>
+    ensures left { IfOk result (λ apart. record_of_parts parts.new
+        ≡ without_contents (record_of_parts parts.old)) }
+    ensures apart { IfOk result (λ apart. record_of_parts apart
+        ≡ contents_alone (record_of_parts parts.old)) }
+{
     let mut apart = SourceMapParts::empty(alloc)?;
-    for source in &parts.sources {
-        apart.sources.push(owned_text(alloc, source.as_str())?)?;
-    }
+    apart.sources = copies_of(alloc, parts.sources.as_slice())?;
     apart.source_contents = mem::replace(&mut parts.source_contents, Vec::new(alloc));
     Ok(apart)
 }
@@ -82,13 +101,17 @@ fn read_contents(
     }
 }
 
-/// Puts the contents that lie apart from the compiled map in the file `path`, whose bytes are these, into its parts.
+/// Puts the contents that lie apart from the compiled map in the file `path`, whose bytes are these, into its parts, and changes nothing
+/// else.
 pub fn put_contents(
     rt: &HostRuntime,
     path: &str,
     bytes: &[u8],
     parts: &mut SourceMapParts<'static>,
-) -> Outcome<()> {
+) -> Outcome<()>
+    ensures { without_contents (record_of_parts parts.new)
+        ≡ without_contents (record_of_parts parts.old) }
+{
     if lacks_contents(parts)
         && let Some(apart) = read_contents(rt, path, bytes)?
     {

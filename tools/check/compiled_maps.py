@@ -1,4 +1,5 @@
-"""What `sourcemap compile` writes; and that `check` and `resolve` tell what is not of its map, by its length, its time and its SHA-256.
+"""What `sourcemap compile` writes, contents apart too; and that `check` and `resolve` tell what is not of its map, by its length, its time
+and its SHA-256.
 For tools/check/sourcemap."""
 
 import base64
@@ -78,6 +79,25 @@ def refused(run, check, folder):
     check(told[0] == 0 and "note: not compared: maps/d.js.map is not there\n" in told[1], f"a check without a map: {told}")
 
 
+def contents_apart(run, check, text):
+    """Contents that lie apart are read beside the compiled map alone, and compared as what their name says they are."""
+    with tempfile.TemporaryDirectory() as folder:
+        for name in ("dist", "far"):
+            Path(folder, name).mkdir()
+        Path(folder, "dist/app.js.map").write_text(text.replace('"names"', '"sourcesContent":["let a\\n",null],"names"'))
+        run(["compile", "--contents-apart", "dist/app.js.map"], folder)
+        traced = ["trace", "--context", "0", "dist/app.js.map.smc", "0:0"]
+        compiled, apart = (Path(folder, f"dist/app.js.map{end}") for end in (".smc", ".contents.smc"))
+        check("let a" in run(traced, folder)[1], "contents beside a compiled map")
+        apart.rename(Path(folder, "far/contents"))
+        apart.symlink_to("../far/contents")
+        status, out, err = run(traced, folder)
+        check("no content" in out and not err, f"contents by a link out of the folder: {status}, {out}, {err}")
+        Path(folder, "far/contents").rename(compiled)
+        told = run(["check", "dist/app.js.map.smc"], folder)
+        check(told[0] == 1 and "differs from dist/app.js.map" in told[1], f"contents named as a compiled map: {told}")
+
+
 def tried(run, check, code, text):
     other = text.replace("a.ts", "c.ts")
     with tempfile.TemporaryDirectory() as folder:
@@ -104,3 +124,4 @@ def tried(run, check, code, text):
             check(status == 1 and f"app.js.map.smc: wrong: {wanted}\n" in out, f"{wanted}: {status}, {out}")
         refused(run, check, folder)
         not_taken(run, check, folder, text, data)
+    contents_apart(run, check, text)

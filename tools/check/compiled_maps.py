@@ -79,6 +79,11 @@ def refused(run, check, folder):
     check(told[0] == 0 and "note: not compared: maps/d.js.map is not there\n" in told[1], f"a check without a map: {told}")
 
 
+def other_sources(compiled):
+    """The bytes of a compiled map with the names of its sources changed."""
+    return compiled.read_bytes().replace(b"b.ts", b"c.ts")
+
+
 def contents_apart(run, check, text):
     """Contents that lie apart are read beside the compiled map alone, and compared as what their name says they are."""
     with tempfile.TemporaryDirectory() as folder:
@@ -92,7 +97,14 @@ def contents_apart(run, check, text):
         apart.rename(Path(folder, "far/contents"))
         apart.symlink_to("../far/contents")
         status, out, err = run(traced, folder)
-        check("no content" in out and not err, f"contents by a link out of the folder: {status}, {out}, {err}")
+        told = "dist/app.js.map.contents.smc: leads out of its folder, so it is not read\n"
+        check("no content" in out and err.endswith(told), f"contents by a link out of the folder: {status}, {out}, {err}")
+        apart.unlink()
+        for data, why in ((b"", "not a compiled source map"), (other_sources(compiled), "is of another map than dist/app.js.map.smc")):
+            apart.write_bytes(data)
+            told = f"sourcemap: dist/app.js.map.contents.smc: {why}, so it is not read: compile the map again\n"
+            found = run(traced, folder)
+            check("no content" in found[1] and found[2] == told, f"contents that are not taken: {found}, not {told}")
         Path(folder, "far/contents").rename(compiled)
         told = run(["check", "dist/app.js.map.smc"], folder)
         check(told[0] == 1 and "differs from dist/app.js.map" in told[1], f"contents named as a compiled map: {told}")

@@ -4,10 +4,10 @@ ghost use Rattle.oxc_sourcemap_parts.specs.Words.{cow_texts, record_of_parts, te
 ghost use Rattle.sourcemap_files.specs.Contents.{contents_alone, without_contents};
 
 use crate::compiled::{COMPILED_END, Decompiled, compiled_of, decompile, is_of_same_text};
-use crate::input::{is_regular, read_bytes, warn};
+use crate::input::{is_regular, read_bytes, tell, warn};
 use crate::paths::{folder_of, is_inside};
 use oxc_sourcemap_parts::{SourceMapParts, owned_text};
-use sourcemap_words::Outcome;
+use sourcemap_words::{Failure, Outcome};
 use std::alloc::Global;
 use std::borrow::CowStr;
 use std::mem;
@@ -69,36 +69,63 @@ fn lacks_contents(parts: &SourceMapParts<'_>) -> bool {
             .all(|content| content.is_none())
 }
 
-/// The map in a file with the contents of the compiled map in the file `path`, whose bytes are these; None if there is no such file.
-/// One that is not of the same text is told as a warning.
+/// Whether two lists have the same texts.
+fn are_same(a: &[CowStr<'_>], b: &[CowStr<'_>]) -> bool {
+    a.len() == b.len()
+        && a.iter()
+            .zip(b.iter())
+            .all(|(a, b)| a.as_str() == b.as_str())
+}
+
+/// The bytes of the file with the contents of a compiled map in the file `path`; None if there is none, or if it cannot be read or
+/// leads out of the folder, which is told as a warning.
+fn read_apart(rt: &HostRuntime, apart: &str, path: &str) -> Outcome<Option<Vec<u8>>> {
+    if !is_regular(rt, apart) {
+        return Ok(None);
+    }
+    if !is_inside(rt, apart, folder_of(path)) {
+        warn(rt, apart, "leads out of its folder, so it is not read");
+        return Ok(None);
+    }
+    match read_bytes(rt, apart) {
+        Ok(bytes) => Ok(Some(bytes)),
+        Err(Failure::Told(why)) => {
+            tell(rt, why.as_str());
+            Ok(None)
+        }
+        Err(failure) => Err(failure),
+    }
+}
+
+/// The map in a file with the contents of the compiled map in the file `path`, whose bytes and sources are these; None if there is no
+/// such file. Why one is not taken is told as a warning.
 fn read_contents(
     rt: &HostRuntime,
     path: &str,
     bytes: &[u8],
+    sources: &[CowStr<'static>],
 ) -> Outcome<Option<SourceMapParts<'static>>> {
     let alloc = rt.alloc();
     let name = path.strip_suffix(COMPILED_END).unwrap_or(path);
     let apart = format!(in alloc; "{name}{CONTENTS_END}")?;
     let apart = apart.as_str();
-    if !is_regular(rt, apart) || !is_inside(rt, apart, folder_of(path)) {
+    let Some(found) = read_apart(rt, apart, path)? else {
         return Ok(None);
-    }
-    let found = read_bytes(rt, apart)?;
-    if !is_of_same_text(bytes, found.as_slice()) {
-        warn(
-            rt,
-            apart,
-            "is out of date, so it is not read: compile its map again",
-        );
-        return Ok(None);
-    }
-    match decompile(alloc, found.as_slice())? {
-        Decompiled::Map(parts) => Ok(Some(parts)),
-        Decompiled::Wrong(why) => {
-            warn(rt, apart, why.as_str());
-            Ok(None)
+    };
+    let why = match decompile(alloc, found.as_slice())? {
+        Decompiled::Map(parts) => {
+            if is_of_same_text(bytes, found.as_slice())
+                && are_same(sources, parts.sources.as_slice())
+            {
+                return Ok(Some(parts));
+            }
+            format!(in alloc; "is of another map than {path}")?
         }
-    }
+        Decompiled::Wrong(why) => why,
+    };
+    let why = format!(in alloc; "{why}, so it is not read: compile the map again")?;
+    warn(rt, apart, why.as_str());
+    Ok(None)
 }
 
 /// Puts the contents that lie apart from the compiled map in the file `path`, whose bytes are these, into its parts, and changes nothing
@@ -113,7 +140,7 @@ pub fn put_contents(
         ≡ without_contents (record_of_parts parts.old) }
 {
     if lacks_contents(parts)
-        && let Some(apart) = read_contents(rt, path, bytes)?
+        && let Some(apart) = read_contents(rt, path, bytes, parts.sources.as_slice())?
     {
         parts.source_contents = apart.source_contents;
     }

@@ -3,6 +3,7 @@ use Rattle.std.proofs.Common.{◌≡◌, ℕ, zero, suc, ◌+◌, ◌-◌, ◌*�
 use Rattle.std.proofs.Common.{append_assoc, append-nil, ◌++◌, refl, sym, ap, ◌∙◌, arith, subst}
 use Rattle.std.proofs.Common.{Bool, true, false, nat_le}
 use Rattle.std.proofs.Math.Nat.{add-mul-mod_self_left, add-mul-div_left, div-one, pow-suc}
+use Rattle.std.proofs.Math.Pow.{pow_mono}
 use Rattle.std.proofs.lemmas.Nat.{pow-add, shr-shr, pow_pos, div_below, mul-add-lt}
 use Rattle.oxc_sourcemap_compiled.specs.Numbers.{number_at}
 use Rattle.oxc_sourcemap_compiled.specs.Compiled.{bytes_of, IsWritten, four_in}
@@ -55,6 +56,10 @@ bytes-low (suc a) n m =
     let low : (n + 256 ^ suc a * m) % 256 ≡ n % 256 = ap (λ x. x % 256) moved ∙ add-mul-mod_self_left n 256 (256 ^ a * m) in
     let high : (n + 256 ^ suc a * m) / 256 ≡ n / 256 + 256 ^ a * m = ap (λ x. x / 256) moved ∙ add-mul-div_left n (256 ^ a * m) (omega arith) in
     ap (λ b. b ∷ bytes_of a ((n + 256 ^ suc a * m) / 256)) low ∙ ap (λ x. n % 256 ∷ bytes_of a x) high ∙ ap (λ xs. n % 256 ∷ xs) (bytes-low a (n / 256) m)
+
+-- a number of w bits, and one of s bits above it
+pub one-more : (w s v rest : ℕ) → v < 2 ^ w → rest < 2 ^ s → v + 2 ^ w * rest < 2 ^ (w + s)
+one-more w s v rest hv hr = omega (arith, mul-add-lt rest (2 ^ w) v (2 ^ s) hr hv, pow-add 2 w s)
 
 -- ---- read through a window
 window-by : (b : Bool) (m r w at : ℕ) (all : List ℕ) → nat_le 8 m ≡ b → r + w ≤ 64 → r + w ≤ 8 * m → number_at 8 all at / 2 ^ r % 2 ^ w ≡ number_at m all at / 2 ^ r % 2 ^ w
@@ -117,16 +122,9 @@ high-part number value bits =
 above-fits : (number value bits w : ℕ) → number < 2 ^ bits → value < 2 ^ w → number + 2 ^ bits * value < 2 ^ (bits + w)
 above-fits number value bits w small fits = omega (arith, mul-add-lt value (2 ^ bits) number (2 ^ w) fits small, pow-add 2 bits w)
 
-pub small-power : (n : ℕ) → n ≤ 7 → 2 ^ n ≤ 128
-small-power zero le = omega arith
-small-power (suc zero) le = omega arith
-small-power (suc (suc zero)) le = omega arith
-small-power (suc (suc (suc zero))) le = omega arith
-small-power (suc (suc (suc (suc zero)))) le = omega arith
-small-power (suc (suc (suc (suc (suc zero))))) le = omega arith
-small-power (suc (suc (suc (suc (suc (suc zero)))))) le = omega arith
-small-power (suc (suc (suc (suc (suc (suc (suc zero))))))) le = omega arith
-small-power (suc (suc (suc (suc (suc (suc (suc (suc n)))))))) le = absurd (omega (arith, le))
+-- at most 64 bits
+pub few-bits : (n : ℕ) → n ≤ 64 → 2 ^ n ≤ 18446744073709551616
+few-bits n le = pow_mono le
 
 -- what is left of a number, without the bytes that are written of it
 pub left-small : (all count w : ℕ) → all < 2 ^ (count + w) → all / 2 ^ ((count + w) / 8 * 8) < 2 ^ ((count + w) % 8)
@@ -181,12 +179,6 @@ five-values n b w0 w1 w2 w3 a0 a1 a2 a3 a4 =
     ∙ ap (λ x. n + p * a0 + p * 2 ^ w0 * a1 + p * 2 ^ w0 * 2 ^ w1 * a2 + x * a3 + 2 ^ (b + w0 + w1 + w2 + w3) * a4) e3
     ∙ ap (λ x. n + p * a0 + p * 2 ^ w0 * a1 + p * 2 ^ w0 * 2 ^ w1 * a2 + p * 2 ^ w0 * 2 ^ w1 * 2 ^ w2 * a3 + x * a4) e4
     ∙ regroup-five n p (2 ^ w0) (2 ^ w1) (2 ^ w2) (2 ^ w3) a0 a1 a2 a3 a4
-
--- values that are equal, in one number
-pub five-same : (n p f0 f1 f2 f3 w0 w1 w2 w3 g0 g1 g2 g3 g4 a0 a1 a2 a3 a4 : ℕ) → f0 ≡ w0 → f1 ≡ w1 → f2 ≡ w2 → f3 ≡ w3 → g0 ≡ a0 → g1 ≡ a1 → g2 ≡ a2 → g3 ≡ a3 → g4 ≡ a4
-    → n + p * (g0 + 2 ^ (2 * f0) * (g1 + 2 ^ (2 * f1) * (g2 + 2 ^ (2 * f2) * (g3 + 2 ^ (2 * f3) * g4))))
-    ≡ n + p * (a0 + 2 ^ (2 * w0) * (a1 + 2 ^ (2 * w1) * (a2 + 2 ^ (2 * w2) * (a3 + 2 ^ (2 * w3) * a4))))
-five-same n p f0 f1 f2 f3 w0 w1 w2 w3 g0 g1 g2 g3 g4 a0 a1 a2 a3 a4 e0 e1 e2 e3 d0 d1 d2 d3 d4 = rw (e0, e1, e2, e3, d0, d1, d2, d3, d4) refl
 
 pub nothing-written : (xs : List ℕ) → IsWritten xs xs (record { bits = 0; count = 0 }) 0 0
 unfolding bytes_of

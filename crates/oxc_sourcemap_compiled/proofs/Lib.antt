@@ -18,6 +18,7 @@ mod ReadTexts
 mod ReadTokens
 mod Rows
 mod Searches
+mod Sizes
 mod Slices
 mod StoredMaps
 mod Taken

@@ -1,5 +1,5 @@
 -- The bytes of a map mean the map, and are in order.
-use Rattle.std.proofs.Common.{◌≡◌, ℕ, ◌+◌, ◌*◌, ◌/◌, ◌<◌, ◌≤◌, Bool, true, false, ◌==◌, List, map}
+use Rattle.std.proofs.Common.{◌≡◌, ℕ, ◌+◌, ◌*◌, ◌/◌, ◌<◌, ◌≤◌, Bool, true, false, ◌==◌, List, map, nat_le}
 use Rattle.std.proofs.Common.{length, get_or, take, drop, nat_lt, Option, Some, None, Ok, is_some}
 use Rattle.std.proofs.Common.{refl, sym, ap, ◌∙◌, arith, subst, [], length-take, length-drop}
 use Rattle.std.proofs.Common.{if◌then◌else◌}
@@ -17,11 +17,11 @@ use Rattle.oxc_sourcemap_compiled.specs.Compiled.{line_starts, field_number, Are
 use Rattle.oxc_sourcemap_compiled.specs.Compiled.{group_bytes_of, no_block, rows_of, groups_of}
 use Rattle.oxc_sourcemap_compiled.specs.Compiled.{stored_count, text_offset, ignored_of}
 use Rattle.oxc_sourcemap_compiled.specs.Compiled.{listed_table, header_of_map, compiled_length}
-use Rattle.oxc_sourcemap_compiled.specs.Compiled.{map_bytes, AreBytesOf}
+use Rattle.oxc_sourcemap_compiled.specs.Compiled.{map_bytes, AreBytesOf, block_tokens, all_group_bytes}
 use Rattle.oxc_sourcemap_compiled.specs.Numbers.{number_at}
 use Rattle.oxc_sourcemap_compiled.specs.Layout.{header_in, AreCounts, texts_base, compiled_fault}
 use Rattle.oxc_sourcemap_compiled.specs.Layout.{rows_base, groups_base, line_numbers_base}
-use Rattle.oxc_sourcemap_compiled.specs.Layout.{ignored_base}
+use Rattle.oxc_sourcemap_compiled.specs.Layout.{ignored_base, block_groups, block_size, blocks_for}
 use Rattle.oxc_sourcemap_compiled.specs.Fields.{value_of, row_base}
 use Rattle.oxc_sourcemap_compiled.specs.CompiledMeaning.{start_in, line_in, ignored_in}
 use Rattle.oxc_sourcemap_compiled.specs.CompiledMeaning.{ignore_list_in}
@@ -38,6 +38,7 @@ use Rattle.oxc_sourcemap_compiled.proofs.Parts.{LiesAt}
 use Rattle.oxc_sourcemap_compiled.proofs.ReadNumbers.{entry-read}
 use Rattle.oxc_sourcemap_compiled.proofs.Rows.{rows-lie, least-read}
 use Rattle.oxc_sourcemap_compiled.proofs.Values.{value-read}
+use Rattle.oxc_sourcemap_compiled.proofs.Sizes.{token-block, few-blocks}
 use Rattle.oxc_sourcemap_compiled.proofs.LineStarts.{start-within, any_token}
 use Rattle.oxc_sourcemap_compiled.proofs.ReadTokens.{AreReadAs, in-order, tokens-read}
 use Rattle.oxc_sourcemap_compiled.proofs.ReadTexts.{sources-read, names-read, contents-read}
@@ -55,36 +56,47 @@ exact-by : (least first : ℕ) → least ≤ first → first ≤ least → least
 exact-by least first le ge = omega (arith, le, ge)
 
 module _ (tokens : List TokenRecord) (blocks : List Block) (bytes : List ℕ) (h : Header) (are : AreBlocksOf tokens blocks) (counted : h.tokens ≡ length tokens)
-    (rows : LiesAt (rows_base h) (rows_of 0 ((length tokens + 3) / 4) blocks) bytes) (columns : (i : ℕ) (d : TokenRecord) → i < length tokens → value_of bytes h 0 i ≡ (get_or tokens i d).dst_col)
+    (rows : LiesAt (rows_base h) (rows_of 0 (block_groups (length tokens)) ((length tokens + 3) / 4) blocks) bytes)
+    (columns : (i : ℕ) (d : TokenRecord) → i < length tokens → value_of bytes h 0 i ≡ (get_or tokens i d).dst_col)
     (small : (i : ℕ) (d : TokenRecord) → i < length tokens → (get_or tokens i d).dst_col ≤ 4294967295) where
-  pub rows-exact : AreRowsExact bytes h
-  rows-exact = λ b lt first.
+  abbrev size_of : ℕ
+  size_of = block_size (length tokens)
+
+  row-exact : (b : ℕ) → b < blocks_for (length tokens) → ((i : ℕ) → i < length tokens → i / size_of ≡ b → column_of bytes h (size_of * b) ≤ column_of bytes h i)
+      → least_column_of bytes h b ≡ column_of bytes h (size_of * b)
+  row-exact b lt first =
+      let one = nat_le (length tokens) 16384 in
+      let s = size_of in
       let block = get_or blocks b no_block in
-      let part = take 64 (drop (64 * b) tokens) in
-      let there : b < length blocks = omega (arith, lt, are.count, counted) in
+      let part = block_tokens tokens b in
+      let there : b < length blocks = omega (arith, lt, are.count) in
       let fits = (are.each b no_block there).column in
       let reached = fits.reached any_token in
       let x = reached.0 in
-      let short : x < 64 = omega (arith, reached.1, length-take 64 (drop (64 * b) tokens)) in
-      let within : 64 * b + x < length tokens = omega (arith, reached.1, length-take 64 (drop (64 * b) tokens), length-drop (64 * b) tokens) in
-      let begin : 64 * b < length tokens = omega (arith, within) in
-      let front : 64 * b + 0 ≡ 64 * b = omega arith in
-      let token : get_or part x any_token ≡ get_or tokens (64 * b + x) any_token = get_or-take 64 (drop (64 * b) tokens) x any_token short ∙ get_or-drop (64 * b) tokens x any_token in
-      let head : get_or part 0 any_token ≡ get_or tokens (64 * b) any_token =
-      get_or-take 64 (drop (64 * b) tokens) 0 any_token (omega arith) ∙ get_or-drop (64 * b) tokens 0 any_token ∙ ap (λ n. get_or tokens n any_token) front in
-      let least : block.column.least ≡ (get_or tokens (64 * b + x) any_token).dst_col = reached.2 ∙ ap (λ t. t.dst_col) token in
+      let short : x < s = omega (arith, reached.1, length-take s (drop (s * b) tokens)) in
+      let within : s * b + x < length tokens = omega (arith, reached.1, length-take s (drop (s * b) tokens), length-drop (s * b) tokens) in
+      let begin : s * b < length tokens = omega (arith, within) in
+      let front : s * b + 0 ≡ s * b = omega arith in
+      let token : get_or part x any_token ≡ get_or tokens (s * b + x) any_token = get_or-take s (drop (s * b) tokens) x any_token short ∙ get_or-drop (s * b) tokens x any_token in
+      let head : get_or part 0 any_token ≡ get_or tokens (s * b) any_token =
+      get_or-take s (drop (s * b) tokens) 0 any_token (omega (arith, short)) ∙ get_or-drop (s * b) tokens 0 any_token ∙ ap (λ n. get_or tokens n any_token) front in
+      let least : block.column.least ≡ (get_or tokens (s * b + x) any_token).dst_col = reached.2 ∙ ap (λ t. t.dst_col) token in
       let some : 0 < length part = omega (arith, reached.1) in
-      let below : block.column.least ≤ (get_or tokens (64 * b) any_token).dst_col = omega (arith, fits.least 0 any_token some, ap (λ t. t.dst_col) head) in
-      let fewest = small (64 * b + x) any_token within in
-      let row = rows-lie (rows_base h) 0 ((length tokens + 3) / 4) b blocks bytes rows there in
-      let place = 0 + group_bytes_of ((length tokens + 3) / 4) (take b blocks) in
+      let below : block.column.least ≤ (get_or tokens (s * b) any_token).dst_col = omega (arith, fits.least 0 any_token some, ap (λ t. t.dst_col) head) in
+      let fewest = small (s * b + x) any_token within in
+      let row = rows-lie (rows_base h) 0 (block_groups (length tokens)) ((length tokens + 3) / 4) b blocks bytes rows there in
+      let place = 0 + group_bytes_of (block_groups (length tokens)) ((length tokens + 3) / 4) (take b blocks) in
       let spot : row_base h b + 4 ≡ row_base h b + 4 + 4 * 0 = omega arith in
       let read : least_column_of bytes h b ≡ block.column.least =
       ap (number_at 4 bytes) spot ∙ least-read 0 (row_base h b) place block bytes (omega arith) row (omega (arith, least, fewest)) in
-      let same : (64 * b + x) / 64 ≡ b = omega (arith, short) in
-      let up = first (64 * b + x) (omega (arith, within, counted)) same in
-      exact-by (least_column_of bytes h b) (column_of bytes h (64 * b)) (omega (arith, read, below, columns (64 * b) any_token begin))
-      (omega (arith, read, least, up, columns (64 * b + x) any_token within))
+      let up = first (s * b + x) within (token-block one b x short) in
+      exact-by (least_column_of bytes h b) (column_of bytes h (s * b)) (omega (arith, read, below, columns (s * b) any_token begin))
+      (omega (arith, read, least, up, columns (s * b + x) any_token within))
+
+  pub rows-exact : AreRowsExact bytes h
+  rows-exact =
+      subst (λ n. (b : ℕ) → b < blocks_for n → ((i : ℕ) → i < n → i / block_size n ≡ b → column_of bytes h (block_size n * b) ≤ column_of bytes h i)
+      → least_column_of bytes h b ≡ column_of bytes h (block_size n * b)) (sym counted) row-exact
 
 -- ---- parts of a map
 -- an ignore list, by its entries
@@ -143,8 +155,8 @@ module _ (r : MapRecord) (text_length : ℕ) (stamp bytes : List ℕ) (fits : Fi
 
   size-fits : size < 18446744073709551616
   size-fits =
-      sum-fits (length are.lines) ((length r.tokens + 63) / 64) (length (ignored_of r)) (stored_count r) (if are.listed then length are.lines else 0) (group_bytes_of ((length r.tokens + 3) / 4) are.blocks)
-      (text_offset r (stored_count r)) are.few_lines (omega (arith, are.small.tokens)) are.small.ignored (omega (arith, are.small.sources, are.small.names)) (few-listed are.listed (length are.lines))
+      sum-fits (length are.lines) (blocks_for (length r.tokens)) (length (ignored_of r)) (stored_count r) (if are.listed then length are.lines else 0) (all_group_bytes r.tokens are.blocks)
+      (text_offset r (stored_count r)) are.few_lines (omega (arith, few-blocks (nat_le (length r.tokens) 16384) (length r.tokens) are.small.tokens)) are.small.ignored (omega (arith, are.small.sources, are.small.names)) (few-listed are.listed (length are.lines))
       are.few_groups are.few_texts
 
   header : HeaderRead h size text_length stamp all
@@ -171,8 +183,8 @@ module _ (r : MapRecord) (text_length : ℕ) (stamp bytes : List ℕ) (fits : Fi
 
   values : (k i : ℕ) (d : TokenRecord) → k < 5 → i < length r.tokens → value_of all h k i ≡ field_number k (get_or r.tokens i d)
   values k i d lt there =
-      let room = room-by (groups_base h) (length (groups_of are.blocks r.tokens)) (group_bytes_of ((length r.tokens + 3) / 4) are.blocks) (text_offset r (stored_count r)) (length all) lie.group_bytes lie.whole in
-      value-read r.tokens are.blocks all h are.blocks_of fits.tokens are.few_groups lie.rows lie.groups room k i d lt there
+      let room = room-by (groups_base h) (length (groups_of are.blocks r.tokens)) (all_group_bytes r.tokens are.blocks) (text_offset r (stored_count r)) (length all) lie.group_bytes lie.whole in
+      value-read r.tokens are.blocks all h are.blocks_of fits.tokens are.few_groups lie.rows refl lie.groups room k i d lt there
 
   as-read : AreReadAs r.tokens are.lines all h
   as-read = record {

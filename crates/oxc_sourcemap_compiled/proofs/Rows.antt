@@ -44,27 +44,27 @@ row-length place b =
     let numbers = numbers_of place b in
     omega (arith, ap length (row-is place b), length-append (table numbers) (widths_of b), table-length numbers)
 
-pub rows-length : (place groups : ℕ) (blocks : List Block) → length (rows_of place groups blocks) ≡ 29 * length blocks
-rows-length place groups [] = refl
-rows-length place groups (b ∷ bs) =
-    let next = place + min groups 16 * stride_of b in
-    length-append (row_of place b) (rows_of next (groups - 16) bs) ∙ ap (λ n. n + length (rows_of next (groups - 16) bs)) (row-length place b)
-    ∙ ap (λ n. 29 + n) (rows-length next (groups - 16) bs) ∙ one-more (length bs) where
+pub rows-length : (place each groups : ℕ) (blocks : List Block) → length (rows_of place each groups blocks) ≡ 29 * length blocks
+rows-length place each groups [] = refl
+rows-length place each groups (b ∷ bs) =
+    let next = place + min groups each * stride_of b in
+    let more = rows_of next each (groups - each) bs in
+    length-append (row_of place b) more ∙ ap (λ n. n + length more) (row-length place b) ∙ ap (λ n. 29 + n) (rows-length next each (groups - each) bs) ∙ one-more (length bs) where
       one-more : (n : ℕ) → 29 + 29 * n ≡ 29 * suc n
       one-more n = omega arith
 
-pub rows-lie : (at place groups i : ℕ) (blocks : List Block) (all : List ℕ) → LiesAt at (rows_of place groups blocks) all → i < length blocks
-    → LiesAt (at + 29 * i) (row_of (place + group_bytes_of groups (take i blocks)) (get_or blocks i no_block)) all
-rows-lie at place groups i [] all h lt = absurd (omega (arith, lt))
-rows-lie at place groups zero (b ∷ bs) all h lt =
-    let row = lies-front at (row_of place b) (rows_of (place + min groups 16 * stride_of b) (groups - 16) bs) all h in
+pub rows-lie : (at place each groups i : ℕ) (blocks : List Block) (all : List ℕ) → LiesAt at (rows_of place each groups blocks) all → i < length blocks
+    → LiesAt (at + 29 * i) (row_of (place + group_bytes_of each groups (take i blocks)) (get_or blocks i no_block)) all
+rows-lie at place each groups i [] all h lt = absurd (omega (arith, lt))
+rows-lie at place each groups zero (b ∷ bs) all h lt =
+    let row = lies-front at (row_of place b) (rows_of (place + min groups each * stride_of b) each (groups - each) bs) all h in
     let same : place ≡ place + 0 = omega arith in
     subst (λ p. LiesAt (at + 29 * 0) (row_of p b) all) same (lies-same at (at + 29 * 0) (row_of place b) all (omega arith) row)
-rows-lie at place groups (suc i) (b ∷ bs) all h lt =
-    let size = min groups 16 * stride_of b in
-    let next = lies-next at 29 (row_of place b) (rows_of (place + size) (groups - 16) bs) all h (row-length place b) in
-    let found = rows-lie (at + 29) (place + size) (groups - 16) i bs all next (omega (arith, lt)) in
-    let more = group_bytes_of (groups - 16) (take i bs) in
+rows-lie at place each groups (suc i) (b ∷ bs) all h lt =
+    let size = min groups each * stride_of b in
+    let next = lies-next at 29 (row_of place b) (rows_of (place + size) each (groups - each) bs) all h (row-length place b) in
+    let found = rows-lie (at + 29) (place + size) each (groups - each) i bs all next (omega (arith, lt)) in
+    let more = group_bytes_of each (groups - each) (take i bs) in
     let far : at + 29 + 29 * i ≡ at + 29 * suc i = omega arith in
     subst (λ p. LiesAt (at + 29 * suc i) (row_of p (get_or bs i no_block)) all) (add_assoc place size more)
     (lies-same (at + 29 + 29 * i) (at + 29 * suc i) (row_of (place + size + more) (get_or bs i no_block)) all far found)

@@ -99,6 +99,15 @@ block-cut f g limit first end cut base c low high near some same = record {
       omega (arith, is, c.after (base + j) (omega (arith, le, low)) within);
 }
 
+-- the same numbers have the same cut
+pub same-cut : (f g : ℕ → ℕ) (limit first end stop cut : ℕ) → stop ≡ end → ((j : ℕ) → j < end → g j ≡ f j) → IsCut f limit first end cut → IsCut g limit first stop cut
+same-cut f g limit first end stop cut e same c = record {
+  reached = c.reached;
+  within = omega (arith, c.within, e);
+  before = λ i low lt. omega (arith, same i (omega (arith, lt, c.within)), c.before i low lt);
+  after = λ i le lt. omega (arith, same i (omega (arith, lt, e)), c.after i le (omega (arith, lt, e)));
+}
+
 -- numbers that rise from each to the next rise
 pub rises : (f : ℕ → ℕ) (n i d : ℕ) → ((k : ℕ) → k + 1 < n → f k < f (k + 1)) → i + suc d < n → f i < f (i + suc d)
 rises f n i zero up h =

@@ -15,10 +15,10 @@ use Rattle.oxc_sourcemap_compiled.specs.Compiled.{id_number, field_number, IsPac
 use Rattle.oxc_sourcemap_compiled.specs.Compiled.{group_bytes_of, stride_of, widths_of, no_block}
 use Rattle.oxc_sourcemap_compiled.specs.Compiled.{above_in, rows_of, groups_of, group_of}
 use Rattle.oxc_sourcemap_compiled.specs.Compiled.{token_bits, group_bits}
-use Rattle.oxc_sourcemap_compiled.specs.Compiled.{FieldsFit, ArePacked}
+use Rattle.oxc_sourcemap_compiled.specs.Compiled.{FieldsFit, ArePacked, block_tokens, all_group_bytes}
 use Rattle.oxc_sourcemap_compiled.specs.Numbers.{number_at}
-use Rattle.oxc_sourcemap_compiled.specs.Layout.{rows_base, groups_base}
-use Rattle.oxc_sourcemap_compiled.specs.Fields.{value_in, value_of, field_in}
+use Rattle.oxc_sourcemap_compiled.specs.Layout.{rows_base, groups_base, block_groups, block_size}
+use Rattle.oxc_sourcemap_compiled.specs.Fields.{value_at, value_in, value_of, field_in}
 use Rattle.oxc_sourcemap_compiled.specs.declared.fields.Field.{Field}
 use Rattle.oxc_sourcemap_compiled.specs.declared.layout.Header.{Header}
 use Rattle.oxc_sourcemap_compiled.specs.declared.writing.blocks.Packing.{Packing}
@@ -29,7 +29,10 @@ use Rattle.oxc_sourcemap_compiled.proofs.Digits.{digit_of, four-fit, four-read}
 use Rattle.oxc_sourcemap_compiled.proofs.Rows.{packing_at, packed-at, rows-lie, field-read}
 use Rattle.oxc_sourcemap_compiled.proofs.Groups.{bytes-below, bytes-before, bytes-within}
 use Rattle.oxc_sourcemap_compiled.proofs.Groups.{group_at, groups-length, group-length}
-use Rattle.oxc_sourcemap_compiled.proofs.Bits.{window, low-value}
+use Rattle.oxc_sourcemap_compiled.proofs.Bits.{window, low-value, one-more}
+use Rattle.oxc_sourcemap_compiled.proofs.Sizes.{each, size, group-block, group-again, group-in, token-is}
+use Rattle.oxc_sourcemap_compiled.proofs.Sizes.{token-low, group-is, group-low, in-group, block-there}
+use Rattle.oxc_sourcemap_compiled.proofs.Sizes.{groups-fit, groups-before}
 
 -- ---- parts of lists
 part-get : {A : Type 0} (xs : List A) (n s i : ℕ) (d : A) → i < n → s + i < length xs → slice_get (take n (drop s xs)) i ≡ Some (get_or xs (s + i) d)
@@ -54,25 +57,31 @@ field-small (suc (suc (suc (suc k)))) t h = id-small t.name_id h.name_id
 
 -- ---- the values of a field
 -- a token of a block, by its index among all
-module _ (k : ℕ) (tokens : List TokenRecord) (i : ℕ) (p : Packing) (are : IsPacked k (take 64 (drop (64 * (i / 64)) tokens)) p) where
-  of-block : (d : TokenRecord) → i < length tokens → (i % 64 < length (take 64 (drop (64 * (i / 64)) tokens))) × (get_or (take 64 (drop (64 * (i / 64)) tokens)) (i % 64) d ≡ get_or tokens i d)
+module _ (k : ℕ) (tokens : List TokenRecord) (i : ℕ) (p : Packing) (are : IsPacked k (block_tokens tokens (i / block_size (length tokens))) p) where
+  abbrev only : Bool
+  only = nat_le (length tokens) 16384
+
+  abbrev size_of : ℕ
+  size_of = block_size (length tokens)
+
+  of-block : (d : TokenRecord) → i < length tokens → (i % size_of < length (block_tokens tokens (i / size_of))) × (get_or (block_tokens tokens (i / size_of)) (i % size_of) d ≡ get_or tokens i d)
   of-block d lt =
-      let s = 64 * (i / 64) in
-      let at : s + i % 64 ≡ i = omega arith in
-      let low : i % 64 < 64 = omega arith in (
-        omega (arith, length-take 64 (drop s tokens), length-drop s tokens, at, low, lt),
-        get_or-take 64 (drop s tokens) (i % 64) d low ∙ get_or-drop s tokens (i % 64) d ∙ ap (λ n. get_or tokens n d) at,
+      let s = size_of * (i / size_of) in
+      let at : s + i % size_of ≡ i = token-is only i in
+      let low : i % size_of < size_of = token-low only i in (
+        omega (arith, length-take size_of (drop s tokens), length-drop s tokens, at, low, lt),
+        get_or-take size_of (drop s tokens) (i % size_of) d low ∙ get_or-drop s tokens (i % size_of) d ∙ ap (λ n. get_or tokens n d) at,
       )
 
   pub least-below : (d : TokenRecord) → i < length tokens → p.least ≤ field_number k (get_or tokens i d)
   least-below d lt =
       let token = of-block d lt in
-      omega (arith, are.least (i % 64) d token.0, ap (field_number k) token.1)
+      omega (arith, are.least (i % size_of) d token.0, ap (field_number k) token.1)
 
   pub above-fits : (d : TokenRecord) → i < length tokens → field_number k (get_or tokens i d) - p.least < 2 ^ (2 * p.width)
   above-fits d lt =
       let token = of-block d lt in
-      subst (λ t. field_number k t - p.least < 2 ^ (2 * p.width)) token.1 (are.fits (i % 64) d token.0)
+      subst (λ t. field_number k t - p.least < 2 ^ (2 * p.width)) token.1 (are.fits (i % size_of) d token.0)
 
 -- what is written of one of four tokens fits
 pub above-small-by : (b : Bool) (k : ℕ) (tokens : List TokenRecord) (p : Packing) (s n : ℕ) → nat_lt (s + n) (length tokens) ≡ b → n < 4
@@ -85,15 +94,16 @@ above-small-by false k tokens p s n e lt fits d =
     subst (λ o. above_in k p o < 2 ^ (2 * p.width)) (sym (part-past tokens 4 s n past)) (pow_pos (2 * p.width))
 
 -- what is written of each field of four tokens of a block fits
-one-fits : (tokens : List TokenRecord) (b : Block) (g n j : ℕ) → n < 4 → j < 5 → ArePacked (take 64 (drop (64 * (g / 16)) tokens)) b
+one-fits : (tokens : List TokenRecord) (b : Block) (g n j : ℕ) → n < 4 → j < 5 → ArePacked (block_tokens tokens (g / block_groups (length tokens))) b
     → above_in j (packing_at j b) (slice_get (take 4 (drop (4 * g) tokens)) n) < 2 ^ (2 * (packing_at j b).width)
 one-fits tokens b g n j lt is are =
-    let same : g / 16 ≡ (4 * g + n) / 64 = omega (arith, lt) in
-    let packed = subst (λ k. IsPacked j (take 64 (drop (64 * k) tokens)) (packing_at j b)) same (packed-at j (take 64 (drop (64 * (g / 16)) tokens)) b is are) in
+    let block = g / block_groups (length tokens) in
+    let same : block ≡ (4 * g + n) / block_size (length tokens) = group-block (nat_le (length tokens) 16384) g n lt in
+    let packed = subst (λ k. IsPacked j (block_tokens tokens k) (packing_at j b)) same (packed-at j (block_tokens tokens block) b is are) in
     above-small-by (nat_lt (4 * g + n) (length tokens)) j tokens (packing_at j b) (4 * g) n refl lt (λ less d. above-fits j tokens (4 * g + n) (packing_at j b) packed d less)
     (record { dst_line = 0; dst_col = 0; src_line = 0; src_col = 0; source_id = None; name_id = None })
 
-pub group-fits : (tokens : List TokenRecord) (b : Block) (g n : ℕ) → n < 4 → ArePacked (take 64 (drop (64 * (g / 16)) tokens)) b → FieldsFit b (slice_get (take 4 (drop (4 * g) tokens)) n)
+pub group-fits : (tokens : List TokenRecord) (b : Block) (g n : ℕ) → n < 4 → ArePacked (block_tokens tokens (g / block_groups (length tokens))) b → FieldsFit b (slice_get (take 4 (drop (4 * g) tokens)) n)
 group-fits tokens b g n lt are = record {
   column = one-fits tokens b g n 0 lt (omega arith) are;
   source = one-fits tokens b g n 1 lt (omega arith) are;
@@ -112,7 +122,7 @@ digit-pick f (suc (suc (suc (suc j)))) lt = absurd (omega (arith, lt))
 -- the value of a field, by the word that is read
 value-is : (bytes : List ℕ) (f : Field) (j v : ℕ) → nat_le (f.at + (f.first + j * (2 * f.stride)) / 8 + 8) (length bytes) ≡ true
     → (f.least + number_at 8 bytes (f.at + (f.first + j * (2 * f.stride)) / 8) / 2 ^ ((f.first + j * (2 * f.stride)) % 8) % 2 ^ (2 * f.width)) % 2 ^ 32 ≡ v → value_in bytes f j ≡ v
-unfolding value_in
+unfolding value_at
 value-is bytes f j v room is = rw room is
 
 -- ---- the fields of a token in its bits
@@ -152,11 +162,8 @@ field-bits (suc (suc (suc (suc zero)))) b t lt fit =
     ∙ mod-eq_of_lt fit.name
 field-bits (suc (suc (suc (suc (suc k))))) b t lt fit = absurd (omega (arith, lt))
 
-one-more : (w s v rest : ℕ) → v < 2 ^ w → rest < 2 ^ s → v + 2 ^ w * rest < 2 ^ (w + s)
-one-more w s v rest hv hr = omega (arith, mul-add-lt rest (2 ^ w) v (2 ^ s) hr hv, pow-add 2 w s)
-
 -- the bits of a token are as many as it says
-token-small : (b : Block) (t : Option TokenRecord) → FieldsFit b t → token_bits b t < 2 ^ (2 * stride_of b)
+pub token-small : (b : Block) (t : Option TokenRecord) → FieldsFit b t → token_bits b t < 2 ^ (2 * stride_of b)
 token-small b t fit =
     let whole : 2 * b.column.width + (2 * b.source.width + (2 * b.src_line.width + (2 * b.src_col.width + 2 * b.name.width))) ≡ 2 * stride_of b = omega arith in
     subst (λ e. token_bits b t < 2 ^ e) whole
@@ -236,33 +243,44 @@ module _ (b : Block) (ts : List TokenRecord) (at : ℕ) (bytes : List ℕ) (fit 
 
 -- ---- the field of a token in bytes that have the rows and the groups of its blocks
 module _ (tokens : List TokenRecord) (blocks : List Block) (bytes : List ℕ) (h : Header) (are : AreBlocksOf tokens blocks) (bounds : AreInBounds tokens)
-    (few : group_bytes_of ((length tokens + 3) / 4) blocks ≤ 4294967295) (rows : LiesAt (rows_base h) (rows_of 0 ((length tokens + 3) / 4) blocks) bytes)
+    (few : all_group_bytes tokens blocks ≤ 4294967295)
+    (rows : LiesAt (rows_base h) (rows_of 0 (block_groups (length tokens)) ((length tokens + 3) / 4) blocks) bytes) (counted : h.tokens ≡ length tokens)
     (groups : LiesAt (groups_base h) (groups_of blocks tokens) bytes) (room : groups_base h + length (groups_of blocks tokens) + 16 ≤ length bytes) where
   module _ (k i : ℕ) (d : TokenRecord) (is_field : k < 5) (there : i < length tokens) where
+    abbrev one : Bool
+    one = nat_le (length tokens) 16384
+
+    -- the block of the token, and its number there
+    abbrev home : ℕ
+    home = i / size one
+
+    abbrev in_block : ℕ
+    in_block = i % size one
+
     abbrev all_groups : ℕ
     all_groups = (length tokens + 3) / 4
 
     abbrev block : Block
-    block = get_or blocks (i / 64) no_block
+    block = get_or blocks home no_block
 
     abbrev packing : Packing
     packing = packing_at k block
 
     abbrev place : ℕ
-    place = 0 + group_bytes_of all_groups (take (i / 64) blocks)
+    place = 0 + group_bytes_of (each one) all_groups (take home blocks)
 
     -- the group of the token, and how many bytes the groups before it take
     abbrev group : List TokenRecord
     group = take 4 (drop (4 * (i / 4)) tokens)
 
     abbrev before : ℕ
-    before = length (flat_map (group_at blocks tokens) (range_with_len 0 (i / 4)))
+    before = length (flat_map (group_at (each one) blocks tokens) (range_with_len 0 (i / 4)))
 
     abbrev field : Field
     field = record { least = packing.least; at = groups_base h + place; first = 2 * sum (take k (widths_of block)); stride = sum (widths_of block); width = packing.width }
 
     abbrev bit : ℕ
-    bit = i % 64 % 4 * (2 * stride_of block) + 2 * sum (take k (widths_of block))
+    bit = in_block % 4 * (2 * stride_of block) + 2 * sum (take k (widths_of block))
 
     abbrev at : ℕ
     at = groups_base h + before + bit / 8
@@ -270,19 +288,19 @@ module _ (tokens : List TokenRecord) (blocks : List Block) (bytes : List ℕ) (h
     abbrev number : ℕ
     number = field_number k (get_or tokens i d)
 
-    block-there : i / 64 < length blocks
-    block-there = omega (arith, there, are.count)
+    block-is : home < length blocks
+    block-is = omega (arith, block-there one i (length tokens) there, are.count)
 
-    few-groups : all_groups ≤ 16 * length blocks
-    few-groups = omega (arith, are.count)
+    few-groups : all_groups ≤ each one * length blocks
+    few-groups = subst (λ n. all_groups ≤ each one * n) (sym are.count) (groups-fit one (length tokens))
 
     abbrev first : ℕ
     first = 2 * sum (take k (widths_of block))
 
-    fields-at : (j : ℕ) → j < 5 → IsPacked j (take 64 (drop (64 * (i / 64)) tokens)) (packing_at j block)
-    fields-at j is = packed-at j (take 64 (drop (64 * (i / 64)) tokens)) block is (are.each (i / 64) no_block block-there)
+    fields-at : (j : ℕ) → j < 5 → IsPacked j (block_tokens tokens home) (packing_at j block)
+    fields-at j is = packed-at j (block_tokens tokens home) block is (are.each home no_block block-is)
 
-    fields : IsPacked k (take 64 (drop (64 * (i / 64)) tokens)) packing
+    fields : IsPacked k (block_tokens tokens home) packing
     fields = fields-at k is_field
 
     least-reached : packing.least ≤ number
@@ -291,57 +309,56 @@ module _ (tokens : List TokenRecord) (blocks : List Block) (bytes : List ℕ) (h
     small : number ≤ 4294967295
     small = field-small k (get_or tokens i d) (All-get_or IsInBounds tokens i d there bounds)
 
-    place-is : place ≡ group_bytes_of (16 * (i / 64)) blocks
+    place-is : place ≡ group_bytes_of (each one) (each one * home) blocks
     place-is =
-        let none : 0 + group_bytes_of all_groups (take (i / 64) blocks) ≡ group_bytes_of all_groups (take (i / 64) blocks) = omega arith in
-        none ∙ bytes-before (i / 64) all_groups blocks (omega (arith, there)) (omega (arith, block-there))
+        let none : 0 + group_bytes_of (each one) all_groups (take home blocks) ≡ group_bytes_of (each one) all_groups (take home blocks) = omega arith in
+        none ∙ bytes-before one home all_groups blocks (groups-before one i (length tokens) there) (omega (arith, block-is))
 
     place-small : place ≤ 4294967295
     place-small =
-        let below = bytes-below (16 * (i / 64)) all_groups blocks (omega (arith, there)) few-groups in
+        let below = bytes-below one (each one * home) all_groups blocks (groups-before one i (length tokens) there) few-groups in
         omega (arith, place-is, below, few)
 
-    field-is : field_in bytes h (i / 64) k ≡ field
-    field-is = field-read k (i / 64) place block bytes h is_field (rows-lie (rows_base h) 0 all_groups (i / 64) blocks bytes rows block-there) place-small (omega (arith, least-reached, small)) fields.width
+    field-is : field_in bytes h home k ≡ field
+    field-is = field-read k home place block bytes h is_field (rows-lie (rows_base h) 0 (each one) all_groups home blocks bytes rows block-is) place-small (omega (arith, least-reached, small)) fields.width
 
     group-lies : (base : ℕ) (all : List ℕ) → LiesAt base (groups_of blocks tokens) all → LiesAt (base + before) (group_of block group) all
     group-lies base all g =
-        let same : i / 4 / 16 ≡ i / 64 = omega arith in
-        let lies = lies-among (group_at blocks tokens) 0 all_groups (i / 4) (i / 4) base all g (omega (arith, there)) (omega arith) in
+        let same : i / 4 / each one ≡ home = group-in one i in
+        let lies = lies-among (group_at (each one) blocks tokens) 0 all_groups (i / 4) (i / 4) base all g (omega (arith, there)) (omega arith) in
         subst (λ b. LiesAt (base + before) (group_of (get_or blocks b no_block) group) all) same lies
 
-    before-is : before ≡ place + i % 64 / 4 * stride_of block
+    before-is : before ≡ place + in_block / 4 * stride_of block
     before-is =
-        let split : i / 4 ≡ 16 * (i / 64) + i % 64 / 4 = omega arith in
-        groups-length (i / 4) blocks tokens (omega (arith, few-groups, there)) ∙ ap (λ n. group_bytes_of n blocks) split
-        ∙ bytes-within (i / 64) (i % 64 / 4) blocks (omega arith) block-there ∙ ap (λ n. n + i % 64 / 4 * stride_of block) (sym place-is)
+        groups-length one (i / 4) blocks tokens (omega (arith, few-groups, there)) ∙ ap (λ n. group_bytes_of (each one) n blocks) (group-is one i)
+        ∙ bytes-within one home (in_block / 4) blocks (group-low one i) block-is ∙ ap (λ n. n + in_block / 4 * stride_of block) (sym place-is)
 
     -- the bits of the field begin where they are read
-    bits-are : (first + i % 64 * (2 * sum (widths_of block))) ≡ 8 * (i % 64 / 4 * stride_of block) + bit
+    bits-are : (first + in_block * (2 * sum (widths_of block))) ≡ 8 * (in_block / 4 * stride_of block) + bit
     bits-are =
-        let split : i % 64 ≡ 4 * (i % 64 / 4) + i % 64 % 4 = omega arith in
-        ap (λ s. first + i % 64 * (2 * s)) (five-widths block) ∙ ap (λ j. first + j * (2 * stride_of block)) split ∙ split-bits (i % 64 / 4) (i % 64 % 4) (stride_of block) first
+        let split : in_block ≡ 4 * (in_block / 4) + in_block % 4 = omega arith in
+        ap (λ s. first + in_block * (2 * s)) (five-widths block) ∙ ap (λ j. first + j * (2 * stride_of block)) split ∙ split-bits (in_block / 4) (in_block % 4) (stride_of block) first
 
-    at-is : groups_base h + place + (first + i % 64 * (2 * sum (widths_of block))) / 8 ≡ at
+    at-is : groups_base h + place + (first + in_block * (2 * sum (widths_of block))) / 8 ≡ at
     at-is =
-        let far = ap (λ n. n / 8) bits-are ∙ div-eight (i % 64 / 4 * stride_of block) bit in
+        let far = ap (λ n. n / 8) bits-are ∙ div-eight (in_block / 4 * stride_of block) bit in
         omega (arith, far, before-is)
 
-    bit-is : (first + i % 64 * (2 * sum (widths_of block))) % 8 ≡ bit % 8
-    bit-is = ap (λ n. n % 8) bits-are ∙ mod-eight (i % 64 / 4 * stride_of block) bit
+    bit-is : (first + in_block * (2 * sum (widths_of block))) % 8 ≡ bit % 8
+    bit-is = ap (λ n. n % 8) bits-are ∙ mod-eight (in_block / 4 * stride_of block) bit
 
     within : at + 8 ≤ length bytes
     within =
         let inner = lies-within (0 + before) (group_of block group) (groups_of blocks tokens) (group-lies 0 (groups_of blocks tokens) (lies-whole (groups_of blocks tokens))) in
-        let fits = within-four (i % 64 % 4) first (2 * packing.width) (stride_of block) (omega arith) (field-within k block is_field) in
+        let fits = within-four (in_block % 4) first (2 * packing.width) (stride_of block) (omega arith) (field-within k block is_field) in
         omega (arith, inner, group-length block group, room, fits)
 
     one-small : (j n : ℕ) → j < 5 → n < 4 → above_in j (packing_at j block) (slice_get group n) < 2 ^ (2 * (packing_at j block).width)
     one-small j n is lt =
         let s = 4 * (i / 4) in
-        let same : i / 64 ≡ (s + n) / 64 = omega (arith, lt) in
+        let same : home ≡ (s + n) / size one = group-again one i n lt in
         above-small-by (nat_lt (s + n) (length tokens)) j tokens (packing_at j block) s n refl lt
-        (λ less d. above-fits j tokens (s + n) (packing_at j block) (subst (λ b. IsPacked j (take 64 (drop (64 * b) tokens)) (packing_at j block)) same (fields-at j is)) d less) d
+        (λ less d. above-fits j tokens (s + n) (packing_at j block) (subst (λ b. IsPacked j (block_tokens tokens b) (packing_at j block)) same (fields-at j is)) d less) d
 
     values-small : (n : ℕ) → n < 4 → FieldsFit block (slice_get group n)
     values-small n lt = record {
@@ -352,25 +369,25 @@ module _ (tokens : List TokenRecord) (blocks : List Block) (bytes : List ℕ) (h
       name = one-small 4 n (omega arith) lt;
     }
 
-    token-is : slice_get group (i % 64 % 4) ≡ Some (get_or tokens i d)
-    token-is =
-        let here : 4 * (i / 4) + i % 64 % 4 ≡ i = omega arith in
-        part-get tokens 4 (4 * (i / 4)) (i % 64 % 4) d (omega arith) (omega (arith, here, there)) ∙ ap (λ n. Some (get_or tokens n d)) here
+    token-there : slice_get group (in_block % 4) ≡ Some (get_or tokens i d)
+    token-there =
+        let here : 4 * (i / 4) + in_block % 4 ≡ i = omega (arith, in-group one i) in
+        part-get tokens 4 (4 * (i / 4)) (in_block % 4) d (omega arith) (omega (arith, here, there)) ∙ ap (λ n. Some (get_or tokens n d)) here
 
     above-is : number_at 8 bytes at / 2 ^ (bit % 8) % 2 ^ (2 * packing.width) ≡ number - packing.least
     above-is =
-        value-of-group block group (groups_base h + before) bytes values-small (group-lies (groups_base h) bytes groups) k (i % 64 % 4) is_field (omega arith) fields.width
-        ∙ ap (above_in k packing) token-is
+        value-of-group block group (groups_base h + before) bytes values-small (group-lies (groups_base h) bytes groups) k (in_block % 4) is_field (omega arith) fields.width
+        ∙ ap (above_in k packing) token-there
 
-    read-is : number_at 8 bytes (field.at + (first + i % 64 * (2 * field.stride)) / 8) / 2 ^ ((first + i % 64 * (2 * field.stride)) % 8) % 2 ^ (2 * packing.width) ≡ number - packing.least
+    read-is : number_at 8 bytes (field.at + (first + in_block * (2 * field.stride)) / 8) / 2 ^ ((first + in_block * (2 * field.stride)) % 8) % 2 ^ (2 * packing.width) ≡ number - packing.least
     read-is =
-        ap (λ a. number_at 8 bytes a / 2 ^ ((first + i % 64 * (2 * field.stride)) % 8) % 2 ^ (2 * packing.width)) at-is
+        ap (λ a. number_at 8 bytes a / 2 ^ ((first + in_block * (2 * field.stride)) % 8) % 2 ^ (2 * packing.width)) at-is
         ∙ ap (λ r. number_at 8 bytes at / 2 ^ r % 2 ^ (2 * packing.width)) bit-is ∙ above-is
 
     pub value-read : value_of bytes h k i ≡ field_number k (get_or tokens i d)
     value-read =
         let whole : packing.least + (number - packing.least) ≡ number = omega (arith, least-reached) in
         let low : number < 4294967296 = omega (arith, small) in
-        let room : nat_le (field.at + (first + i % 64 * (2 * field.stride)) / 8 + 8) (length bytes) ≡ true = grind (arith, within, at-is) in
-        ap (λ f. value_in bytes f (i % 64)) field-is
-        ∙ value-is bytes field (i % 64) number room (ap (λ n. (packing.least + n) % 4294967296) read-is ∙ ap (λ n. n % 4294967296) whole ∙ mod-eq_of_lt low)
+        let room : nat_le (field.at + (first + in_block * (2 * field.stride)) / 8 + 8) (length bytes) ≡ true = grind (arith, within, at-is) in
+        ap (λ n. value_in bytes (field_in bytes h (i / block_size n) k) (i % block_size n)) counted ∙ ap (λ f. value_in bytes f in_block) field-is
+        ∙ value-is bytes field in_block number room (ap (λ n. (packing.least + n) % 4294967296) read-is ∙ ap (λ n. n % 4294967296) whole ∙ mod-eq_of_lt low)

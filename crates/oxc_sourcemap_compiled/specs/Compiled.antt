@@ -11,7 +11,7 @@ use Rattle.oxc_sourcemap_parts.specs.Views.{record_of_parts}
 use Rattle.oxc_sourcemap_parts.specs.declared.parts.SourceMapParts.{SourceMapParts}
 use Rattle.oxc_sourcemap_lookup.specs.LineSpans.{count_before_line}
 use Rattle.oxc_sourcemap_parts.specs.Sorted.{are_tokens_sorted}
-use Rattle.oxc_sourcemap_compiled.specs.Layout.{texts_base}
+use Rattle.oxc_sourcemap_compiled.specs.Layout.{texts_base, block_groups, block_size, blocks_for}
 use Rattle.oxc_sourcemap_compiled.specs.declared.layout.Header.{Header}
 use Rattle.oxc_sourcemap_compiled.specs.declared.writing.blocks.Packing.{Packing}
 use Rattle.oxc_sourcemap_compiled.specs.declared.writing.blocks.Block.{Block}
@@ -66,10 +66,16 @@ pub record ArePacked (tokens : List TokenRecord) (b : Block) : Type 0 where
   pub src_col : IsPacked 3 tokens b.src_col
   pub name : IsPacked 4 tokens b.name
 
--- the blocks of tokens, 64 in each but for the last
+-- the tokens of a block, by its number
+abbrev pub block_tokens : List TokenRecord → ℕ → List TokenRecord
+block_tokens tokens b =
+    let size = block_size (length tokens) in
+    take size (drop (size * b) tokens)
+
+-- the blocks of tokens
 pub record AreBlocksOf (tokens : List TokenRecord) (blocks : List Block) : Type 0 where
-  pub count : length blocks ≡ (length tokens + 63) / 64
-  pub each : (b : ℕ) (d : Block) → b < length blocks → ArePacked (take 64 (drop (64 * b) tokens)) (get_or blocks b d)
+  pub count : length blocks ≡ blocks_for (length tokens)
+  pub each : (b : ℕ) (d : Block) → b < length blocks → ArePacked (block_tokens tokens b) (get_or blocks b d)
 
 -- how the fields of a block are written, in the order of their numbers
 abbrev pub packings : Block → List Packing
@@ -82,20 +88,24 @@ widths_of b = b.column.width ∷ b.source.width ∷ b.src_line.width ∷ b.src_c
 abbrev pub stride_of : Block → ℕ
 stride_of b = b.column.width + b.source.width + b.src_line.width + b.src_col.width + b.name.width
 
--- how many bytes the groups of blocks take: sixteen in each but for the last, and this many in all
-abbrev pub group_bytes_of : ℕ → List Block → ℕ
-group_bytes_of groups [] = 0
-group_bytes_of groups (b ∷ bs) = min groups 16 * stride_of b + group_bytes_of (groups - 16) bs
+-- how many bytes the groups of blocks take: so many in each but for the last, and so many in all
+abbrev pub group_bytes_of : ℕ → ℕ → List Block → ℕ
+group_bytes_of each groups [] = 0
+group_bytes_of each groups (b ∷ bs) = min groups each * stride_of b + group_bytes_of each (groups - each) bs
+
+-- and those of all tokens
+abbrev pub all_group_bytes : List TokenRecord → List Block → ℕ
+all_group_bytes tokens blocks = group_bytes_of (block_groups (length tokens)) ((length tokens + 3) / 4) blocks
 
 -- the row of a block
 abbrev pub row_of : ℕ → Block → List ℕ
 row_of place b = bytes_of 4 place ++ bytes_of 4 b.column.least ++ bytes_of 4 b.source.least ++ bytes_of 4 b.src_line.least
     ++ bytes_of 4 b.src_col.least ++ bytes_of 4 b.name.least ++ widths_of b
 
--- the rows of blocks whose groups begin at this place, this many in all
-abbrev pub rows_of : ℕ → ℕ → List Block → List ℕ
-rows_of place groups [] = []
-rows_of place groups (b ∷ bs) = row_of place b ++ rows_of (place + min groups 16 * stride_of b) (groups - 16) bs
+-- the rows of blocks whose groups begin at this place, so many in each but for the last, and so many in all
+abbrev pub rows_of : ℕ → ℕ → ℕ → List Block → List ℕ
+rows_of place each groups [] = []
+rows_of place each groups (b ∷ bs) = row_of place b ++ rows_of (place + min groups each * stride_of b) each (groups - each) bs
 
 -- what is written of a field in a token; 0 where there is none
 abbrev pub above_in : ℕ → Packing → Option TokenRecord → ℕ
@@ -154,7 +164,8 @@ no_block = record { column = no_packing; source = no_packing; src_line = no_pack
 -- the groups of all tokens
 abbrev pub groups_of : List Block → List TokenRecord → List ℕ
 groups_of blocks tokens =
-    flat_map (λ g. group_of (get_or blocks (g / 16) no_block) (take 4 (drop (4 * g) tokens))) (range_with_len 0 ((length tokens + 3) / 4))
+    flat_map (λ g. group_of (get_or blocks (g / block_groups (length tokens)) no_block) (take 4 (drop (4 * g) tokens)))
+    (range_with_len 0 ((length tokens + 3) / 4))
 
 -- ---- texts
 -- a text that may be absent, with one byte in front of it where it is there
@@ -228,7 +239,7 @@ listed_table false lines = []
 -- the parts behind the header
 abbrev pub parts_bytes : MapRecord → List ℕ → Bool → List Block → List ℕ
 parts_bytes r lines listed blocks =
-    table (line_starts r.tokens lines) ++ (rows_of 0 ((length r.tokens + 3) / 4) blocks ++ (table (ignored_of r)
+    table (line_starts r.tokens lines) ++ (rows_of 0 (block_groups (length r.tokens)) ((length r.tokens + 3) / 4) blocks ++ (table (ignored_of r)
     ++ (table (map (text_offset r) (range_with_len 0 (stored_count r + 1))) ++ (listed_table listed lines ++ (groups_of blocks r.tokens
     ++ (flat_map (stored_text r) (range_with_len 0 (stored_count r)) ++ bytes_of 16 0))))))
 
@@ -242,7 +253,7 @@ header_of_map r lines listed blocks = record {
   ignored = length (ignored_of r);
   has_ignore_list = is_some r.ignore_list;
   has_line_numbers = listed;
-  group_bytes = group_bytes_of ((length r.tokens + 3) / 4) blocks;
+  group_bytes = all_group_bytes r.tokens blocks;
 }
 
 -- how long the compiled map of a map is
@@ -266,6 +277,6 @@ pub record AreBytesOf (r : MapRecord) (text_length : ℕ) (stamp bytes : List �
   pub small_lines : (k : ℕ) → k < length lines → get_or lines k 0 ≤ 4294967295
   pub all_listed : listed ≡ false → (k : ℕ) → k < length lines → get_or lines k 0 ≡ k
   pub blocks_of : AreBlocksOf r.tokens blocks
-  pub few_groups : group_bytes_of ((length r.tokens + 3) / 4) blocks ≤ 4294967295
+  pub few_groups : all_group_bytes r.tokens blocks ≤ 4294967295
   pub few_texts : text_offset r (stored_count r) ≤ 4294967295
   pub are : bytes ≡ map_bytes r lines listed blocks text_length stamp

@@ -1,5 +1,5 @@
 -- What the bytes of a compiled map mean.
-use Rattle.std.specs.Prelude.{ℕ, ◌+◌, ◌-◌, ◌*◌, List, [], ◌∷◌, ◌++◌, map, take, drop, length}
+use Rattle.std.specs.Prelude.{ℕ, ◌+◌, ◌-◌, ◌*◌, ◌/◌, ◌%◌, List, [], ◌∷◌, ◌++◌, map, take, drop, length}
 use Rattle.std.specs.Prelude.{Option, Some, None, Result, Ok, Err, nat_le, nat_lt, min, slice_get}
 use Rattle.std.specs.Prelude.{◌&&◌, if◌then◌else◌}
 use Rattle.std.specs.List.{range_with_len}
@@ -8,27 +8,32 @@ use Rattle.std.specs.Str.{is_utf8}
 use Rattle.oxc_sourcemap_tokens.specs.Token.{TokenRecord}
 use Rattle.oxc_sourcemap_parts.specs.Record.{MapRecord, Text}
 use Rattle.oxc_sourcemap_compiled.specs.declared.errors.CompiledError.{CompiledError}
+use Rattle.oxc_sourcemap_compiled.specs.declared.fields.Row.{Row}
 use Rattle.oxc_sourcemap_compiled.specs.declared.layout.Header.{Header}
 use Rattle.oxc_sourcemap_compiled.specs.Numbers.{number_at}
 use Rattle.oxc_sourcemap_compiled.specs.Layout.{header_in, offsets_base, ignored_base, texts_base}
-use Rattle.oxc_sourcemap_compiled.specs.Layout.{line_numbers_base, compiled_fault}
-use Rattle.oxc_sourcemap_compiled.specs.Fields.{value_of}
+use Rattle.oxc_sourcemap_compiled.specs.Layout.{line_numbers_base, compiled_fault, block_size}
+use Rattle.oxc_sourcemap_compiled.specs.Fields.{value_in, row_in}
 
 -- ---- tokens
 -- the id that a stored number stands for: it is one more, and 0 for none
 abbrev pub stored_id : ℕ → Option ℕ
 stored_id n = if nat_lt 0 n then Some (n - 1) else None
 
+-- the token of this number in a block, on a line
+abbrev pub token_at : List ℕ → Row → ℕ → ℕ → TokenRecord
+token_at bytes row line j = record {
+  dst_line = line;
+  dst_col = value_in bytes row.column j;
+  src_line = value_in bytes row.src_line j;
+  src_col = value_in bytes row.src_col j;
+  source_id = stored_id (value_in bytes row.source j);
+  name_id = stored_id (value_in bytes row.name j);
+}
+
 -- the token at an index, on a line
 unfoldable pub token_in : List ℕ → Header → ℕ → ℕ → TokenRecord
-token_in bytes h line i = record {
-  dst_line = line;
-  dst_col = value_of bytes h 0 i;
-  src_line = value_of bytes h 2 i;
-  src_col = value_of bytes h 3 i;
-  source_id = stored_id (value_of bytes h 1 i);
-  name_id = stored_id (value_of bytes h 4 i);
-}
+token_in bytes h line i = token_at bytes (row_in bytes h (i / block_size h.tokens)) line (i % block_size h.tokens)
 
 -- where the tokens of an entry of lines begin among all tokens; past the last entry, where its tokens end
 abbrev pub start_in : List ℕ → ℕ → ℕ

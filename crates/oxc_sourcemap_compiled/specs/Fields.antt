@@ -1,10 +1,11 @@
--- The values of fields of tokens. Tokens stand in blocks of 64, one after the other, and each field of a token behind that before it, bit by
--- bit: in twice as many bits as the width of the field in that block. So four tokens take a whole number of bytes, the sum of the widths.
+-- The values of fields of tokens. Tokens stand in blocks, one after the other, and each field of a token behind that before it, bit by bit:
+-- in twice as many bits as the width of the field in that block. So four tokens take a whole number of bytes, the sum of the widths.
 use Rattle.std.specs.Prelude.{ℕ, ◌+◌, ◌*◌, ◌/◌, ◌%◌, ◌^◌, ◌≤◌, List, length, take, drop, get_or}
 use Rattle.std.specs.Prelude.{min, sum, nat_le, if◌then◌else◌}
 use Rattle.oxc_sourcemap_compiled.specs.Numbers.{number_at}
-use Rattle.oxc_sourcemap_compiled.specs.Layout.{rows_base, groups_base}
+use Rattle.oxc_sourcemap_compiled.specs.Layout.{rows_base, groups_base, block_size}
 use Rattle.oxc_sourcemap_compiled.specs.declared.fields.Field.{Field}
+use Rattle.oxc_sourcemap_compiled.specs.declared.fields.Row.{Row}
 use Rattle.oxc_sourcemap_compiled.specs.declared.layout.Header.{Header}
 
 -- a field whose values have at most 32 bits
@@ -14,12 +15,15 @@ pub record IsField (f : Field) : Type 0 where
   pub stride : f.stride ≤ 1275
   pub at : f.at ≤ 1099511627776
 
--- the value of a field in a token, by the number of the token in its block; the least one where it lies past the end
-unfoldable pub value_in : List ℕ → Field → ℕ → ℕ
-value_in bytes f j =
-    let bit = f.first + j * (2 * f.stride) in
+-- the value of a field that begins at a bit of its block; the least one where it lies past the end
+unfoldable pub value_at : List ℕ → Field → ℕ → ℕ
+value_at bytes f bit =
     let at = f.at + bit / 8 in
     if nat_le (at + 8) (length bytes) then (f.least + number_at 8 bytes at / 2 ^ (bit % 8) % 2 ^ (2 * f.width)) % 2 ^ 32 else f.least
+
+-- the value of a field in a token, by the number of the token in its block
+abbrev pub value_in : List ℕ → Field → ℕ → ℕ
+value_in bytes f j = value_at bytes f (f.first + j * (2 * f.stride))
 
 -- where the row of a block lies: 4 bytes for where its groups begin, 4 for the least value of each field, 1 for each width
 abbrev pub row_base : Header → ℕ → ℕ
@@ -41,6 +45,24 @@ field_in bytes h b k =
       width = min (get_or widths k 0) 16;
     }
 
+-- the five fields of a block have values of at most 32 bits
+pub record AreFields (row : Row) : Type 0 where
+  pub column : IsField row.column
+  pub source : IsField row.source
+  pub src_line : IsField row.src_line
+  pub src_col : IsField row.src_col
+  pub name : IsField row.name
+
+-- how a block is read: its five fields
+abbrev pub row_in : List ℕ → Header → ℕ → Row
+row_in bytes h b = record {
+  column = field_in bytes h b 0;
+  source = field_in bytes h b 1;
+  src_line = field_in bytes h b 2;
+  src_col = field_in bytes h b 3;
+  name = field_in bytes h b 4;
+}
+
 -- the value of a field of a token, by the number of the field and the index of the token
 abbrev pub value_of : List ℕ → Header → ℕ → ℕ → ℕ
-value_of bytes h k i = value_in bytes (field_in bytes h (i / 64) k) (i % 64)
+value_of bytes h k i = value_in bytes (field_in bytes h (i / block_size h.tokens) k) (i % block_size h.tokens)

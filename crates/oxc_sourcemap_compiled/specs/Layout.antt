@@ -1,5 +1,6 @@
 -- Where the parts of a compiled map lie, and whether bytes are one.
-use Rattle.std.specs.Prelude.{ℕ, ◌+◌, ◌*◌, ◌/◌, ◌≤◌, List, length, Option, Some, None, not, nat_lt}
+use Rattle.std.specs.Prelude.{ℕ, ◌+◌, ◌-◌, ◌*◌, ◌/◌, ◌≤◌, List, length, Option, Some, None, not, nat_lt}
+use Rattle.std.specs.Prelude.{nat_le}
 use Rattle.std.specs.Prelude.{◌==◌}
 use Rattle.std.specs.Prelude.{◌||◌, if◌then◌else◌}
 use Rattle.oxc_sourcemap_compiled.specs.Numbers.{number_at}
@@ -23,9 +24,20 @@ header_in bytes = record {
   group_bytes = number_at 4 bytes 84;
 }
 
--- how many blocks of 64 tokens there are, the last one of fewer
+-- how many groups of four tokens a block has, of a map with this many tokens: 4096, so all, where there are at most 16384, else 16
+abbrev pub block_groups : ℕ → ℕ
+block_groups tokens = if nat_le tokens 16384 then 4096 else 16
+
+-- how many tokens a block has
+abbrev pub block_size : ℕ → ℕ
+block_size tokens = 4 * block_groups tokens
+
+-- how many blocks this many tokens take, the last one with fewer
+abbrev pub blocks_for : ℕ → ℕ
+blocks_for tokens = (tokens + (block_size tokens - 1)) / block_size tokens
+
 abbrev pub block_count : Header → ℕ
-block_count h = (h.tokens + 63) / 64
+block_count h = blocks_for h.tokens
 
 -- sources, contents and names, and the three texts that are in no list
 abbrev pub text_count : Header → ℕ

@@ -8,7 +8,7 @@ use Rattle.oxc_sourcemap_lookup.specs.Biased.{index_by}
 use Rattle.oxc_sourcemap_lookup.specs.Lookup.{no_column_goes_back}
 use Rattle.oxc_sourcemap_lookup.specs.declared.bias.Bias.{Bias}
 use Rattle.oxc_sourcemap_compiled.specs.Numbers.{number_at}
-use Rattle.oxc_sourcemap_compiled.specs.Layout.{header_in, block_count}
+use Rattle.oxc_sourcemap_compiled.specs.Layout.{header_in, block_count, block_size}
 use Rattle.oxc_sourcemap_compiled.specs.Fields.{value_of, row_base}
 use Rattle.oxc_sourcemap_compiled.specs.CompiledMeaning.{token_in, start_in, line_in, entry_tokens}
 use Rattle.oxc_sourcemap_compiled.specs.CompiledMeaning.{entry_begin, entry_end, compiled_in}
@@ -31,8 +31,8 @@ least_column_of bytes h b = number_at 4 bytes (row_base h b + 4)
 -- Where the first token of a block has the least column there, the row of the block has this column.
 abbrev pub AreRowsExact : List ℕ → Header → Type 0
 AreRowsExact bytes h = (b : ℕ) → b < block_count h
-    → ((i : ℕ) → i < h.tokens → i / 64 ≡ b → column_of bytes h (64 * b) ≤ column_of bytes h i)
-    → least_column_of bytes h b ≡ column_of bytes h (64 * b)
+    → ((i : ℕ) → i < h.tokens → i / block_size h.tokens ≡ b → column_of bytes h (block_size h.tokens * b) ≤ column_of bytes h i)
+    → least_column_of bytes h b ≡ column_of bytes h (block_size h.tokens * b)
 
 -- Lines begin where those before them end, their numbers rise, no column goes back on a line, and rows are exact. All of it can be
 -- computed from the bytes; it holds of what `compile` makes.

@@ -1,8 +1,10 @@
 //! Fields of the tokens of a block, bit by bit.
 ghost use Rattle.std.specs.Prelude.{◌≡◌, ◌+◌, ◌-◌, ◌*◌, ◌/◌, ◌%◌, ◌^◌, ◌≤◌, ◌<◌, length};
-ghost use Rattle.oxc_sourcemap_compiled.specs.Words.{IsField, value_in};
+ghost use Rattle.oxc_sourcemap_compiled.specs.Words.{IsField, AreFields, value_at, value_in};
+ghost use Rattle.oxc_sourcemap_compiled.specs.Words.{stored_id, token_at};
 
 use crate::numbers::u64_at;
+use oxc_sourcemap_tokens::Token;
 
 /// One field of the tokens of a block: where the block lies, at which bit of each token the field begins, how many bytes four tokens
 /// take and four values of the field, and what is added to each value.
@@ -35,20 +37,67 @@ fn bits_from(word: u64, from: usize, bits: usize) -> u32
 }
 
 impl Field {
-    /// The value of the field in a token of the block, by the number of the token there.
+    /// The value of the field that begins at a bit of the block.
     #[inline(always)]
-    #[tactic(auto, unfolding(crate::specs::Fields::value_in))]
-    pub(crate) fn value(&self, bytes: &[u8], j: usize) -> u32
+    #[tactic(auto, unfolding(crate::specs::Fields::value_at))]
+    pub(crate) fn value_at(&self, bytes: &[u8], bit: usize) -> u32
         requires field { IsField self.now }
-        requires there { j < 64 }
-        ensures { result ≡ value_in bytes.now self.now j }
+        requires there { bit ≤ 4294967295 }
+        ensures { result ≡ value_at bytes.now self.now bit }
     {
-        let bit = self.first + j * (2 * self.stride);
         let at = self.at + bit / 8;
         if at + 8 > bytes.len() {
             return self.least;
         }
         let above = bits_from(u64_at(bytes, at), bit % 8, 2 * self.width);
         self.least.wrapping_add(above)
+    }
+
+    /// The value of the field in a token of the block, by the number of the token there.
+    #[inline(always)]
+    pub(crate) fn value(&self, bytes: &[u8], j: usize) -> u32
+        requires field { IsField self.now }
+        requires there { j < 16384 }
+        ensures { result ≡ value_in bytes.now self.now j }
+    {
+        self.value_at(bytes, self.first + j * (2 * self.stride))
+    }
+}
+
+/// How a block is read: the fields of its tokens.
+#[derive(Clone, Copy)]
+pub(crate) struct Row {
+    pub(crate) column: Field,
+    pub(crate) source: Field,
+    pub(crate) src_line: Field,
+    pub(crate) src_col: Field,
+    pub(crate) name: Field,
+}
+
+/// The id that a stored number stands for: it is one more, and 0 for none.
+fn id_from(stored: u32) -> Option<u32>
+    ensures { result ≡ stored_id stored }
+{
+    stored.checked_sub(1)
+}
+
+impl Row {
+    /// The token of this number in the block, on a line.
+    #[inline(always)]
+    pub(crate) fn token(&self, bytes: &[u8], line: u32, j: usize) -> Token
+        requires fields { AreFields self.now }
+        requires there { j < 16384 }
+        ensures { result ≡ token_at bytes.now self.now line j }
+    {
+        let source_id = id_from(self.source.value(bytes, j));
+        let name_id = id_from(self.name.value(bytes, j));
+        Token::new(
+            line,
+            self.column.value(bytes, j),
+            self.src_line.value(bytes, j),
+            self.src_col.value(bytes, j),
+            source_id,
+            name_id,
+        )
     }
 }

@@ -1,7 +1,7 @@
 //! Where the parts of a compiled map lie.
-ghost use Rattle.std.specs.Prelude.{◌≡◌, ◌≤◌, length, IfOk, IfErr, None, Some};
+ghost use Rattle.std.specs.Prelude.{◌≡◌, ◌+◌, ◌/◌, ◌<◌, ◌≤◌, length, IfOk, IfErr, None, Some};
 ghost use Rattle.oxc_sourcemap_compiled.specs.Words.{header_in, layout_in, AreCounts, HasParts};
-ghost use Rattle.oxc_sourcemap_compiled.specs.Words.{block_count, text_count, compiled_fault};
+ghost use Rattle.oxc_sourcemap_compiled.specs.Words.{block_groups, blocks_for, compiled_fault};
 ghost use Rattle.oxc_sourcemap_compiled.specs.Words.{listed_count};
 
 use crate::errors::CompiledError;
@@ -32,6 +32,37 @@ pub(crate) struct Layout {
     pub(crate) line_numbers: usize,
     pub(crate) groups: usize,
     pub(crate) texts: usize,
+}
+
+/// How many groups of four tokens a block has, of a map with this many tokens.
+pub(crate) fn groups_in_block(tokens: usize) -> usize
+    ensures value { result ≡ block_groups tokens }
+    ensures some { 16 ≤ result }
+    ensures few { result ≤ 4096 }
+{
+    if tokens <= 16384 { 4096 } else { 16 }
+}
+
+/// The block of a group of this many tokens.
+#[inline(always)]
+pub(crate) fn block_with(tokens: usize, group: usize) -> usize
+    requires { group < (tokens + 3) / 4 }
+    ensures { result ≡ group / block_groups tokens }
+{
+    if tokens <= 16384 { 0 } else { group / 16 }
+}
+
+/// How many blocks this many tokens take.
+pub(crate) fn count_blocks(tokens: usize) -> usize
+    requires { tokens ≤ 4294967295 }
+    ensures value { result ≡ blocks_for tokens }
+    ensures few { result ≤ 67108864 }
+{
+    if tokens <= 16384 {
+        (tokens + 16383) / 16384
+    } else {
+        (tokens + 63) / 64
+    }
 }
 
 /// What the header of these bytes counts.
@@ -70,7 +101,7 @@ pub(crate) fn layout_of(header: &Header) -> Layout
     ensures { result ≡ layout_in header.now }
 {
     let rows = 88 + 4 * (header.lines + 1);
-    let ignored = rows + 29 * ((header.tokens + 63) / 64);
+    let ignored = rows + 29 * count_blocks(header.tokens);
     let offsets = ignored + 4 * header.ignored;
     let line_numbers = offsets + 4 * (2 * header.sources + header.names + 4);
     let groups = line_numbers + 4 * listed_lines(header);

@@ -57,7 +57,7 @@ impl<'a> Opened<'a> {
         }
         let before = self.column_cut(span.start, span.end - 1, u64::from(col), steps);
         *steps += 1;
-        before + usize::from(self.value(0, before) <= col)
+        before + usize::from(self.column(before) <= col)
     }
 
     /// The index of the token that a lookup from `col` on finds among these, which are all on one line; the end if it finds none.
@@ -78,7 +78,7 @@ impl<'a> Opened<'a> {
         }
         let last = self.column_cut(span.start + 1, span.end, u64::from(col) + 1, steps) - 1;
         *steps += 1;
-        last + usize::from(self.value(0, last) < col)
+        last + usize::from(self.column(last) < col)
     }
 
     /// The index of the token that a lookup finds among those of an entry of lines.

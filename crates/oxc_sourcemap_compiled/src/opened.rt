@@ -1,18 +1,20 @@
 //! What is opened: bytes, and where the parts of the map lie in them.
 ghost use Rattle.std.specs.Prelude.{◌≡◌, ◌+◌, ◌*◌, ◌≤◌, ◌<◌, length, sum, take, IfOk, IfErr, None};
-ghost use Rattle.std.specs.Prelude.{true};
+ghost use Rattle.std.specs.Prelude.{true, false};
 ghost use Rattle.std.specs.Prelude.{Some};
 ghost use Rattle.oxc_sourcemap_tokens.specs.Results.{lent_item};
 ghost use Rattle.oxc_sourcemap_compiled.specs.Words.{IsOpened, IsField, block_count, text_count};
-ghost use Rattle.oxc_sourcemap_compiled.specs.Words.{field_in, value_of, token_in, start_in};
+ghost use Rattle.oxc_sourcemap_compiled.specs.Words.{AreFields, HasParts, layout_in, row_base};
+ghost use Rattle.oxc_sourcemap_compiled.specs.Words.{field_in, row_in, token_in, start_in};
+ghost use Rattle.oxc_sourcemap_compiled.specs.Words.{column_of};
 ghost use Rattle.oxc_sourcemap_compiled.specs.Words.{ignored_in, text_in, optional_in, offset_in};
-ghost use Rattle.oxc_sourcemap_compiled.specs.Words.{part_between, stored_id, compiled_fault};
+ghost use Rattle.oxc_sourcemap_compiled.specs.Words.{part_between, compiled_fault};
 ghost use Rattle.oxc_sourcemap_compiled.specs.Words.{number_in_list, listed_in};
 ghost use Rattle.std.specs.List.{range_with_len, Contains};
 ghost use Rattle.std.specs.Prelude.{map, IsTrue, ◌↔◌};
 
 use crate::errors::CompiledError;
-use crate::fields::Field;
+use crate::fields::{Field, Row};
 use crate::layout::{Header, Layout, checked_header, layout_of};
 use crate::numbers::u32_at;
 use oxc_sourcemap_tokens::Token;
@@ -23,6 +25,8 @@ pub(crate) struct Opened<'a> {
     pub(crate) bytes: &'a [u8],
     pub(crate) header: Header,
     pub(crate) layout: Layout,
+    /// The first block, which is the only one of a map of at most 16384 tokens.
+    pub(crate) front: Row,
 }
 
 /// The sum of the first of five widths.
@@ -54,11 +58,44 @@ fn width_of_all(widths: &[u8]) -> usize
     front + usize::from(widths[3]) + usize::from(widths[4])
 }
 
-/// The id that a stored number stands for: it is one more, and 0 for none.
-fn id_from(stored: u32) -> Option<u32>
-    ensures { result ≡ stored_id stored }
+/// A field of a block, by its number.
+#[inline(always)]
+#[tactic(auto, unfolding(crate::specs::Fields::field_in))]
+fn read_field(bytes: &[u8], header: &Header, layout: &Layout, b: usize, k: usize) -> Field
+    requires parts { HasParts (length bytes.now) header.now }
+    requires layout { layout.now ≡ layout_in header.now }
+    requires there { row_base header.now b + 29 ≤ length bytes.now }
+    requires few { k < 5 }
+    ensures field { IsField result }
+    ensures value { result ≡ field_in bytes.now header.now b k }
 {
-    stored.checked_sub(1)
+    let row = layout.rows + 29 * b;
+    let widths = &bytes[row + 24..row + 29];
+    Field {
+        least: u32_at(bytes, row + 4 + 4 * k),
+        at: layout.groups + u32_at(bytes, row) as usize,
+        first: 2 * width_before(widths, k),
+        stride: width_of_all(widths),
+        width: usize::from(widths[k]).min(16),
+    }
+}
+
+/// How a block is read.
+#[inline(always)]
+fn read_row(bytes: &[u8], header: &Header, layout: &Layout, b: usize) -> Row
+    requires parts { HasParts (length bytes.now) header.now }
+    requires layout { layout.now ≡ layout_in header.now }
+    requires there { row_base header.now b + 29 ≤ length bytes.now }
+    ensures fields { AreFields result }
+    ensures row { result ≡ row_in bytes.now header.now b }
+{
+    Row {
+        column: read_field(bytes, header, layout, b, 0),
+        source: read_field(bytes, header, layout, b, 1),
+        src_line: read_field(bytes, header, layout, b, 2),
+        src_col: read_field(bytes, header, layout, b, 3),
+        name: read_field(bytes, header, layout, b, 4),
+    }
 }
 
 /// The part of bytes from one index to another; None where they have none.
@@ -83,10 +120,12 @@ impl<'a> Opened<'a> {
         match checked_header(bytes) {
             Ok(header) => {
                 let layout = layout_of(&header);
+                let front = read_row(bytes, &header, &layout, 0);
                 Ok(Opened {
                     bytes,
                     header,
                     layout,
+                    front,
                 })
             }
             Err(error) => Err(error),
@@ -115,37 +154,38 @@ impl<'a> Opened<'a> {
         u32_at(self.bytes, self.layout.line_numbers + 4 * k)
     }
 
-    /// A field of a block, by its number.
+    /// Whether all tokens are in one block.
     #[inline(always)]
-    #[tactic(auto, unfolding(crate::specs::Fields::field_in))]
-    pub(crate) fn field(&self, b: usize, k: usize) -> Field
-        requires opened { IsOpened self.now }
-        requires there { b < block_count self.now.header }
-        requires few { k < 5 }
-        ensures field { IsField result }
-        ensures value { result ≡ field_in self.now.bytes.now self.now.header b k }
+    pub(crate) fn is_one_block(&self) -> bool
+        ensures few { result ≡ true → self.now.header.tokens ≤ 16384 }
+        ensures many { result ≡ false → 16384 < self.now.header.tokens }
     {
-        let bytes = self.bytes;
-        let row = self.layout.rows + 29 * b;
-        let widths = &bytes[row + 24..row + 29];
-        Field {
-            least: u32_at(bytes, row + 4 + 4 * k),
-            at: self.layout.groups + u32_at(bytes, row) as usize,
-            first: 2 * width_before(widths, k),
-            stride: width_of_all(widths),
-            width: usize::from(widths[k]).min(16),
-        }
+        self.header.tokens <= 16384
     }
 
-    /// The value of a field of a token, by the number of the field.
+    /// The columns of a block.
     #[inline(always)]
-    pub(crate) fn value(&self, k: usize, i: usize) -> u32
+    pub(crate) fn columns(&self, b: usize) -> Field
         requires opened { IsOpened self.now }
-        requires few { k < 5 }
-        requires there { i < self.now.header.tokens }
-        ensures { result ≡ value_of self.now.bytes.now self.now.header k i }
+        requires there { b < block_count self.now.header }
+        ensures field { IsField result }
+        ensures value { result ≡ field_in self.now.bytes.now self.now.header b 0 }
     {
-        self.field(i / 64, k).value(self.bytes, i % 64)
+        read_field(self.bytes, &self.header, &self.layout, b, 0)
+    }
+
+    /// The column of a token.
+    #[inline(always)]
+    pub(crate) fn column(&self, i: usize) -> u32
+        requires opened { IsOpened self.now }
+        requires there { i < self.now.header.tokens }
+        ensures { result ≡ column_of self.now.bytes.now self.now.header i }
+    {
+        if self.is_one_block() {
+            self.front.column.value(self.bytes, i)
+        } else {
+            self.columns(i / 64).value(self.bytes, i % 64)
+        }
     }
 
     /// The token at an index, on this line.
@@ -155,16 +195,11 @@ impl<'a> Opened<'a> {
         requires there { i < self.now.header.tokens }
         ensures { result ≡ token_in self.now.bytes.now self.now.header line i }
     {
-        let source_id = id_from(self.value(1, i));
-        let name_id = id_from(self.value(4, i));
-        Token::new(
-            line,
-            self.value(0, i),
-            self.value(2, i),
-            self.value(3, i),
-            source_id,
-            name_id,
-        )
+        if self.is_one_block() {
+            self.front.token(self.bytes, line, i)
+        } else {
+            read_row(self.bytes, &self.header, &self.layout, i / 64).token(self.bytes, line, i % 64)
+        }
     }
 
     /// An entry of the ignore list.

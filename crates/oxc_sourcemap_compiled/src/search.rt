@@ -21,14 +21,22 @@ fn mask_if_less(x: u32, y: u64) -> usize
     (u128::from(x).wrapping_sub(u128::from(y)) >> 64) as usize
 }
 
-/// `count` if x is less than y, else 0; without a branch, which would often be mispredicted. One call is one step of a search.
-fn count_if_less(x: u32, y: u64, count: usize, steps: &mut u64) -> usize
+/// `count` if x is less than y, else 0; without a branch, which would often be mispredicted.
+#[inline(always)]
+fn count_if_less(x: u32, y: u64, count: usize) -> usize
+    ensures { result ≡ (if nat_lt x y then count else 0) }
+{
+    count & mask_if_less(x, y)
+}
+
+/// As `count_if_less`, as one step of a search.
+fn step_if_less(x: u32, y: u64, count: usize, steps: &mut u64) -> usize
     requires { steps.old ≤ 4294967295 }
     ensures value { result ≡ (if nat_lt x y then count else 0) }
     ensures counted { steps.new ≡ steps.old + 1 }
 {
     *steps += 1;
-    count & mask_if_less(x, y)
+    count_if_less(x, y, count)
 }
 
 impl Field {
@@ -36,22 +44,26 @@ impl Field {
     #[inline(always)]
     fn cut(&self, bytes: &[u8], first: usize, count: usize, limit: u64, steps: &mut u64) -> usize
         requires field { IsField self.now }
-        requires there { first + count ≤ 64 }
+        requires there { first + count ≤ 16384 }
         requires few { steps.old ≤ 65535 }
         ensures counted { steps.new ≡ steps.old + binary_digits count }
-        ensures few { steps.new ≤ steps.old + 7 }
+        ensures few { steps.new ≤ steps.old + 15 }
         ensures reached { first ≤ result }
         ensures within { result ≤ first + count }
         ensures cut { (cut : ℕ)
             → IsCut (value_in bytes.now self.now) limit first (first + count) cut
             → result ≡ cut }
     {
+        let bits = 2 * self.stride;
         let mut start = first;
+        let mut bit = self.first + first * bits;
         let mut size = count;
         while size > 0 {
             let half = size / 2;
             let step = size - half;
-            start += count_if_less(self.value(bytes, start + step - 1), limit, step, steps);
+            let value = self.value_at(bytes, bit + (step - 1) * bits);
+            start += step_if_less(value, limit, step, steps);
+            bit += count_if_less(value, limit, step * bits);
             size = half;
         }
         start
@@ -87,18 +99,19 @@ impl<'a> Opened<'a> {
         while size > 0 {
             let half = size / 2;
             let step = size - half;
-            start += count_if_less(self.least_column(start + step - 1), limit, step, steps);
+            start += step_if_less(self.least_column(start + step - 1), limit, step, steps);
             size = half;
         }
         start
     }
 
-    /// The block in which the columns of tokens stop being below `limit`, or whose last token is the last below it, among the
-    /// tokens from `first` to before `end`. With the halving of some tokens of the block, few more steps are taken than there are
+    /// The block of 64 tokens in which columns stop being below `limit`, or whose last token is the last below it, among the tokens
+    /// from `first` to before `end`. With the halving of some tokens of the block, few more steps are taken than there are
     /// binary digits in the number of tokens.
     #[inline(always)]
     fn block_with_cut(&self, first: usize, end: usize, limit: u64, steps: &mut u64) -> usize
         requires opened { IsOpened self.now }
+        requires many { 16384 < self.now.header.tokens }
         requires some { first < end }
         requires there { end ≤ self.now.header.tokens }
         requires few { steps.old ≤ 256 }
@@ -119,7 +132,7 @@ impl<'a> Opened<'a> {
         }
         let block = self.block_cut(front + 1, last - front - 1, limit, steps) - 1;
         *steps += 1;
-        if block + 1 == last && u64::from(self.value(0, 64 * last)) < limit {
+        if block + 1 == last && u64::from(self.column(64 * last)) < limit {
             last
         } else {
             block
@@ -134,7 +147,7 @@ impl<'a> Opened<'a> {
         requires there { end ≤ self.now.header.tokens }
         requires few { steps.old ≤ 256 }
         ensures counted { steps.new ≤ steps.old + binary_digits (end - first) + 2 }
-        ensures few { steps.new ≤ steps.old + 40 }
+        ensures few { steps.new ≤ steps.old + 48 }
         ensures reached { first ≤ result }
         ensures within { result ≤ end }
         ensures cut { AreRowsExact self.now.bytes.now self.now.header
@@ -145,12 +158,18 @@ impl<'a> Opened<'a> {
         if first == end {
             return first;
         }
+        if self.is_one_block() {
+            return self
+                .front
+                .column
+                .cut(self.bytes, first, end - first, limit, steps);
+        }
         let block = self.block_with_cut(first, end, limit, steps);
         let base = 64 * block;
         let start = base.max(first) - base;
         let stop = (base + 64).min(end) - base;
         base + self
-            .field(block, 0)
+            .columns(block)
             .cut(self.bytes, start, stop - start, limit, steps)
     }
 
@@ -171,7 +190,7 @@ impl<'a> Opened<'a> {
         while size > 0 {
             let half = size / 2;
             let step = size - half;
-            start += count_if_less(
+            start += step_if_less(
                 self.line_number(start + step - 1),
                 u64::from(line),
                 step,

@@ -11,7 +11,7 @@ ghost use Rattle.oxc_sourcemap_compiled.specs.Words.{AreLinesOf, AreBlocksOf, Ar
 ghost use Rattle.oxc_sourcemap_compiled.specs.Words.{AreBytesOf, ignored_of, header_bytes};
 ghost use Rattle.oxc_sourcemap_compiled.specs.Words.{parts_bytes, stored_count, text_offset};
 ghost use Rattle.oxc_sourcemap_compiled.specs.Words.{header_of_map};
-ghost use Rattle.oxc_sourcemap_compiled.specs.Words.{group_bytes_of};
+ghost use Rattle.oxc_sourcemap_compiled.specs.Words.{all_group_bytes};
 ghost use Rattle.oxc_sourcemap_compiled.specs.Compiled.{map_bytes};
 ghost use Rattle.oxc_sourcemap_compiled.specs.Words.{compiled_meaning, compiled_of, FitsFormat};
 ghost use Rattle.oxc_sourcemap_compiled.specs.Words.{IsInOrder, FitsCompiled};
@@ -24,7 +24,7 @@ mod lines;
 mod pushing;
 mod texts;
 
-use crate::layout::{Header, layout_of};
+use crate::layout::{Header, groups_in_block, layout_of};
 use crate::writing::blocks::{Block, blocks_of, group_bytes, push_groups, push_rows};
 use crate::writing::fitting::{have_32_bits, parts_fit};
 use crate::writing::lines::{all_lines, filled_lines, line_count, push_starts};
@@ -138,7 +138,12 @@ fn push_parts(
 {
     let tokens = parts.tokens.as_slice();
     push_starts(out, tokens, lines)?;
-    push_rows(out, blocks, (tokens.len() + 3) / 4)?;
+    push_rows(
+        out,
+        blocks,
+        groups_in_block(tokens.len()),
+        (tokens.len() + 3) / 4,
+    )?;
     push_table(out, ignored_ids(parts))?;
     push_offsets(out, parts)?;
     push_listed(out, lines, has_line_numbers)?;
@@ -160,8 +165,8 @@ struct Made<'m> {
 
 /// The header of a compiled map.
 fn header_for(parts: &SourceMapParts<'_>, made: Made<'_>) -> Header
-    requires { made.group_bytes ≡ group_bytes_of
-        ((length (record_of_parts parts.now).tokens + 3) / 4) made.blocks.now }
+    requires { made.group_bytes
+        ≡ all_group_bytes (record_of_parts parts.now).tokens made.blocks.now }
     ensures { result ≡ header_of_map (record_of_parts parts.now) made.entry.lines.now
         made.entry.has_line_numbers made.entry.blocks.now }
 {
@@ -191,8 +196,8 @@ fn write_map(
     requires few_groups { made.group_bytes ≤ 4294967295 }
     requires few_texts { made.text_bytes ≤ 4294967295 }
     requires blocks { AreBlocksOf (record_of_parts parts.now).tokens made.blocks.now }
-    requires group_bytes { made.group_bytes ≡ group_bytes_of
-        ((length (record_of_parts parts.now).tokens + 3) / 4) made.blocks.now }
+    requires group_bytes { made.group_bytes
+        ≡ all_group_bytes (record_of_parts parts.now).tokens made.blocks.now }
     requires text_bytes { made.text_bytes ≡ text_offset (record_of_parts parts.now)
         (stored_count (record_of_parts parts.now)) }
     ensures { IfOk result (λ bytes. bytes.items ≡ map_bytes (record_of_parts parts.now)
@@ -260,7 +265,11 @@ pub fn compile(
     }
     let (lines, has_line_numbers) = entries_of(alloc, tokens)?;
     let blocks = blocks_of(alloc, tokens)?;
-    let group_bytes = group_bytes(blocks.as_slice(), (tokens.len() + 3) / 4);
+    let group_bytes = group_bytes(
+        blocks.as_slice(),
+        groups_in_block(tokens.len()),
+        (tokens.len() + 3) / 4,
+    );
     let text_bytes = text_bytes(parts);
     if group_bytes > 4294967295 || text_bytes > 4294967295 {
         return Err(PlanError::Map(Error::TooLarge));

@@ -1,9 +1,9 @@
-//! Blocks of 64 tokens: their rows, and their groups of four.
+//! Blocks of tokens: their rows, and their groups of four.
 ghost use Rattle.std.specs.Prelude.{◌≡◌, ◌≤◌, ◌<◌, ◌+◌, ◌-◌, ◌*◌, ◌/◌, ◌^◌, ℕ, IfOk, OnOk, length};
 ghost use Rattle.std.specs.Prelude.{get_or, slice_get, List};
 ghost use Rattle.std.specs.Prelude.{◌++◌, take, drop};
 ghost use Rattle.oxc_sourcemap_compiled.specs.Words.{field_number, IsPacked, ArePacked};
-ghost use Rattle.oxc_sourcemap_compiled.specs.Words.{AreBlocksOf};
+ghost use Rattle.oxc_sourcemap_compiled.specs.Words.{AreBlocksOf, block_groups};
 ghost use Rattle.oxc_sourcemap_compiled.specs.Words.{stride_of, rows_of, token_bits};
 ghost use Rattle.oxc_sourcemap_compiled.specs.Words.{group_of, FieldsFit, IsWritten};
 ghost use Rattle.oxc_sourcemap_compiled.specs.Words.{group_bytes_of, id_number, row_of, above_in};
@@ -13,6 +13,7 @@ ghost use Rattle.oxc_sourcemap_tokens.specs.Results.{lent_item};
 ghost use Rattle.std.specs.Prelude.{IfSome};
 ghost use Rattle.std.specs.List.{All};
 
+use crate::layout::{block_with, count_blocks, groups_in_block};
 use crate::writing::pushing::{push_number, push_u32};
 use oxc_sourcemap_tokens::{Memory, Token};
 use std::alloc::Global;
@@ -35,6 +36,7 @@ pub(crate) struct Block {
 }
 
 /// An id as it is stored: one more, and 0 for none.
+#[inline(always)]
 fn stored_id(id: Option<u32>) -> u32
     requires { IfSome id (λ n. n < 4294967295) }
     ensures { result ≡ id_number id }
@@ -46,6 +48,7 @@ fn stored_id(id: Option<u32>) -> u32
 }
 
 /// A field of a token, by its number.
+#[inline(always)]
 fn field_of(token: &Token, k: usize) -> u32
     requires { k < 5 }
     ensures { result ≡ field_number k token.now }
@@ -86,6 +89,7 @@ fn width_of(most: u32) -> u8
 }
 
 /// How a field of these tokens is written.
+#[inline(always)]
 fn packing_of(tokens: &[Token], k: usize) -> Packing
     requires field { k < 5 }
     requires some { 0 < length tokens.now }
@@ -123,11 +127,12 @@ pub(crate) fn blocks_of(alloc: Global, tokens: &[Token]) -> Memory<Vec<Block>>
     requires { length tokens.now ≤ 4294967295 }
     ensures { IfOk result (λ blocks. AreBlocksOf tokens.now blocks.items) }
 {
-    let count = (tokens.len() + 63) / 64;
+    let size = 4 * groups_in_block(tokens.len());
+    let count = count_blocks(tokens.len());
     let mut blocks = Vec::with_capacity(alloc, count)?;
     for b in 0..count {
-        let end = (64 * b + 64).min(tokens.len());
-        blocks.push(block_of(&tokens[64 * b..end]))?;
+        let end = (size * b + size).min(tokens.len());
+        blocks.push(block_of(&tokens[size * b..end]))?;
     }
     Ok(blocks)
 }
@@ -145,19 +150,18 @@ fn stride(block: &Block) -> usize
         + usize::from(block.name.width)
 }
 
-/// How many bytes all groups take.
-pub(crate) fn group_bytes(blocks: &[Block], groups: usize) -> usize
-    requires few { length blocks.now ≤ 67108864 }
+/// How many bytes all groups take, if so many are in each block but the last.
+pub(crate) fn group_bytes(blocks: &[Block], each: usize, groups: usize) -> usize
+    requires groups { groups ≤ 1073741824 }
     requires narrow { All AreNarrow blocks.now }
-    ensures value { result ≡ group_bytes_of groups blocks.now }
-    ensures small { result ≤ 85899345920 }
+    ensures value { result ≡ group_bytes_of each groups blocks.now }
     ensures most { result ≤ 80 * groups }
 {
     let mut sum = 0;
     let mut rest = groups;
     for block in blocks {
-        sum += rest.min(16) * stride(block);
-        rest = rest.saturating_sub(16);
+        sum += rest.min(each) * stride(block);
+        rest = rest.saturating_sub(each);
     }
     sum
 }
@@ -181,23 +185,29 @@ fn push_row(out: &mut Vec<u8>, block: &Block, place: usize) -> Memory<()>
     Ok(())
 }
 
-/// Appends the rows of blocks.
-pub(crate) fn push_rows(out: &mut Vec<u8>, blocks: &[Block], groups: usize) -> Memory<()>
-    requires few { length blocks.now ≤ 67108864 }
+/// Appends the rows of blocks, if so many groups are in each but the last.
+pub(crate) fn push_rows(
+    out: &mut Vec<u8>,
+    blocks: &[Block],
+    each: usize,
+    groups: usize,
+) -> Memory<()>
+    requires groups { groups ≤ 1073741824 }
     requires narrow { All AreNarrow blocks.now }
-    ensures { OnOk result (out.new.items ≡ out.old.items ++ rows_of 0 groups blocks.now) }
+    ensures { OnOk result (out.new.items ≡ out.old.items ++ rows_of 0 each groups blocks.now) }
 {
     let mut place = 0;
     let mut rest = groups;
     for block in blocks {
         push_row(out, block, place)?;
-        place += rest.min(16) * stride(block);
-        rest = rest.saturating_sub(16);
+        place += rest.min(each) * stride(block);
+        rest = rest.saturating_sub(each);
     }
     Ok(())
 }
 
 /// What is written of a field in a token; 0 where there is none.
+#[inline(always)]
 fn above(token: Option<&Token>, k: usize, packing: Packing) -> u32
     requires { k < 5 }
     ensures { result ≡ above_in k packing (lent_item token.entry) }
@@ -216,10 +226,11 @@ pub(crate) struct Rest {
 }
 
 /// Appends a value of this many bits behind the bits that are left, as far as there are whole bytes. What is left then.
-fn push_bits(out: &mut Vec<u8>, rest: Rest, value: u32, width: usize) -> Memory<Rest>
+#[inline(always)]
+fn push_bits(out: &mut Vec<u8>, rest: Rest, value: u64, width: usize) -> Memory<Rest>
     requires left { rest.bits < 2 ^ rest.count }
     requires few { rest.count ≤ 7 }
-    requires width { width ≤ 32 }
+    requires width { width ≤ 56 }
     requires fits { value < 2 ^ width }
     ensures written { IfOk result (λ r. (old : List ℕ) (bits number : ℕ)
         → IsWritten old out.old.items rest bits number
@@ -227,7 +238,7 @@ fn push_bits(out: &mut Vec<u8>, rest: Rest, value: u32, width: usize) -> Memory<
     ensures left { IfOk result (λ r. r.bits < 2 ^ r.count) }
     ensures few { IfOk result (λ r. r.count ≤ 7) }
 {
-    let all = rest.bits + (u64::from(value) << rest.count);
+    let all = rest.bits + (value << rest.count);
     let count = rest.count + width;
     push_number(out, all, count / 8)?;
     Ok(Rest {
@@ -236,7 +247,82 @@ fn push_bits(out: &mut Vec<u8>, rest: Rest, value: u32, width: usize) -> Memory<
     })
 }
 
-/// Appends a token.
+/// A number of this many bits, and another one above it.
+#[inline(always)]
+fn joined_bits(low: u32, width: usize, high: u64) -> u64
+    requires width { width ≤ 32 }
+    requires fits { low + 2 ^ width * high < 18446744073709551616 }
+    ensures { result ≡ low + 2 ^ width * high }
+{
+    u64::from(low) + (high << width)
+}
+
+/// What is written of a token, in one number, where it has few bits.
+#[inline(always)]
+fn token_number(block: Block, token: Option<&Token>) -> u64
+    requires few { stride_of block ≤ 28 }
+    requires narrow { AreNarrow block }
+    requires fits { FieldsFit block (lent_item token) }
+    ensures { result ≡ token_bits block (lent_item token.entry) }
+{
+    let name = u64::from(above(token, 4, block.name));
+    let src_col = above(token, 3, block.src_col);
+    let more = joined_bits(src_col, 2 * usize::from(block.src_col.width), name);
+    let src_line = above(token, 2, block.src_line);
+    let more = joined_bits(src_line, 2 * usize::from(block.src_line.width), more);
+    let source = above(token, 1, block.source);
+    let more = joined_bits(source, 2 * usize::from(block.source.width), more);
+    let column = above(token, 0, block.column);
+    joined_bits(column, 2 * usize::from(block.column.width), more)
+}
+
+/// Appends a field of a token.
+fn push_field(
+    out: &mut Vec<u8>,
+    rest: Rest,
+    token: Option<&Token>,
+    k: usize,
+    packing: Packing,
+) -> Memory<Rest>
+    requires left { rest.bits < 2 ^ rest.count }
+    requires few { rest.count ≤ 7 }
+    requires field { k < 5 }
+    requires width { packing.width ≤ 16 }
+    requires fits { above_in k packing (lent_item token) < 2 ^ (2 * packing.width) }
+    ensures written { IfOk result (λ r. (old : List ℕ) (bits number : ℕ)
+        → IsWritten old out.old.items rest bits number
+        → IsWritten old out.new.items r (bits + 2 * packing.width)
+        (number + 2 ^ bits * above_in k packing (lent_item token.entry))) }
+    ensures left { IfOk result (λ r. r.bits < 2 ^ r.count) }
+    ensures few { IfOk result (λ r. r.count ≤ 7) }
+{
+    let value = u64::from(above(token, k, packing));
+    push_bits(out, rest, value, 2 * usize::from(packing.width))
+}
+
+/// Appends a token field by field.
+fn push_fields(out: &mut Vec<u8>, rest: Rest, block: Block, token: Option<&Token>) -> Memory<Rest>
+    requires left { rest.bits < 2 ^ rest.count }
+    requires few { rest.count ≤ 7 }
+    requires narrow { AreNarrow block }
+    requires fits { FieldsFit block (lent_item token) }
+    ensures written { IfOk result (λ r. (old : List ℕ) (bits number : ℕ)
+        → IsWritten old out.old.items rest bits number
+        → IsWritten old out.new.items r (bits + 2 * stride_of block)
+        (number + 2 ^ bits * token_bits block (lent_item token.entry))) }
+    ensures left { IfOk result (λ r. r.bits < 2 ^ r.count) }
+    ensures few { IfOk result (λ r. r.count ≤ 7) }
+{
+    let rest = push_field(out, rest, token, 0, block.column)?;
+    let rest = push_field(out, rest, token, 1, block.source)?;
+    let rest = push_field(out, rest, token, 2, block.src_line)?;
+    let rest = push_field(out, rest, token, 3, block.src_col)?;
+    let rest = push_field(out, rest, token, 4, block.name)?;
+    Ok(rest)
+}
+
+/// Appends a token: as one number where it has at most 56 bits, as nearly all have.
+#[inline(always)]
 fn push_token(out: &mut Vec<u8>, rest: Rest, block: Block, token: Option<&Token>) -> Memory<Rest>
     requires left { rest.bits < 2 ^ rest.count }
     requires few { rest.count ≤ 7 }
@@ -249,37 +335,12 @@ fn push_token(out: &mut Vec<u8>, rest: Rest, block: Block, token: Option<&Token>
     ensures left { IfOk result (λ r. r.bits < 2 ^ r.count) }
     ensures few { IfOk result (λ r. r.count ≤ 7) }
 {
-    let rest = push_bits(
-        out,
-        rest,
-        above(token, 0, block.column),
-        2 * usize::from(block.column.width),
-    )?;
-    let rest = push_bits(
-        out,
-        rest,
-        above(token, 1, block.source),
-        2 * usize::from(block.source.width),
-    )?;
-    let rest = push_bits(
-        out,
-        rest,
-        above(token, 2, block.src_line),
-        2 * usize::from(block.src_line.width),
-    )?;
-    let rest = push_bits(
-        out,
-        rest,
-        above(token, 3, block.src_col),
-        2 * usize::from(block.src_col.width),
-    )?;
-    let rest = push_bits(
-        out,
-        rest,
-        above(token, 4, block.name),
-        2 * usize::from(block.name.width),
-    )?;
-    Ok(rest)
+    let stride = stride(&block);
+    if stride <= 28 {
+        push_bits(out, rest, token_number(block, token), 2 * stride)
+    } else {
+        push_fields(out, rest, block, token)
+    }
 }
 
 /// Appends a group of up to four tokens.
@@ -304,7 +365,8 @@ pub(crate) fn push_groups(out: &mut Vec<u8>, blocks: &[Block], tokens: &[Token])
 {
     for g in 0..(tokens.len() + 3) / 4 {
         let end = (4 * g + 4).min(tokens.len());
-        push_group(out, &blocks[g / 16], &tokens[4 * g..end])?;
+        let block = &blocks[block_with(tokens.len(), g)];
+        push_group(out, block, &tokens[4 * g..end])?;
     }
     Ok(())
 }

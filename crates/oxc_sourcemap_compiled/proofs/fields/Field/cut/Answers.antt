@@ -1,30 +1,53 @@
-use Rattle.std.proofs.Common.{◌+◌, ◌-◌, ◌/◌, nat_lt, arith, refl, ap, ◌∙◌, if◌then◌else◌}
+use Rattle.std.proofs.Common.{◌≡◌, ℕ, ◌+◌, ◌-◌, ◌*◌, ◌/◌, ◌<◌, Bool, true, false, nat_lt, arith, refl}
+use Rattle.std.proofs.Common.{ap, ◌∙◌, if◌then◌else◌}
 use Rattle.oxc_sourcemap_lookup.proofs.Halving.{digits-half, digits-below}
-use Rattle.oxc_sourcemap_compiled.specs.Words.{value_in}
+use Rattle.oxc_sourcemap_compiled.specs.Words.{value_at, value_in}
 use Rattle.oxc_sourcemap_compiled.proofs.Searches.{halved-none, halved-more, halved-all}
 use Rattle.oxc_sourcemap_compiled.proofs.fields.Field.cut.Goals as goal
+
+-- the bit of a token so many steps further, and that of where a search goes on
+bit-at : (first bit start step s : ℕ) → bit ≡ first + start * (2 * s) → 0 < step → bit + (step - 1) * (2 * s) ≡ first + (start + step - 1) * (2 * s)
+bit-at first bit start step s is some = by-one (step - 1) (omega (arith, some)) where
+  by-one : (m : ℕ) → start + step - 1 ≡ start + m → bit + m * (2 * s) ≡ first + (start + step - 1) * (2 * s)
+  by-one m e =
+      let there : bit + m * (2 * s) ≡ first + (start + m) * (2 * s) = omega (arith, is) in
+      omega (arith, there, ap (λ n. n * (2 * s)) e)
+
+bit-next : (less : Bool) (first bit start step s moved bits : ℕ) → bit ≡ first + start * (2 * s) → moved ≡ (if less then step else 0) → bits ≡ (if less then step * (2 * s) else 0)
+    → bit + bits ≡ first + (start + moved) * (2 * s)
+bit-next true first bit start step s moved bits is m b = omega (arith, is, ap (λ n. n * (2 * s)) m, b)
+bit-next false first bit start step s moved bits is m b = omega (arith, is, ap (λ n. n * (2 * s)) m, b)
 
 pub loop-size-init : goal.loop-size-init
 loop-size-init c = record {
   halved = halved-none (value_in c.args.bytes.now c.args.self.now) c.args.limit c.args.first c.args.count;
   counted = refl;
-  small = digits-below 7 c.args.count (omega (arith, c.requires.there));
+  small = digits-below 15 c.args.count (omega (arith, c.requires.there));
   few = c.requires.few;
+  bit = refl;
 }
 
 pub loop-size-preserved : goal.loop-size-preserved
 loop-size-preserved c =
-    let f = value_in c.args.bytes.now c.args.self.now in
+    let self = c.args.self.now in
+    let f = value_in c.args.bytes.now self in
     let start = c.loop-size.start in
     let size = c.loop-size.size in
-    let at = start + (size - size / 2) - 1 in
+    let bit = c.loop-size.bit in
+    let step = size - size / 2 in
+    let at = start + step - 1 in
     let h = c.loop-size.invariant in
-    let value = ap (λ n. start + n) (c.count_if_less-start.ensures.value ∙ ap (λ v. if nat_lt v c.args.limit then size - size / 2 else 0) c.value.ensures) in
+    let some : 0 < step = omega (arith, c.loop-size-test.true) in
+    let read = c.value_at-value.ensures ∙ ap (value_at c.args.bytes.now self) (bit-at self.first bit start step self.stride h.bit some) in
+    let moved = c.step_if_less-start.ensures.value ∙ ap (λ v. if nat_lt v c.args.limit then step else 0) read in
+    let bits = c.count_if_less-bit.ensures ∙ ap (λ v. if nat_lt v c.args.limit then step * (2 * self.stride) else 0) read in
+    let value = ap (λ n. start + n) moved in
     record {
-      halved = halved-more (nat_lt (f at) c.args.limit) f c.args.limit c.args.first c.args.count start size (start + c.count_if_less-start.result) refl c.loop-size-test.true value h.halved;
-      counted = omega (arith, h.counted, digits-half size c.loop-size-test.true, c.count_if_less-start.ensures.counted);
+      halved = halved-more (nat_lt (f at) c.args.limit) f c.args.limit c.args.first c.args.count start size (start + c.step_if_less-start.result) refl c.loop-size-test.true value h.halved;
+      counted = omega (arith, h.counted, digits-half size c.loop-size-test.true, c.step_if_less-start.ensures.counted);
       small = h.small;
       few = h.few;
+      bit = bit-next (nat_lt (f at) c.args.limit) self.first bit start step self.stride c.step_if_less-start.result c.count_if_less-bit.result h.bit moved bits;
     }
 
 pub returns-clause-cut : goal.returns-clause-cut

@@ -3,6 +3,7 @@ use Rattle.oxc_sourcemap_lookup.proofs.Halving.{fewer-digits}
 use Rattle.oxc_sourcemap_compiled.specs.Words.{column_of, least_column_of}
 use Rattle.oxc_sourcemap_compiled.proofs.Comparisons.{two-halvings}
 use Rattle.oxc_sourcemap_compiled.proofs.Searches.{inner-cut, past-cut}
+use Rattle.oxc_sourcemap_compiled.proofs.Sizes.{exact-of-many}
 use Rattle.oxc_sourcemap_compiled.proofs.opened.Opened.block_with_cut.Goals.{else-block-last-via-then-block-last+else-from-limit}
 use Rattle.oxc_sourcemap_compiled.proofs.opened.Opened.block_with_cut.Goals.{else-block-last-via-else-block-last}
 use Rattle.oxc_sourcemap_compiled.proofs.opened.Opened.block_with_cut.Goals as goal
@@ -33,12 +34,12 @@ returns-else-block-last-clause-cut c = λ exact rise cut is.
     let g = least_column_of bytes h in
     let q = c.block_cut-block.result in
     let some : first / 64 < last = omega (arith, c.if-front-last.false, c.requires.some) in
-    let same = λ (b : ℕ) (low : first / 64 < b) (high : b < last). exact b (omega (arith, high, c.requires.there))
+    let same = λ (b : ℕ) (low : first / 64 < b) (high : b < last). exact-of-many bytes h c.requires.many exact b (omega (arith, high, c.requires.there))
     (λ i lt in_b. rise (64 * b) i (omega (arith, low)) (omega (arith, in_b)) (omega (arith, in_b, high))) in
     let found : q ≡ min last (max (first / 64 + 1) ((cut + 63) / 64)) = c.block_cut-block.ensures.cut _ (inner-cut f g c.args.limit first end cut some is same) in
     let high : cut ≤ 64 * (q - 1) + 64 = elim c.else-block-last.branch [
       | else-block-last-via-then-block-last+else-from-limit w ↦
-          let le : c.args.limit ≤ f (64 * last) = omega (arith, w.if-from-limit.false, w.from.ensures, w.value.ensures) in
+          let le : c.args.limit ≤ f (64 * last) = omega (arith, w.if-from-limit.false, w.from.ensures, w.column.ensures) in
           let past = past-cut f c.args.limit first end cut (64 * last) is (omega (arith, some)) le in
           omega (arith, past, found, some)
       | else-block-last-via-else-block-last w ↦ omega (arith, w.if-block-last.false, found, some)

@@ -22,10 +22,10 @@ loop-size-preserved c =
     let size = c.loop-size.size in
     let at = start + (size - size / 2) - 1 in
     let h = c.loop-size.invariant in
-    let value = ap (λ n. start + n) (c.count_if_less-start.ensures.value ∙ ap (λ v. if nat_lt v c.from.result then size - size / 2 else 0) c.line_number.ensures ∙ ap (λ v. if nat_lt (f at) v then size - size / 2 else 0) c.from.ensures) in
+    let value = ap (λ n. start + n) (c.step_if_less-start.ensures.value ∙ ap (λ v. if nat_lt v c.from.result then size - size / 2 else 0) c.line_number.ensures ∙ ap (λ v. if nat_lt (f at) v then size - size / 2 else 0) c.from.ensures) in
     record {
-      halved = halved-more (nat_lt (f at) c.args.line) f c.args.line 0 c.args.self.now.header.lines start size (start + c.count_if_less-start.result) refl c.loop-size-test.true value h.halved;
-      counted = omega (arith, h.counted, digits-half size c.loop-size-test.true, c.count_if_less-start.ensures.counted);
+      halved = halved-more (nat_lt (f at) c.args.line) f c.args.line 0 c.args.self.now.header.lines start size (start + c.step_if_less-start.result) refl c.loop-size-test.true value h.halved;
+      counted = omega (arith, h.counted, digits-half size c.loop-size-test.true, c.step_if_less-start.ensures.counted);
       small = h.small;
       few = h.few;
     }

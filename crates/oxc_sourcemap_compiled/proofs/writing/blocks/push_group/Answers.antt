@@ -1,7 +1,7 @@
 use Rattle.std.proofs.Common.{◌≡◌, ◌+◌, ◌*◌, ◌/◌, ◌^◌, ◌∙◌, ◌++◌, ap, arith, slice_get}
 use Rattle.oxc_sourcemap_tokens.specs.Results.{lent_item}
 use Rattle.oxc_sourcemap_compiled.specs.Compiled.{stride_of, token_bits, bytes_of}
-use Rattle.oxc_sourcemap_compiled.specs.Compiled.{four_in, group_bits}
+use Rattle.oxc_sourcemap_compiled.specs.Compiled.{four_in}
 use Rattle.oxc_sourcemap_compiled.proofs.Slices.{lent-at}
 use Rattle.oxc_sourcemap_compiled.proofs.Bits.{nothing-written, four-values}
 use Rattle.oxc_sourcemap_compiled.proofs.writing.blocks.push_group.Goals as goal

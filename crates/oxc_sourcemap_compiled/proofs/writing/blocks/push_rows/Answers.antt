@@ -14,14 +14,16 @@ loop-block-preserved c =
     let rest = c.loop-block.rest in
     let b = get_or blocks i no_block in
     let more = drop (i + 1) blocks in
-    let product : c.min.result * c.stride.result ≤ 16 * 80 = mul-le c.min.result c.stride.result 16 80 (omega (arith, c.min.ensures)) c.stride.ensures.small in
-    let next : place + c.min.result * c.stride.result ≡ place + min rest 16 * stride_of b = ap (λ m. place + m * c.stride.result) c.min.ensures ∙ ap (λ s. place + min rest 16 * s) c.stride.ensures.value in
-    let front : rows_of place rest (drop i blocks) ≡ row_of place b ++ rows_of (place + min rest 16 * stride_of b) (rest - 16) more = ap (rows_of place rest) (drop_more blocks i no_block c.loop-block-test.true) in
-    let after = rows_of (place + c.min.result * c.stride.result) c.saturating_sub-rest.result more in
+    let p = c.args.each in
+    let m = c.min.result in
+    let product : m * c.stride.result ≤ m * 80 = mul-le m c.stride.result m 80 (omega arith) c.stride.ensures.small in
+    let next : place + m * c.stride.result ≡ place + min rest p * stride_of b = ap (λ m. place + m * c.stride.result) c.min.ensures ∙ ap (λ s. place + min rest p * s) c.stride.ensures.value in
+    let front : rows_of place p rest (drop i blocks) ≡ row_of place b ++ rows_of (place + min rest p * stride_of b) p (rest - p) more = ap (rows_of place p rest) (drop_more blocks i no_block c.loop-block-test.true) in
+    let after = rows_of (place + m * c.stride.result) p c.saturating_sub-rest.result more in
     record {
       value = ap (λ xs. xs ++ after) c.in_ok-push_row.ensures ∙ append_assoc out (row_of place b) after
-          ∙ ap (λ p. out ++ (row_of place b ++ rows_of p c.saturating_sub-rest.result more)) next
-          ∙ ap (λ n. out ++ (row_of place b ++ rows_of (place + min rest 16 * stride_of b) n more)) c.saturating_sub-rest.ensures
+          ∙ ap (λ x. out ++ (row_of place b ++ rows_of x p c.saturating_sub-rest.result more)) next
+          ∙ ap (λ n. out ++ (row_of place b ++ rows_of (place + min rest p * stride_of b) p n more)) c.saturating_sub-rest.ensures
           ∙ ap (λ xs. out ++ xs) (sym front) ∙ c.loop-block.invariant.value;
-      small = omega (arith, product, c.loop-block.invariant.small);
+      most = omega (arith, product, c.min.ensures, c.saturating_sub-rest.ensures, c.loop-block.invariant.most);
     }

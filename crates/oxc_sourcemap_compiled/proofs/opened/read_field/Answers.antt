@@ -3,24 +3,24 @@ use Rattle.oxc_sourcemap_compiled.specs.Numbers.{number_at}
 use Rattle.oxc_sourcemap_compiled.specs.Layout.{groups_base}
 use Rattle.oxc_sourcemap_compiled.specs.Fields.{field_in, widths_in, row_base}
 use Rattle.oxc_sourcemap_compiled.proofs.Blocks.{same-field}
-use Rattle.oxc_sourcemap_compiled.proofs.opened.Opened.field.Goals as goal
+use Rattle.oxc_sourcemap_compiled.proofs.opened.read_field.Goals as goal
 
 pub returns-clause-value : goal.returns-clause-value
 unfolding field_in
 returns-clause-value c =
-    let o = c.args.self.now in
-    let h = o.header in
-    let bytes = o.bytes.now in
+    let layout = c.args.layout.now in
+    let h = c.args.header.now in
+    let bytes = c.args.bytes.now in
     let b = c.args.b in
     let k = c.args.k in
-    let row = o.layout.rows + 29 * b in
-    let placed = c.requires.opened.layout in
+    let row = layout.rows + 29 * b in
+    let placed = c.requires.layout in
     let rows : row ≡ row_base h b = ap (λ l. l.rows + 29 * b) placed in
     let five : row + 29 - (row + 24) ≡ 5 = omega arith in
     let slice : take (row + 29 - (row + 24)) (drop (row + 24) bytes) ≡ widths_in bytes h b = ap (λ n. take n (drop (row + 24) bytes)) five ∙ ap (λ r. take 5 (drop (r + 24) bytes)) rows in
     let least = c.u32_at.ensures ∙ ap (λ r. number_at 4 bytes (r + 4 + 4 * k)) rows in
     let place = c.u32_at-2.ensures ∙ ap (number_at 4 bytes) rows in
-    let groups : o.layout.groups ≡ groups_base h = ap (λ l. l.groups) placed in
+    let groups : layout.groups ≡ groups_base h = ap (λ l. l.groups) placed in
     let before = c.width_before.ensures.value ∙ ap (λ ws. sum (take k ws)) slice in
     let stride = c.width_of_all.ensures.value ∙ ap sum slice in
     let width = c.min.ensures ∙ ap (λ m. min m 16) c.from.ensures ∙ ap (λ ws. min (get_or ws k 0) 16) slice in

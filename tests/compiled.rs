@@ -45,18 +45,31 @@ fn wanted(tokens: &[Token], line: u32, col: u32) -> Option<Token> {
     found
 }
 
+/// Tokens are in one block up to 16384, and in many from there on.
+#[test]
+fn tokens_are_in_their_blocks(rt: HostRuntime) -> std::result::Result<(), std::test::Fail> {
+    for count in [64, 65, 1000, 16384, 16385, 17000] {
+        let parts = many_parts(rt.alloc(), count, 5)?;
+        let bytes = compile(rt.alloc(), &parts, 77, &[9; 32])?;
+        let map = CompiledMap::open(&bytes)?;
+        let tokens = parts.tokens.as_slice();
+        for (i, token) in tokens.iter().enumerate().step_by(tokens.len() / 64) {
+            same(&rt, "token", map.get_token(i), Some(*token));
+            let (line, col) = (token.get_dst_line(), token.get_dst_col() + i as u32 % 3);
+            same(&rt, "found", map.lookup_token(line, col), wanted(tokens, line, col));
+        }
+        same(&rt, "past the last", map.get_token(tokens.len()), None);
+        let back = map.decompile(rt.alloc())?.expect(&rt, "a map whose texts are UTF-8");
+        same(&rt, "tokens", back.tokens.as_slice(), tokens);
+    }
+    Ok(())
+}
+
 #[test]
 fn a_map_is_in_its_bytes(rt: HostRuntime) -> std::result::Result<(), std::test::Fail> {
     let parts = many_parts(rt.alloc(), 1000, 1001)?;
     let bytes = compile(rt.alloc(), &parts, 77, &[9; 32])?;
     let map = CompiledMap::open(&bytes)?;
-    let tokens = parts.tokens.as_slice();
-    for (i, token) in tokens.iter().enumerate() {
-        same(&rt, "token", map.get_token(i), Some(*token));
-        let (line, col) = (token.get_dst_line(), token.get_dst_col() + i as u32 % 3);
-        same(&rt, "found", map.lookup_token(line, col), wanted(tokens, line, col));
-    }
-    same(&rt, "past the last", map.get_token(1000), None);
     same(&rt, "on another line", map.lookup_token(1, 0), None);
     same(&rt, "length", map.text_length(), 77);
     same(&rt, "stamp", map.stamp()[31], 9);
@@ -69,7 +82,7 @@ fn a_map_is_in_its_bytes(rt: HostRuntime) -> std::result::Result<(), std::test::
     same(&rt, "debug id", map.get_debug_id(), Some(""));
     same(&rt, "ignored", (map.is_ignored(2), map.is_ignored(0), map.ignored_count()), (true, false, Some(2)));
     let back = map.decompile(rt.alloc())?.expect(&rt, "a map whose texts are UTF-8");
-    same(&rt, "tokens", back.tokens.as_slice(), tokens);
+    same(&rt, "tokens", &back.tokens, &parts.tokens);
     same(&rt, "names", &back.names, &parts.names);
     same(&rt, "sources", &back.sources, &parts.sources);
     same(&rt, "contents", back.source_contents.len(), 1001);

@@ -376,7 +376,10 @@ static int map_open_file(int from, struct smap_file *file) {
     if (!S_ISREG(found.st_mode)) return -1;
     file->len = (size_t)found.st_size;
     file->at = file->len ? mmap(NULL, file->len, PROT_READ, MAP_SHARED, from, 0) : NULL;
-    return file->at == MAP_FAILED ? errno : 0;
+    if (file->at == MAP_FAILED) return errno;
+    /* (a lookup needs some pages here and there: what lies beside them is not read too) */
+    if (file->at) posix_madvise(file->at, file->len, POSIX_MADV_RANDOM);
+    return 0;
 }
 
 /* (without O_NONBLOCK a pipe would be waited for until somebody writes) */

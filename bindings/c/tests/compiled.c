@@ -224,17 +224,20 @@ static void says_same_up_to(const trio *it, uint32_t lines, uint32_t columns) {
     says_same(it, positions, len);
 }
 
-/* 200 tokens: a line of more than two blocks, then short lines with gaps. Columns rise by 0 to 3, and every field has many values. */
-static smap_map *wide_map(void) {
-    smap_token tokens[200];
+#define MANY 16600
+
+/* 200 tokens, or so many that there are blocks: a line of more than two of them, then short lines with gaps. Columns rise by 0 to 3, and
+ * every field has many values. */
+static smap_map *wide_map(uint32_t count) {
+    static smap_token tokens[MANY];
     smap_text names[3] = { text_of("n"), text_of(""), text_of("\xc3\xa9") }, sources[2] = { text_of("a"), text_of("b") };
     smap_map *map;
-    for (uint32_t i = 0, column = 2, line = 1; i < 200; i++) {
+    for (uint32_t i = 0, column = 2, line = 1; i < count; i++) {
         if (i >= 140 && i % 4 == 0) line += i % 3 + 1, column = i % 5;
         tokens[i] = token_of(line, column, i * i, i * 70001, i % 9 ? i % 2 : NO, i % 9 && i % 4 ? i % 3 : NO);
         column += i % 4;
     }
-    CHECK(smap_from_tokens(LIST(tokens), LIST(names), LIST(sources), NULL, 0, NULL, 0, &map, NULL) == SMAP_OK);
+    CHECK(smap_from_tokens(tokens, count, LIST(names), LIST(sources), NULL, 0, NULL, 0, &map, NULL) == SMAP_OK);
     return map;
 }
 
@@ -253,11 +256,13 @@ static void maps_are_compiled(void) {
         comes_back(&it, JSONS[i]);
         free_trio(&it);
     }
-    trio it = compiled_of(wide_map());
-    holds_same(&it);
-    says_same_up_to(&it, 34, 220);
-    comes_back(&it, NULL);
-    free_trio(&it);
+    for (int many = 0; many < 2; many++) {
+        trio it = compiled_of(wide_map(many ? MANY : 200));
+        holds_same(&it);
+        says_same_up_to(&it, 34, 220);
+        comes_back(&it, NULL);
+        free_trio(&it);
+    }
 }
 
 /* Lines and columns that are far apart, so that lines are numbered. */
@@ -440,6 +445,21 @@ static int is_safe(const char *from, size_t len) {
     return is_so;
 }
 
+/* Of a map with blocks some bytes, of the header and of all parts. */
+static void damaged_blocks(void) {
+    trio it = compiled_of(wide_map(MANY));
+    char *bytes = (char *)malloc(it.bytes.len);
+    memcpy(bytes, it.bytes.at, it.bytes.len);
+    for (size_t i = 0; i < it.bytes.len; i += i < 88 ? 1 : 997) {
+        const char was = bytes[i];
+        int is_so = is_safe(bytes, i);
+        bytes[i] = (char)(was ^ 0x81), is_so &= is_safe(bytes, it.bytes.len), bytes[i] = was;
+        CHECK_ROW(is_so, (int)i, "a damaged byte");
+    }
+    free(bytes);
+    free_trio(&it);
+}
+
 /* Each byte of two compiled maps is changed to several values, and each is cut off with all behind it. */
 static void damaged(void) {
     static const smap_position FAR[3] = { { 0, 4 }, { 1, 0 }, { 70000, 3 } };
@@ -461,6 +481,7 @@ static void damaged(void) {
 }
 
 void test_compiled(void) {
+    damaged_blocks();
     bytes_of();
     open_errors();
     compile_errors();

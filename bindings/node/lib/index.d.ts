@@ -588,6 +588,10 @@ export class SourceMap {
    * The bytes of a compiled map, which CompiledMap opens in constant time and looks up where they lie; in Node a Buffer. A content past
    * the last source is dropped. `textLength` is the number of bytes of the map's text, and `stamp` 32 bytes that are kept as they are, as
    * the SHA-256 of that text; 0 and zero bytes if they are not said. Throws SourceMapError of SMAP_UNSORTED or SMAP_TOO_LARGE.
+   *
+   * Contents are left out if they are taken away before: `const bare = map.clone(); bare.setSourcesContent([])`. A map of the same
+   * sources, with contents and no tokens, has them apart, by the same ids:
+   * `SourceMap.fromTokens([], { sources: map.sources, sourcesContent: map.sourcesContent })`.
    */
   compile(options?: { readonly textLength?: number | undefined; readonly stamp?: Uint8Array | undefined }): Uint8Array;
   /** The mappings text alone. Throws as `toString` does. */

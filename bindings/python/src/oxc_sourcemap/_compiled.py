@@ -4,13 +4,13 @@ from __future__ import annotations
 
 import ctypes
 import errno
+import mmap
 import os
 import stat
 from array import array
 from collections.abc import Callable
 from contextlib import suppress
 from ctypes import byref
-from mmap import ACCESS_READ, mmap
 from typing import TYPE_CHECKING, NoReturn, Optional, final
 
 from . import _library
@@ -125,10 +125,13 @@ class CompiledMap(Handle):
                 raise OSError(reason, "Not a plain file", os.fspath(path))
             if not status.st_size:
                 return CompiledMap(b"")
-            data = mmap(file, 0, access=ACCESS_READ)
+            data = mmap.mmap(file, 0, access=mmap.ACCESS_READ)
         finally:
             os.close(file)
         try:
+            # (a lookup needs some pages here and there: what lies beside them is not read too)
+            if hasattr(mmap, "MADV_RANDOM"):
+                data.madvise(mmap.MADV_RANDOM)
             return CompiledMap(data)
         except BaseException:
             data.close()

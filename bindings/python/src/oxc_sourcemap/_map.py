@@ -375,6 +375,14 @@ class SourceMap(Contents, Lookups):
         >>> data = SourceMap.from_tokens([Token(0, 4, 2, 0, 0, None)], sources=["a.ts"]).compile()
         >>> CompiledMap(data).trace(0, 4).source
         'a.ts'
+
+        Contents are left out if they are set to none before. A map of the same sources, with contents and no tokens, has them apart:
+
+        >>> map = SourceMap.from_tokens([Token(0, 4, 2, 0, 0, None)], sources=["a.ts"], source_contents=["let a"])
+        >>> apart = SourceMap.from_tokens([], sources=map.sources, source_contents=map.source_contents).compile()
+        >>> map.set_source_contents([])
+        >>> CompiledMap(map.compile()).get_source_content(0), CompiledMap(apart).get_source_content(0)
+        (None, 'let a')
         """
         length, given = long_number(text_length), stamp_of(stamp)
         return written_bytes(lambda *out: self._read(lambda at: lib.smap_compile(at, length, given, *out))) or b""

@@ -12,7 +12,22 @@ use crate::raw::{Owned, done, lent_bytes, made, no_text};
 use crate::token::{Position, Token, id};
 use crate::{SourceMap, SourceMapParts};
 
-/// Compiles the map of these parts, as [`SourceMap::compile`] does.
+/// Compiles the map of these parts, as [`SourceMap::compile`] does. Without their contents, and with contents apart, by the same ids:
+///
+/// ```
+/// use oxc_sourcemap::{CompiledMap, SourceMapParts, compile};
+/// let mut parts = SourceMapParts { sources: vec!["a.ts".into()], ..SourceMapParts::default() };
+/// parts.source_contents = vec![Some("let a".into())];
+/// let apart = SourceMapParts {
+///     sources: parts.sources.clone(),
+///     source_contents: std::mem::take(&mut parts.source_contents),
+///     ..SourceMapParts::default()
+/// };
+/// let (bytes, apart) = (compile(&parts, 0, &[0; 32])?, compile(&apart, 0, &[0; 32])?);
+/// assert_eq!(CompiledMap::open(&bytes)?.get_source_content(0), None);
+/// assert_eq!(CompiledMap::open(&apart)?.get_source_content(0), Some("let a"));
+/// # Ok::<(), oxc_sourcemap::Error>(())
+/// ```
 ///
 /// ```
 /// use oxc_sourcemap::{CompiledMap, SourceMapParts, compile};

@@ -6,7 +6,7 @@ use Rattle.std.proofs.Math.Nat.{add-mul-mod_self_left, add-mul-div_left, div-one
 use Rattle.std.proofs.Math.Pow.{pow_mono}
 use Rattle.std.proofs.lemmas.Nat.{pow-add, shr-shr, pow_pos, div_below, mul-add-lt}
 use Rattle.oxc_sourcemap_compiled.specs.Numbers.{number_at}
-use Rattle.oxc_sourcemap_compiled.specs.Compiled.{bytes_of, IsWritten, four_in}
+use Rattle.oxc_sourcemap_compiled.specs.Compiled.{bytes_of, IsWritten}
 use Rattle.oxc_sourcemap_compiled.specs.declared.writing.blocks.Rest.{Rest}
 use Rattle.oxc_sourcemap_compiled.proofs.Bytes.{bytes-length}
 use Rattle.oxc_sourcemap_compiled.proofs.Parts.{LiesAt, lies-next}
@@ -183,16 +183,3 @@ five-values n b w0 w1 w2 w3 a0 a1 a2 a3 a4 =
 pub nothing-written : (xs : List ℕ) → IsWritten xs xs (record { bits = 0; count = 0 }) 0 0
 unfolding bytes_of
 nothing-written xs = record { items = sym (append-nil xs); left = refl; count = refl; small = omega arith }
-
-regroup-four : (p a b c d : ℕ) → 0 + 1 * a + p * b + p * p * c + p * p * p * d ≡ a + p * (b + p * (c + p * d))
-regroup-four p a b c d = omega arith
-
-pub four-values : (s a b c d : ℕ) → 0 + 2 ^ 0 * a + 2 ^ (0 + 2 * s) * b + 2 ^ (0 + 2 * s + 2 * s) * c + 2 ^ (0 + 2 * s + 2 * s + 2 * s) * d ≡ four_in (2 ^ (2 * s)) a b c d
-four-values s a b c d =
-    let p = 2 ^ (2 * s) in
-    let one : 0 + 2 * s ≡ 2 * s = omega arith in
-    let e1 : 2 ^ (0 + 2 * s) ≡ p = ap (λ k. 2 ^ k) one in
-    let e2 : 2 ^ (0 + 2 * s + 2 * s) ≡ p * p = pow-add 2 (0 + 2 * s) (2 * s) ∙ ap (λ x. x * p) e1 in
-    let e3 : 2 ^ (0 + 2 * s + 2 * s + 2 * s) ≡ p * p * p = pow-add 2 (0 + 2 * s + 2 * s) (2 * s) ∙ ap (λ x. x * p) e2 in
-    ap (λ x. 0 + 2 ^ 0 * a + x * b + 2 ^ (0 + 2 * s + 2 * s) * c + 2 ^ (0 + 2 * s + 2 * s + 2 * s) * d) e1
-    ∙ ap (λ x. 0 + 2 ^ 0 * a + p * b + x * c + 2 ^ (0 + 2 * s + 2 * s + 2 * s) * d) e2 ∙ ap (λ x. 0 + 2 ^ 0 * a + p * b + p * p * c + x * d) e3 ∙ regroup-four p a b c d

@@ -117,7 +117,7 @@ group-length b ts = bytes-length (stride_of b) (group_bits b ts)
 -- ---- all groups
 -- a group of tokens, by its number, if so many are in each block
 abbrev pub group_at : ℕ → List Block → List TokenRecord → ℕ → List ℕ
-group_at p blocks tokens g = group_of (get_or blocks (g / p) no_block) (take 4 (drop (4 * g) tokens))
+group_at p blocks tokens g = group_of (get_or blocks (g / p) no_block) (take 8 (drop (8 * g) tokens))
 
 pub groups-length : (one : Bool) (n : ℕ) (blocks : List Block) (tokens : List TokenRecord) → n ≤ each one * length blocks
     → length (flat_map (group_at (each one) blocks tokens) (range_with_len 0 n)) ≡ group_bytes_of (each one) n blocks
@@ -128,5 +128,5 @@ groups-length one (suc n) blocks tokens le =
     let next : suc n ≡ n + 1 = omega arith in
     let front = flat_map f (range_with_len 0 n) in
     ap (λ m. length (flat_map f (range_with_len 0 m))) next ∙ ap length (flat_map-more f n) ∙ length-append front (f n)
-    ∙ ap (λ m. m + length (f n)) (groups-length one n blocks tokens (omega (arith, le))) ∙ ap (λ m. group_bytes_of p n blocks + m) (group-length (get_or blocks (n / p) no_block) (take 4 (drop (4 * n) tokens)))
+    ∙ ap (λ m. m + length (f n)) (groups-length one n blocks tokens (omega (arith, le))) ∙ ap (λ m. group_bytes_of p n blocks + m) (group-length (get_or blocks (n / p) no_block) (take 8 (drop (8 * n) tokens)))
     ∙ sym (bytes-more one n blocks (omega (arith, le))) ∙ ap (λ m. group_bytes_of p m blocks) (sym next)

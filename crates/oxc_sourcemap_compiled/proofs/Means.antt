@@ -56,7 +56,7 @@ exact-by : (least first : ℕ) → least ≤ first → first ≤ least → least
 exact-by least first le ge = omega (arith, le, ge)
 
 module _ (tokens : List TokenRecord) (blocks : List Block) (bytes : List ℕ) (h : Header) (are : AreBlocksOf tokens blocks) (counted : h.tokens ≡ length tokens)
-    (rows : LiesAt (rows_base h) (rows_of 0 (block_groups (length tokens)) ((length tokens + 3) / 4) blocks) bytes)
+    (rows : LiesAt (rows_base h) (rows_of 0 (block_groups (length tokens)) ((length tokens + 7) / 8) blocks) bytes)
     (columns : (i : ℕ) (d : TokenRecord) → i < length tokens → value_of bytes h 0 i ≡ (get_or tokens i d).dst_col)
     (small : (i : ℕ) (d : TokenRecord) → i < length tokens → (get_or tokens i d).dst_col ≤ 4294967295) where
   abbrev size_of : ℕ
@@ -84,8 +84,8 @@ module _ (tokens : List TokenRecord) (blocks : List Block) (bytes : List ℕ) (h
       let some : 0 < length part = omega (arith, reached.1) in
       let below : block.column.least ≤ (get_or tokens (s * b) any_token).dst_col = omega (arith, fits.least 0 any_token some, ap (λ t. t.dst_col) head) in
       let fewest = small (s * b + x) any_token within in
-      let row = rows-lie (rows_base h) 0 (block_groups (length tokens)) ((length tokens + 3) / 4) b blocks bytes rows there in
-      let place = 0 + group_bytes_of (block_groups (length tokens)) ((length tokens + 3) / 4) (take b blocks) in
+      let row = rows-lie (rows_base h) 0 (block_groups (length tokens)) ((length tokens + 7) / 8) b blocks bytes rows there in
+      let place = 0 + group_bytes_of (block_groups (length tokens)) ((length tokens + 7) / 8) (take b blocks) in
       let spot : row_base h b + 4 ≡ row_base h b + 4 + 4 * 0 = omega arith in
       let read : least_column_of bytes h b ≡ block.column.least =
       ap (number_at 4 bytes) spot ∙ least-read 0 (row_base h b) place block bytes (omega arith) row (omega (arith, least, fewest)) in

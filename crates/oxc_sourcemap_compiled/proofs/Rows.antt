@@ -106,13 +106,13 @@ least-read k at place b all lt h small =
 
 -- the field of a block, by its row
 pub field-read : (k i place : ℕ) (b : Block) (all : List ℕ) (h : Header) → k < 5 → LiesAt (row_base h i) (row_of place b) all → place ≤ 4294967295
-    → (packing_at k b).least ≤ 4294967295 → (packing_at k b).width ≤ 16
-    → field_in all h i k ≡ record { least = (packing_at k b).least; at = groups_base h + place; first = 2 * sum (take k (widths_of b)); stride = sum (widths_of b); width = (packing_at k b).width }
+    → (packing_at k b).least ≤ 4294967295 → (packing_at k b).width ≤ 32
+    → field_in all h i k ≡ record { least = (packing_at k b).least; at = groups_base h + place; first = sum (take k (widths_of b)); stride = sum (widths_of b); width = (packing_at k b).width }
 unfolding field_in
 field-read k i place b all h lt row small_place small narrow =
     let widths : widths_in all h i ≡ widths_of b = lies-take (row_base h i + 24) 5 (widths_of b) all (widths-lie (row_base h i) place b all row) refl in
     let is = width-at k b lt in
-    let width : min (get_or (widths_of b) k 0) 16 ≡ (packing_at k b).width = omega (arith, is, narrow) in
+    let width : min (get_or (widths_of b) k 0) 32 ≡ (packing_at k b).width = omega (arith, is, narrow) in
     same-field (least-read k (row_base h i) place b all lt row small)
-    (ap (λ n. groups_base h + n) (place-read (row_base h i) place b all row small_place)) (ap (λ ws. 2 * sum (take k ws)) widths)
-    (ap sum widths) (ap (λ ws. min (get_or ws k 0) 16) widths ∙ width)
+    (ap (λ n. groups_base h + n) (place-read (row_base h i) place b all row small_place)) (ap (λ ws. sum (take k ws)) widths)
+    (ap sum widths) (ap (λ ws. min (get_or ws k 0) 32) widths ∙ width)

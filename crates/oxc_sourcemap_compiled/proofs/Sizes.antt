@@ -8,10 +8,10 @@ use Rattle.oxc_sourcemap_compiled.specs.declared.layout.Header.{Header}
 
 -- how many groups a block has, by whether it is the only one, and how many tokens
 abbrev pub each : Bool → ℕ
-each one = if one then 4096 else 16
+each one = if one then 2048 else 8
 
 abbrev pub size : Bool → ℕ
-size one = 4 * each one
+size one = 8 * each one
 
 pub each-some : (one : Bool) → 0 < each one
 each-some true = omega arith
@@ -33,15 +33,15 @@ pub token-block : (one : Bool) (b m : ℕ) → m < size one → (size one * b + 
 token-block true b m lt = omega (arith, lt)
 token-block false b m lt = omega (arith, lt)
 
-pub group-block : (one : Bool) (g n : ℕ) → n < 4 → g / each one ≡ (4 * g + n) / size one
+pub group-block : (one : Bool) (g n : ℕ) → n < 8 → g / each one ≡ (8 * g + n) / size one
 group-block true g n lt = omega (arith, lt)
 group-block false g n lt = omega (arith, lt)
 
-pub group-again : (one : Bool) (i n : ℕ) → n < 4 → i / size one ≡ (4 * (i / 4) + n) / size one
+pub group-again : (one : Bool) (i n : ℕ) → n < 8 → i / size one ≡ (8 * (i / 8) + n) / size one
 group-again true i n lt = omega (arith, lt)
 group-again false i n lt = omega (arith, lt)
 
-pub group-in : (one : Bool) (i : ℕ) → i / 4 / each one ≡ i / size one
+pub group-in : (one : Bool) (i : ℕ) → i / 8 / each one ≡ i / size one
 group-in true i = omega arith
 group-in false i = omega arith
 
@@ -53,15 +53,15 @@ pub token-low : (one : Bool) (i : ℕ) → i % size one < size one
 token-low true i = omega arith
 token-low false i = omega arith
 
-pub group-is : (one : Bool) (i : ℕ) → i / 4 ≡ each one * (i / size one) + i % size one / 4
+pub group-is : (one : Bool) (i : ℕ) → i / 8 ≡ each one * (i / size one) + i % size one / 8
 group-is true i = omega arith
 group-is false i = omega arith
 
-pub group-low : (one : Bool) (i : ℕ) → i % size one / 4 ≤ each one
+pub group-low : (one : Bool) (i : ℕ) → i % size one / 8 ≤ each one
 group-low true i = omega arith
 group-low false i = omega arith
 
-pub in-group : (one : Bool) (i : ℕ) → i % size one % 4 ≡ i % 4
+pub in-group : (one : Bool) (i : ℕ) → i % size one % 8 ≡ i % 8
 in-group true i = omega arith
 in-group false i = omega arith
 
@@ -69,16 +69,16 @@ pub block-there : (one : Bool) (i n : ℕ) → i < n → i / size one < (n + (si
 block-there true i n lt = omega (arith, lt)
 block-there false i n lt = omega (arith, lt)
 
-pub groups-fit : (one : Bool) (n : ℕ) → (n + 3) / 4 ≤ each one * ((n + (size one - 1)) / size one)
+pub groups-fit : (one : Bool) (n : ℕ) → (n + 7) / 8 ≤ each one * ((n + (size one - 1)) / size one)
 groups-fit true n = omega arith
 groups-fit false n = omega arith
 
-pub groups-before : (one : Bool) (i n : ℕ) → i < n → each one * (i / size one) ≤ (n + 3) / 4
+pub groups-before : (one : Bool) (i n : ℕ) → i < n → each one * (i / size one) ≤ (n + 7) / 8
 groups-before true i n lt = omega (arith, lt)
 groups-before false i n lt = omega (arith, lt)
 
 -- the block of a group is there
-pub group-there : (one : Bool) (g n : ℕ) → g < (n + 3) / 4 → g / each one < (n + (size one - 1)) / size one
+pub group-there : (one : Bool) (g n : ℕ) → g < (n + 7) / 8 → g / each one < (n + (size one - 1)) / size one
 group-there true g n lt = omega (arith, lt)
 group-there false g n lt = omega (arith, lt)
 

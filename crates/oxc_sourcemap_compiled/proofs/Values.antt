@@ -25,10 +25,11 @@ use Rattle.oxc_sourcemap_compiled.specs.declared.writing.blocks.Packing.{Packing
 use Rattle.oxc_sourcemap_compiled.specs.declared.writing.blocks.Block.{Block}
 use Rattle.oxc_sourcemap_compiled.proofs.Parts.{LiesAt, lies-whole, lies-within}
 use Rattle.oxc_sourcemap_compiled.proofs.Parts.{lies-among}
-use Rattle.oxc_sourcemap_compiled.proofs.Digits.{digit_of, four-fit, four-read}
+use Rattle.oxc_sourcemap_compiled.proofs.Digits.{first-small, token-read}
 use Rattle.oxc_sourcemap_compiled.proofs.Rows.{packing_at, packed-at, rows-lie, field-read}
 use Rattle.oxc_sourcemap_compiled.proofs.Groups.{bytes-below, bytes-before, bytes-within}
 use Rattle.oxc_sourcemap_compiled.proofs.Groups.{group_at, groups-length, group-length}
+use Rattle.oxc_sourcemap_compiled.proofs.ReadNumbers.{bytes-bits}
 use Rattle.oxc_sourcemap_compiled.proofs.Bits.{window, low-value, one-more}
 use Rattle.oxc_sourcemap_compiled.proofs.Sizes.{each, size, group-block, group-again, group-in, token-is}
 use Rattle.oxc_sourcemap_compiled.proofs.Sizes.{token-low, group-is, group-low, in-group, block-there}
@@ -78,32 +79,32 @@ module _ (k : ℕ) (tokens : List TokenRecord) (i : ℕ) (p : Packing) (are : Is
       let token = of-block d lt in
       omega (arith, are.least (i % size_of) d token.0, ap (field_number k) token.1)
 
-  pub above-fits : (d : TokenRecord) → i < length tokens → field_number k (get_or tokens i d) - p.least < 2 ^ (2 * p.width)
+  pub above-fits : (d : TokenRecord) → i < length tokens → field_number k (get_or tokens i d) - p.least < 2 ^ p.width
   above-fits d lt =
       let token = of-block d lt in
-      subst (λ t. field_number k t - p.least < 2 ^ (2 * p.width)) token.1 (are.fits (i % size_of) d token.0)
+      subst (λ t. field_number k t - p.least < 2 ^ p.width) token.1 (are.fits (i % size_of) d token.0)
 
--- what is written of one of four tokens fits
-pub above-small-by : (b : Bool) (k : ℕ) (tokens : List TokenRecord) (p : Packing) (s n : ℕ) → nat_lt (s + n) (length tokens) ≡ b → n < 4
-    → (s + n < length tokens → (d : TokenRecord) → field_number k (get_or tokens (s + n) d) - p.least < 2 ^ (2 * p.width)) → (d : TokenRecord) → above_in k p (slice_get (take 4 (drop s tokens)) n) < 2 ^ (2 * p.width)
+-- what is written of one of eight tokens fits
+pub above-small-by : (b : Bool) (k : ℕ) (tokens : List TokenRecord) (p : Packing) (s n : ℕ) → nat_lt (s + n) (length tokens) ≡ b → n < 8
+    → (s + n < length tokens → (d : TokenRecord) → field_number k (get_or tokens (s + n) d) - p.least < 2 ^ p.width) → (d : TokenRecord) → above_in k p (slice_get (take 8 (drop s tokens)) n) < 2 ^ p.width
 above-small-by true k tokens p s n e lt fits d =
     let there : s + n < length tokens = grind (arith, e) in
-    subst (λ o. above_in k p o < 2 ^ (2 * p.width)) (sym (part-get tokens 4 s n d lt there)) (fits there d)
+    subst (λ o. above_in k p o < 2 ^ p.width) (sym (part-get tokens 8 s n d lt there)) (fits there d)
 above-small-by false k tokens p s n e lt fits d =
     let past : length tokens ≤ s + n = grind (arith, e) in
-    subst (λ o. above_in k p o < 2 ^ (2 * p.width)) (sym (part-past tokens 4 s n past)) (pow_pos (2 * p.width))
+    subst (λ o. above_in k p o < 2 ^ p.width) (sym (part-past tokens 8 s n past)) (pow_pos p.width)
 
--- what is written of each field of four tokens of a block fits
-one-fits : (tokens : List TokenRecord) (b : Block) (g n j : ℕ) → n < 4 → j < 5 → ArePacked (block_tokens tokens (g / block_groups (length tokens))) b
-    → above_in j (packing_at j b) (slice_get (take 4 (drop (4 * g) tokens)) n) < 2 ^ (2 * (packing_at j b).width)
+-- what is written of each field of eight tokens of a block fits
+one-fits : (tokens : List TokenRecord) (b : Block) (g n j : ℕ) → n < 8 → j < 5 → ArePacked (block_tokens tokens (g / block_groups (length tokens))) b
+    → above_in j (packing_at j b) (slice_get (take 8 (drop (8 * g) tokens)) n) < 2 ^ (packing_at j b).width
 one-fits tokens b g n j lt is are =
     let block = g / block_groups (length tokens) in
-    let same : block ≡ (4 * g + n) / block_size (length tokens) = group-block (nat_le (length tokens) 16384) g n lt in
+    let same : block ≡ (8 * g + n) / block_size (length tokens) = group-block (nat_le (length tokens) 16384) g n lt in
     let packed = subst (λ k. IsPacked j (block_tokens tokens k) (packing_at j b)) same (packed-at j (block_tokens tokens block) b is are) in
-    above-small-by (nat_lt (4 * g + n) (length tokens)) j tokens (packing_at j b) (4 * g) n refl lt (λ less d. above-fits j tokens (4 * g + n) (packing_at j b) packed d less)
+    above-small-by (nat_lt (8 * g + n) (length tokens)) j tokens (packing_at j b) (8 * g) n refl lt (λ less d. above-fits j tokens (8 * g + n) (packing_at j b) packed d less)
     (record { dst_line = 0; dst_col = 0; src_line = 0; src_col = 0; source_id = None; name_id = None })
 
-pub group-fits : (tokens : List TokenRecord) (b : Block) (g n : ℕ) → n < 4 → ArePacked (block_tokens tokens (g / block_groups (length tokens))) b → FieldsFit b (slice_get (take 4 (drop (4 * g) tokens)) n)
+pub group-fits : (tokens : List TokenRecord) (b : Block) (g n : ℕ) → n < 8 → ArePacked (block_tokens tokens (g / block_groups (length tokens))) b → FieldsFit b (slice_get (take 8 (drop (8 * g) tokens)) n)
 group-fits tokens b g n lt are = record {
   column = one-fits tokens b g n 0 lt (omega arith) are;
   source = one-fits tokens b g n 1 lt (omega arith) are;
@@ -112,16 +113,9 @@ group-fits tokens b g n lt are = record {
   name = one-fits tokens b g n 4 lt (omega arith) are;
 }
 
-digit-pick : (f : ℕ → ℕ) (j : ℕ) → j < 4 → digit_of j (f 0) (f 1) (f 2) (f 3) ≡ f j
-digit-pick f zero lt = refl
-digit-pick f (suc zero) lt = refl
-digit-pick f (suc (suc zero)) lt = refl
-digit-pick f (suc (suc (suc zero))) lt = refl
-digit-pick f (suc (suc (suc (suc j)))) lt = absurd (omega (arith, lt))
-
 -- the value of a field, by the word that is read
-value-is : (bytes : List ℕ) (f : Field) (j v : ℕ) → nat_le (f.at + (f.first + j * (2 * f.stride)) / 8 + 8) (length bytes) ≡ true
-    → (f.least + number_at 8 bytes (f.at + (f.first + j * (2 * f.stride)) / 8) / 2 ^ ((f.first + j * (2 * f.stride)) % 8) % 2 ^ (2 * f.width)) % 2 ^ 32 ≡ v → value_in bytes f j ≡ v
+value-is : (bytes : List ℕ) (f : Field) (j v : ℕ) → nat_le (f.at + (f.first + j * f.stride) / 8 + 8) (length bytes) ≡ true
+    → (f.least + number_at 8 bytes (f.at + (f.first + j * f.stride) / 8) / 2 ^ ((f.first + j * f.stride) % 8) % 2 ^ f.width) % 2 ^ 32 ≡ v → value_in bytes f j ≡ v
 unfolding value_at
 value-is bytes f j v room is = rw room is
 
@@ -135,40 +129,40 @@ front : (v rest w : ℕ) → v < 2 ^ w → (v + 2 ^ w * rest) / 2 ^ 0 % 2 ^ w �
 front v rest w lt = ap (λ n. n % 2 ^ w) (div-one (v + 2 ^ w * rest)) ∙ add-mul-mod_self_left v (2 ^ w) rest ∙ mod-eq_of_lt lt
 
 field-bits : (k : ℕ) (b : Block) (t : Option TokenRecord) → k < 5 → FieldsFit b t
-    → token_bits b t / 2 ^ (2 * sum (take k (widths_of b))) % 2 ^ (2 * (packing_at k b).width) ≡ above_in k (packing_at k b) t
-field-bits zero b t lt fit = front (above_in 0 b.column t) _ (2 * b.column.width) fit.column
+    → token_bits b t / 2 ^ (sum (take k (widths_of b))) % 2 ^ (packing_at k b).width ≡ above_in k (packing_at k b) t
+field-bits zero b t lt fit = front (above_in 0 b.column t) _ b.column.width fit.column
 field-bits (suc zero) b t lt fit =
-    let at : 2 * sum (take 1 (widths_of b)) ≡ 2 * b.column.width + 0 = omega arith in
-    ap (λ e. token_bits b t / 2 ^ e % 2 ^ (2 * b.source.width)) at ∙ ap (λ n. n % 2 ^ (2 * b.source.width)) (skip (above_in 0 b.column t) _ (2 * b.column.width) 0 fit.column)
-    ∙ front (above_in 1 b.source t) _ (2 * b.source.width) fit.source
+    let at : sum (take 1 (widths_of b)) ≡ b.column.width + 0 = omega arith in
+    ap (λ e. token_bits b t / 2 ^ e % 2 ^ b.source.width) at ∙ ap (λ n. n % 2 ^ b.source.width) (skip (above_in 0 b.column t) _ b.column.width 0 fit.column)
+    ∙ front (above_in 1 b.source t) _ b.source.width fit.source
 field-bits (suc (suc zero)) b t lt fit =
-    let at : 2 * sum (take 2 (widths_of b)) ≡ 2 * b.column.width + (2 * b.source.width + 0) = omega arith in
-    ap (λ e. token_bits b t / 2 ^ e % 2 ^ (2 * b.src_line.width)) at
-    ∙ ap (λ n. n % 2 ^ (2 * b.src_line.width)) (skip (above_in 0 b.column t) _ (2 * b.column.width) (2 * b.source.width + 0) fit.column ∙ skip (above_in 1 b.source t) _ (2 * b.source.width) 0 fit.source)
-    ∙ front (above_in 2 b.src_line t) _ (2 * b.src_line.width) fit.src_line
+    let at : sum (take 2 (widths_of b)) ≡ b.column.width + (b.source.width + 0) = omega arith in
+    ap (λ e. token_bits b t / 2 ^ e % 2 ^ b.src_line.width) at
+    ∙ ap (λ n. n % 2 ^ b.src_line.width) (skip (above_in 0 b.column t) _ b.column.width (b.source.width + 0) fit.column ∙ skip (above_in 1 b.source t) _ b.source.width 0 fit.source)
+    ∙ front (above_in 2 b.src_line t) _ b.src_line.width fit.src_line
 field-bits (suc (suc (suc zero))) b t lt fit =
-    let at : 2 * sum (take 3 (widths_of b)) ≡ 2 * b.column.width + (2 * b.source.width + (2 * b.src_line.width + 0)) = omega arith in
-    ap (λ e. token_bits b t / 2 ^ e % 2 ^ (2 * b.src_col.width)) at
-    ∙ ap (λ n. n % 2 ^ (2 * b.src_col.width)) (skip (above_in 0 b.column t) _ (2 * b.column.width) (2 * b.source.width + (2 * b.src_line.width + 0)) fit.column
-    ∙ skip (above_in 1 b.source t) _ (2 * b.source.width) (2 * b.src_line.width + 0) fit.source ∙ skip (above_in 2 b.src_line t) _ (2 * b.src_line.width) 0 fit.src_line)
-    ∙ front (above_in 3 b.src_col t) _ (2 * b.src_col.width) fit.src_col
+    let at : sum (take 3 (widths_of b)) ≡ b.column.width + (b.source.width + (b.src_line.width + 0)) = omega arith in
+    ap (λ e. token_bits b t / 2 ^ e % 2 ^ b.src_col.width) at
+    ∙ ap (λ n. n % 2 ^ b.src_col.width) (skip (above_in 0 b.column t) _ b.column.width (b.source.width + (b.src_line.width + 0)) fit.column
+    ∙ skip (above_in 1 b.source t) _ b.source.width (b.src_line.width + 0) fit.source ∙ skip (above_in 2 b.src_line t) _ b.src_line.width 0 fit.src_line)
+    ∙ front (above_in 3 b.src_col t) _ b.src_col.width fit.src_col
 field-bits (suc (suc (suc (suc zero)))) b t lt fit =
     let v = above_in 4 b.name t in
-    let at : 2 * sum (take 4 (widths_of b)) ≡ 2 * b.column.width + (2 * b.source.width + (2 * b.src_line.width + (2 * b.src_col.width + 0))) = omega arith in
-    ap (λ e. token_bits b t / 2 ^ e % 2 ^ (2 * b.name.width)) at
-    ∙ ap (λ n. n % 2 ^ (2 * b.name.width)) (skip (above_in 0 b.column t) _ (2 * b.column.width) (2 * b.source.width + (2 * b.src_line.width + (2 * b.src_col.width + 0))) fit.column
-    ∙ skip (above_in 1 b.source t) _ (2 * b.source.width) (2 * b.src_line.width + (2 * b.src_col.width + 0)) fit.source
-    ∙ skip (above_in 2 b.src_line t) _ (2 * b.src_line.width) (2 * b.src_col.width + 0) fit.src_line ∙ skip (above_in 3 b.src_col t) v (2 * b.src_col.width) 0 fit.src_col ∙ div-one v)
+    let at : sum (take 4 (widths_of b)) ≡ b.column.width + (b.source.width + (b.src_line.width + (b.src_col.width + 0))) = omega arith in
+    ap (λ e. token_bits b t / 2 ^ e % 2 ^ b.name.width) at
+    ∙ ap (λ n. n % 2 ^ b.name.width) (skip (above_in 0 b.column t) _ b.column.width (b.source.width + (b.src_line.width + (b.src_col.width + 0))) fit.column
+    ∙ skip (above_in 1 b.source t) _ b.source.width (b.src_line.width + (b.src_col.width + 0)) fit.source
+    ∙ skip (above_in 2 b.src_line t) _ b.src_line.width (b.src_col.width + 0) fit.src_line ∙ skip (above_in 3 b.src_col t) v b.src_col.width 0 fit.src_col ∙ div-one v)
     ∙ mod-eq_of_lt fit.name
 field-bits (suc (suc (suc (suc (suc k))))) b t lt fit = absurd (omega (arith, lt))
 
 -- the bits of a token are as many as it says
-pub token-small : (b : Block) (t : Option TokenRecord) → FieldsFit b t → token_bits b t < 2 ^ (2 * stride_of b)
+pub token-small : (b : Block) (t : Option TokenRecord) → FieldsFit b t → token_bits b t < 2 ^ stride_of b
 token-small b t fit =
-    let whole : 2 * b.column.width + (2 * b.source.width + (2 * b.src_line.width + (2 * b.src_col.width + 2 * b.name.width))) ≡ 2 * stride_of b = omega arith in
+    let whole : b.column.width + (b.source.width + (b.src_line.width + (b.src_col.width + b.name.width))) ≡ stride_of b = omega arith in
     subst (λ e. token_bits b t < 2 ^ e) whole
-    (one-more (2 * b.column.width) _ _ _ fit.column (one-more (2 * b.source.width) _ _ _ fit.source (one-more (2 * b.src_line.width) _ _ _ fit.src_line
-    (one-more (2 * b.src_col.width) _ _ _ fit.src_col fit.name))))
+    (one-more b.column.width _ _ _ fit.column (one-more b.source.width _ _ _ fit.source (one-more b.src_line.width _ _ _ fit.src_line
+    (one-more b.src_col.width _ _ _ fit.src_col fit.name))))
 
 -- a value within the lowest bits of a number is one of the number
 inner : (x t f w s : ℕ) → f + w + s ≡ t → x % 2 ^ t / 2 ^ f % 2 ^ w ≡ x / 2 ^ f % 2 ^ w
@@ -180,7 +174,7 @@ five-widths : (b : Block) → sum (widths_of b) ≡ stride_of b
 five-widths b = omega arith
 
 -- ---- where a token's bits lie
-split-bits : (g m s f : ℕ) → f + (4 * g + m) * (2 * s) ≡ 8 * (g * s) + (m * (2 * s) + f)
+split-bits : (g m s f : ℕ) → f + (8 * g + m) * s ≡ 8 * (g * s) + (m * s + f)
 split-bits g m s f = omega arith
 
 div-eight : (x y : ℕ) → (8 * x + y) / 8 ≡ x + y / 8
@@ -190,7 +184,7 @@ mod-eight : (x y : ℕ) → (8 * x + y) % 8 ≡ y % 8
 mod-eight x y = omega arith
 
 -- a field ends within the bits of its token
-field-within : (k : ℕ) (b : Block) → k < 5 → 2 * sum (take k (widths_of b)) + 2 * (packing_at k b).width ≤ 2 * stride_of b
+field-within : (k : ℕ) (b : Block) → k < 5 → sum (take k (widths_of b)) + (packing_at k b).width ≤ stride_of b
 field-within zero b lt = omega arith
 field-within (suc zero) b lt = omega arith
 field-within (suc (suc zero)) b lt = omega arith
@@ -198,53 +192,44 @@ field-within (suc (suc (suc zero))) b lt = omega arith
 field-within (suc (suc (suc (suc zero)))) b lt = omega arith
 field-within (suc (suc (suc (suc (suc k))))) b lt = absurd (omega (arith, lt))
 
--- and so within those of four
-within-four : (m f w s : ℕ) → m < 4 → f + w ≤ 2 * s → m * (2 * s) + f + w ≤ 8 * s
-within-four m f w s lt le = omega (arith, le, mul-le m (2 * s) 3 (2 * s) (omega (arith, lt)) (omega arith))
+-- and so within those of eight
+within-eight : (m f w s : ℕ) → m < 8 → f + w ≤ s → m * s + f + w ≤ 8 * s
+within-eight m f w s lt le = omega (arith, le, mul-le m s 7 s (omega (arith, lt)) (omega arith))
 
--- Of four tokens in the bytes of a group: the field of one of them, through a window of eight bytes.
-module _ (b : Block) (ts : List TokenRecord) (at : ℕ) (bytes : List ℕ) (fit : (n : ℕ) → n < 4 → FieldsFit b (slice_get ts n)) (lies : LiesAt at (group_of b ts) bytes) where
-  module _ (k m : ℕ) (is_field : k < 5) (lt : m < 4) (narrow : (packing_at k b).width ≤ 16) where
-    abbrev of : ℕ → ℕ
-    of n = token_bits b (slice_get ts n)
-
+-- Of eight tokens in the bytes of a group: the field of one of them, through a window of eight bytes.
+module _ (b : Block) (ts : List TokenRecord) (at : ℕ) (bytes : List ℕ) (fit : (n : ℕ) → n < 8 → FieldsFit b (slice_get ts n)) (lies : LiesAt at (group_of b ts) bytes) where
+  module _ (k m : ℕ) (is_field : k < 5) (lt : m < 8) (narrow : (packing_at k b).width ≤ 32) where
     abbrev ahead : ℕ
-    ahead = 2 * sum (take k (widths_of b))
+    ahead = sum (take k (widths_of b))
 
     abbrev begin : ℕ
-    begin = m * (2 * stride_of b) + ahead
+    begin = m * stride_of b + ahead
 
     abbrev bits : ℕ
-    bits = 2 * (packing_at k b).width
+    bits = (packing_at k b).width
 
-    each-small : (n : ℕ) → n < 4 → of n < 2 ^ (2 * stride_of b)
+    each-small : (n : ℕ) → n < 8 → token_bits b (slice_get ts n) < 2 ^ stride_of b
     each-small n less = token-small b (slice_get ts n) (fit n less)
 
     fits : begin + bits ≤ 8 * stride_of b
-    fits = within-four m ahead bits (stride_of b) lt (field-within k b is_field)
-
-    token-read : group_bits b ts / 2 ^ (2 * stride_of b * m) % 2 ^ (2 * stride_of b) ≡ of m
-    token-read =
-        let none : group_bits b ts ≡ group_bits b ts + 256 ^ stride_of b * 0 = omega arith in
-        ap (λ n. n / 2 ^ (2 * stride_of b * m) % 2 ^ (2 * stride_of b)) none
-        ∙ four-read (stride_of b) (of 0) (of 1) (of 2) (of 3) 0 m (each-small 0 (omega arith)) (each-small 1 (omega arith)) (each-small 2 (omega arith)) (each-small 3 (omega arith)) lt ∙ digit-pick of m lt
+    fits = within-eight m ahead bits (stride_of b) lt (field-within k b is_field)
 
     pub value-of-group : number_at 8 bytes (at + begin / 8) / 2 ^ (begin % 8) % 2 ^ bits ≡ above_in k (packing_at k b) (slice_get ts m)
     value-of-group =
         let s = stride_of b in
         let number = group_bits b ts in
-        let all : number < 256 ^ s = four-fit s (of 0) (of 1) (of 2) (of 3) (each-small 0 (omega arith)) (each-small 1 (omega arith)) (each-small 2 (omega arith)) (each-small 3 (omega arith)) in
+        let all : number < 256 ^ s = omega (arith, first-small b ts 8 each-small, bytes-bits s) in
         let window_is = window number s (begin / 8) (begin % 8) bits at bytes all lies (omega (arith, fits)) (omega (arith, narrow)) (omega (arith, fits)) in
-        let whole : 8 * (begin / 8) + begin % 8 ≡ 2 * s * m + ahead = omega arith in
-        let rest : ahead + bits + (2 * s - (ahead + bits)) ≡ 2 * s = omega (arith, field-within k b is_field) in
-        window_is ∙ ap (λ e. number / 2 ^ e % 2 ^ bits) whole ∙ ap (λ n. n % 2 ^ bits) (sym (shr-shr number (2 * s * m) ahead))
-        ∙ sym (inner (number / 2 ^ (2 * s * m)) (2 * s) ahead bits (2 * s - (ahead + bits)) rest) ∙ ap (λ n. n / 2 ^ ahead % 2 ^ bits) token-read
+        let whole : 8 * (begin / 8) + begin % 8 ≡ m * s + ahead = omega arith in
+        let rest : ahead + bits + (s - (ahead + bits)) ≡ s = omega (arith, field-within k b is_field) in
+        window_is ∙ ap (λ e. number / 2 ^ e % 2 ^ bits) whole ∙ ap (λ n. n % 2 ^ bits) (sym (shr-shr number (m * s) ahead))
+        ∙ sym (inner (number / 2 ^ (m * s)) s ahead bits (s - (ahead + bits)) rest) ∙ ap (λ n. n / 2 ^ ahead % 2 ^ bits) (token-read b ts 8 m lt each-small)
         ∙ field-bits k b (slice_get ts m) is_field (fit m lt)
 
 -- ---- the field of a token in bytes that have the rows and the groups of its blocks
 module _ (tokens : List TokenRecord) (blocks : List Block) (bytes : List ℕ) (h : Header) (are : AreBlocksOf tokens blocks) (bounds : AreInBounds tokens)
     (few : all_group_bytes tokens blocks ≤ 4294967295)
-    (rows : LiesAt (rows_base h) (rows_of 0 (block_groups (length tokens)) ((length tokens + 3) / 4) blocks) bytes) (counted : h.tokens ≡ length tokens)
+    (rows : LiesAt (rows_base h) (rows_of 0 (block_groups (length tokens)) ((length tokens + 7) / 8) blocks) bytes) (counted : h.tokens ≡ length tokens)
     (groups : LiesAt (groups_base h) (groups_of blocks tokens) bytes) (room : groups_base h + length (groups_of blocks tokens) + 16 ≤ length bytes) where
   module _ (k i : ℕ) (d : TokenRecord) (is_field : k < 5) (there : i < length tokens) where
     abbrev one : Bool
@@ -258,7 +243,7 @@ module _ (tokens : List TokenRecord) (blocks : List Block) (bytes : List ℕ) (h
     in_block = i % size one
 
     abbrev all_groups : ℕ
-    all_groups = (length tokens + 3) / 4
+    all_groups = (length tokens + 7) / 8
 
     abbrev block : Block
     block = get_or blocks home no_block
@@ -271,16 +256,16 @@ module _ (tokens : List TokenRecord) (blocks : List Block) (bytes : List ℕ) (h
 
     -- the group of the token, and how many bytes the groups before it take
     abbrev group : List TokenRecord
-    group = take 4 (drop (4 * (i / 4)) tokens)
+    group = take 8 (drop (8 * (i / 8)) tokens)
 
     abbrev before : ℕ
-    before = length (flat_map (group_at (each one) blocks tokens) (range_with_len 0 (i / 4)))
+    before = length (flat_map (group_at (each one) blocks tokens) (range_with_len 0 (i / 8)))
 
     abbrev field : Field
-    field = record { least = packing.least; at = groups_base h + place; first = 2 * sum (take k (widths_of block)); stride = sum (widths_of block); width = packing.width }
+    field = record { least = packing.least; at = groups_base h + place; first = sum (take k (widths_of block)); stride = sum (widths_of block); width = packing.width }
 
     abbrev bit : ℕ
-    bit = in_block % 4 * (2 * stride_of block) + 2 * sum (take k (widths_of block))
+    bit = in_block % 8 * stride_of block + sum (take k (widths_of block))
 
     abbrev at : ℕ
     at = groups_base h + before + bit / 8
@@ -295,7 +280,7 @@ module _ (tokens : List TokenRecord) (blocks : List Block) (bytes : List ℕ) (h
     few-groups = subst (λ n. all_groups ≤ each one * n) (sym are.count) (groups-fit one (length tokens))
 
     abbrev first : ℕ
-    first = 2 * sum (take k (widths_of block))
+    first = sum (take k (widths_of block))
 
     fields-at : (j : ℕ) → j < 5 → IsPacked j (block_tokens tokens home) (packing_at j block)
     fields-at j is = packed-at j (block_tokens tokens home) block is (are.each home no_block block-is)
@@ -324,43 +309,43 @@ module _ (tokens : List TokenRecord) (blocks : List Block) (bytes : List ℕ) (h
 
     group-lies : (base : ℕ) (all : List ℕ) → LiesAt base (groups_of blocks tokens) all → LiesAt (base + before) (group_of block group) all
     group-lies base all g =
-        let same : i / 4 / each one ≡ home = group-in one i in
-        let lies = lies-among (group_at (each one) blocks tokens) 0 all_groups (i / 4) (i / 4) base all g (omega (arith, there)) (omega arith) in
+        let same : i / 8 / each one ≡ home = group-in one i in
+        let lies = lies-among (group_at (each one) blocks tokens) 0 all_groups (i / 8) (i / 8) base all g (omega (arith, there)) (omega arith) in
         subst (λ b. LiesAt (base + before) (group_of (get_or blocks b no_block) group) all) same lies
 
-    before-is : before ≡ place + in_block / 4 * stride_of block
+    before-is : before ≡ place + in_block / 8 * stride_of block
     before-is =
-        groups-length one (i / 4) blocks tokens (omega (arith, few-groups, there)) ∙ ap (λ n. group_bytes_of (each one) n blocks) (group-is one i)
-        ∙ bytes-within one home (in_block / 4) blocks (group-low one i) block-is ∙ ap (λ n. n + in_block / 4 * stride_of block) (sym place-is)
+        groups-length one (i / 8) blocks tokens (omega (arith, few-groups, there)) ∙ ap (λ n. group_bytes_of (each one) n blocks) (group-is one i)
+        ∙ bytes-within one home (in_block / 8) blocks (group-low one i) block-is ∙ ap (λ n. n + in_block / 8 * stride_of block) (sym place-is)
 
     -- the bits of the field begin where they are read
-    bits-are : (first + in_block * (2 * sum (widths_of block))) ≡ 8 * (in_block / 4 * stride_of block) + bit
+    bits-are : (first + in_block * sum (widths_of block)) ≡ 8 * (in_block / 8 * stride_of block) + bit
     bits-are =
-        let split : in_block ≡ 4 * (in_block / 4) + in_block % 4 = omega arith in
-        ap (λ s. first + in_block * (2 * s)) (five-widths block) ∙ ap (λ j. first + j * (2 * stride_of block)) split ∙ split-bits (in_block / 4) (in_block % 4) (stride_of block) first
+        let split : in_block ≡ 8 * (in_block / 8) + in_block % 8 = omega arith in
+        ap (λ s. first + in_block * s) (five-widths block) ∙ ap (λ j. first + j * stride_of block) split ∙ split-bits (in_block / 8) (in_block % 8) (stride_of block) first
 
-    at-is : groups_base h + place + (first + in_block * (2 * sum (widths_of block))) / 8 ≡ at
+    at-is : groups_base h + place + (first + in_block * sum (widths_of block)) / 8 ≡ at
     at-is =
-        let far = ap (λ n. n / 8) bits-are ∙ div-eight (in_block / 4 * stride_of block) bit in
+        let far = ap (λ n. n / 8) bits-are ∙ div-eight (in_block / 8 * stride_of block) bit in
         omega (arith, far, before-is)
 
-    bit-is : (first + in_block * (2 * sum (widths_of block))) % 8 ≡ bit % 8
-    bit-is = ap (λ n. n % 8) bits-are ∙ mod-eight (in_block / 4 * stride_of block) bit
+    bit-is : (first + in_block * sum (widths_of block)) % 8 ≡ bit % 8
+    bit-is = ap (λ n. n % 8) bits-are ∙ mod-eight (in_block / 8 * stride_of block) bit
 
     within : at + 8 ≤ length bytes
     within =
         let inner = lies-within (0 + before) (group_of block group) (groups_of blocks tokens) (group-lies 0 (groups_of blocks tokens) (lies-whole (groups_of blocks tokens))) in
-        let fits = within-four (in_block % 4) first (2 * packing.width) (stride_of block) (omega arith) (field-within k block is_field) in
+        let fits = within-eight (in_block % 8) first packing.width (stride_of block) (omega arith) (field-within k block is_field) in
         omega (arith, inner, group-length block group, room, fits)
 
-    one-small : (j n : ℕ) → j < 5 → n < 4 → above_in j (packing_at j block) (slice_get group n) < 2 ^ (2 * (packing_at j block).width)
+    one-small : (j n : ℕ) → j < 5 → n < 8 → above_in j (packing_at j block) (slice_get group n) < 2 ^ (packing_at j block).width
     one-small j n is lt =
-        let s = 4 * (i / 4) in
+        let s = 8 * (i / 8) in
         let same : home ≡ (s + n) / size one = group-again one i n lt in
         above-small-by (nat_lt (s + n) (length tokens)) j tokens (packing_at j block) s n refl lt
         (λ less d. above-fits j tokens (s + n) (packing_at j block) (subst (λ b. IsPacked j (block_tokens tokens b) (packing_at j block)) same (fields-at j is)) d less) d
 
-    values-small : (n : ℕ) → n < 4 → FieldsFit block (slice_get group n)
+    values-small : (n : ℕ) → n < 8 → FieldsFit block (slice_get group n)
     values-small n lt = record {
       column = one-small 0 n (omega arith) lt;
       source = one-small 1 n (omega arith) lt;
@@ -369,25 +354,25 @@ module _ (tokens : List TokenRecord) (blocks : List Block) (bytes : List ℕ) (h
       name = one-small 4 n (omega arith) lt;
     }
 
-    token-there : slice_get group (in_block % 4) ≡ Some (get_or tokens i d)
+    token-there : slice_get group (in_block % 8) ≡ Some (get_or tokens i d)
     token-there =
-        let here : 4 * (i / 4) + in_block % 4 ≡ i = omega (arith, in-group one i) in
-        part-get tokens 4 (4 * (i / 4)) (in_block % 4) d (omega arith) (omega (arith, here, there)) ∙ ap (λ n. Some (get_or tokens n d)) here
+        let here : 8 * (i / 8) + in_block % 8 ≡ i = omega (arith, in-group one i) in
+        part-get tokens 8 (8 * (i / 8)) (in_block % 8) d (omega arith) (omega (arith, here, there)) ∙ ap (λ n. Some (get_or tokens n d)) here
 
-    above-is : number_at 8 bytes at / 2 ^ (bit % 8) % 2 ^ (2 * packing.width) ≡ number - packing.least
+    above-is : number_at 8 bytes at / 2 ^ (bit % 8) % 2 ^ packing.width ≡ number - packing.least
     above-is =
-        value-of-group block group (groups_base h + before) bytes values-small (group-lies (groups_base h) bytes groups) k (in_block % 4) is_field (omega arith) fields.width
+        value-of-group block group (groups_base h + before) bytes values-small (group-lies (groups_base h) bytes groups) k (in_block % 8) is_field (omega arith) fields.width
         ∙ ap (above_in k packing) token-there
 
-    read-is : number_at 8 bytes (field.at + (first + in_block * (2 * field.stride)) / 8) / 2 ^ ((first + in_block * (2 * field.stride)) % 8) % 2 ^ (2 * packing.width) ≡ number - packing.least
+    read-is : number_at 8 bytes (field.at + (first + in_block * field.stride) / 8) / 2 ^ ((first + in_block * field.stride) % 8) % 2 ^ packing.width ≡ number - packing.least
     read-is =
-        ap (λ a. number_at 8 bytes a / 2 ^ ((first + in_block * (2 * field.stride)) % 8) % 2 ^ (2 * packing.width)) at-is
-        ∙ ap (λ r. number_at 8 bytes at / 2 ^ r % 2 ^ (2 * packing.width)) bit-is ∙ above-is
+        ap (λ a. number_at 8 bytes a / 2 ^ ((first + in_block * field.stride) % 8) % 2 ^ packing.width) at-is
+        ∙ ap (λ r. number_at 8 bytes at / 2 ^ r % 2 ^ packing.width) bit-is ∙ above-is
 
     pub value-read : value_of bytes h k i ≡ field_number k (get_or tokens i d)
     value-read =
         let whole : packing.least + (number - packing.least) ≡ number = omega (arith, least-reached) in
         let low : number < 4294967296 = omega (arith, small) in
-        let room : nat_le (field.at + (first + in_block * (2 * field.stride)) / 8 + 8) (length bytes) ≡ true = grind (arith, within, at-is) in
+        let room : nat_le (field.at + (first + in_block * field.stride) / 8 + 8) (length bytes) ≡ true = grind (arith, within, at-is) in
         ap (λ n. value_in bytes (field_in bytes h (i / block_size n) k) (i % block_size n)) counted ∙ ap (λ f. value_in bytes f in_block) field-is
         ∙ value-is bytes field in_block number room (ap (λ n. (packing.least + n) % 4294967296) read-is ∙ ap (λ n. n % 4294967296) whole ∙ mod-eq_of_lt low)

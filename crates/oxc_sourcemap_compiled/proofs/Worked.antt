@@ -11,7 +11,7 @@ use Rattle.oxc_sourcemap_compiled.specs.Compiled.{map_bytes, bytes_of, stored_te
 use Rattle.oxc_sourcemap_compiled.specs.declared.writing.blocks.Packing.{Packing}
 use Rattle.oxc_sourcemap_compiled.specs.Numbers.{number_at}
 use Rattle.oxc_sourcemap_compiled.specs.Layout.{header_in, compiled_fault}
-use Rattle.oxc_sourcemap_compiled.specs.Fields.{value_in, field_in}
+use Rattle.oxc_sourcemap_compiled.specs.Fields.{value_at, value_in, field_in}
 use Rattle.oxc_sourcemap_compiled.specs.CompiledMeaning.{compiled_in, compiled_meaning, token_in}
 use Rattle.oxc_sourcemap_compiled.specs.CompiledMeaning.{part_between}
 use Rattle.oxc_sourcemap_compiled.specs.declared.errors.CompiledError.TheVariants.{NotCompiled}
@@ -24,8 +24,8 @@ number-means : number_at 3 (9 ∷ 1 ∷ 2 ∷ 3 ∷ 9 ∷ []) 1 ≡ 197121
 unfolding number_at
 number-means = refl
 
--- Four values of six bits take three bytes: 1, 2, 3 and 63 are 1 + 2 * 64 + 3 * 64^2 + 63 * 64^3, and 10 is added to each.
-values-mean : value_in (129 ∷ 48 ∷ 252 ∷ 0 ∷ 0 ∷ 0 ∷ 0 ∷ 0 ∷ 0 ∷ 0 ∷ 0 ∷ 0 ∷ 0 ∷ 0 ∷ 0 ∷ 0 ∷ 0 ∷ []) (record { least = 10; at = 0; first = 0; stride = 3; width = 3 }) 3 ≡ 73
+-- Eight values of three bits take three bytes: 1 to 7 and 0 are 1 + 2 * 8 + 3 * 8^2 + 4 * 8^3 + 5 * 8^4 + 6 * 8^5 + 7 * 8^6, and 10 is added.
+values-mean : value_in (209 ∷ 88 ∷ 31 ∷ 0 ∷ 0 ∷ 0 ∷ 0 ∷ 0 ∷ 0 ∷ 0 ∷ 0 ∷ 0 ∷ 0 ∷ 0 ∷ 0 ∷ 0 ∷ 0 ∷ []) (record { least = 10; at = 0; first = 0; stride = 3; width = 3 }) 6 ≡ 17
 unfolding value_at number_at
 values-mean = refl
 
@@ -33,12 +33,12 @@ values-mean = refl
 -- {"version":3,"file":"o.js","sources":["a.js"],"sourcesContent":[""],"names":["f"],"mappings":"AAAAA;CAEE","ignoreList":[0]}
 abbrev two_lines : List ℕ
 two_lines =
-    115 ∷ 109 ∷ 97 ∷ 112 ∷ 1 ∷ 0 ∷ 0 ∷ 0 ∷ 192 ∷ 0 ∷ 0 ∷ 0 ∷ 0 ∷ 0 ∷ 0 ∷ 0 ∷ 107 ∷ 0 ∷ 0 ∷ 0 ∷ 0 ∷ 0 ∷ 0 ∷ 0 ∷ 0 ∷ 1 ∷ 2 ∷ 3
+    115 ∷ 109 ∷ 97 ∷ 112 ∷ 1 ∷ 0 ∷ 0 ∷ 0 ∷ 194 ∷ 0 ∷ 0 ∷ 0 ∷ 0 ∷ 0 ∷ 0 ∷ 0 ∷ 107 ∷ 0 ∷ 0 ∷ 0 ∷ 0 ∷ 0 ∷ 0 ∷ 0 ∷ 0 ∷ 1 ∷ 2 ∷ 3
     ∷ 4 ∷ 5 ∷ 6 ∷ 7 ∷ 8 ∷ 9 ∷ 10 ∷ 11 ∷ 12 ∷ 13 ∷ 14 ∷ 15 ∷ 16 ∷ 17 ∷ 18 ∷ 19 ∷ 20 ∷ 21 ∷ 22 ∷ 23 ∷ 24 ∷ 25 ∷ 26 ∷ 27 ∷ 28 ∷ 29 ∷ 30 ∷ 31
     ∷ 2 ∷ 0 ∷ 0 ∷ 0 ∷ 2 ∷ 0 ∷ 0 ∷ 0 ∷ 1 ∷ 0 ∷ 0 ∷ 0 ∷ 1 ∷ 0 ∷ 0 ∷ 0 ∷ 1 ∷ 0 ∷ 0 ∷ 0 ∷ 1 ∷ 0 ∷ 0 ∷ 0 ∷ 0 ∷ 0 ∷ 0 ∷ 0
-    ∷ 4 ∷ 0 ∷ 0 ∷ 0 ∷ 0 ∷ 0 ∷ 0 ∷ 0 ∷ 1 ∷ 0 ∷ 0 ∷ 0 ∷ 2 ∷ 0 ∷ 0 ∷ 0 ∷ 0 ∷ 0 ∷ 0 ∷ 0 ∷ 0 ∷ 0 ∷ 0 ∷ 0 ∷ 1 ∷ 0 ∷ 0 ∷ 0
-    ∷ 0 ∷ 0 ∷ 0 ∷ 0 ∷ 0 ∷ 0 ∷ 0 ∷ 0 ∷ 0 ∷ 0 ∷ 0 ∷ 0 ∷ 1 ∷ 0 ∷ 1 ∷ 1 ∷ 1 ∷ 0 ∷ 0 ∷ 0 ∷ 0 ∷ 0 ∷ 0 ∷ 0 ∷ 0 ∷ 4 ∷ 0 ∷ 0
-    ∷ 0 ∷ 5 ∷ 0 ∷ 0 ∷ 0 ∷ 6 ∷ 0 ∷ 0 ∷ 0 ∷ 11 ∷ 0 ∷ 0 ∷ 0 ∷ 11 ∷ 0 ∷ 0 ∷ 0 ∷ 11 ∷ 0 ∷ 0 ∷ 0 ∷ 64 ∷ 41 ∷ 0 ∷ 0 ∷ 97 ∷ 46 ∷ 106
+    ∷ 6 ∷ 0 ∷ 0 ∷ 0 ∷ 0 ∷ 0 ∷ 0 ∷ 0 ∷ 1 ∷ 0 ∷ 0 ∷ 0 ∷ 2 ∷ 0 ∷ 0 ∷ 0 ∷ 0 ∷ 0 ∷ 0 ∷ 0 ∷ 0 ∷ 0 ∷ 0 ∷ 0 ∷ 1 ∷ 0 ∷ 0 ∷ 0
+    ∷ 0 ∷ 0 ∷ 0 ∷ 0 ∷ 0 ∷ 0 ∷ 0 ∷ 0 ∷ 0 ∷ 0 ∷ 0 ∷ 0 ∷ 1 ∷ 0 ∷ 2 ∷ 2 ∷ 1 ∷ 0 ∷ 0 ∷ 0 ∷ 0 ∷ 0 ∷ 0 ∷ 0 ∷ 0 ∷ 4 ∷ 0 ∷ 0
+    ∷ 0 ∷ 5 ∷ 0 ∷ 0 ∷ 0 ∷ 6 ∷ 0 ∷ 0 ∷ 0 ∷ 11 ∷ 0 ∷ 0 ∷ 0 ∷ 11 ∷ 0 ∷ 0 ∷ 0 ∷ 11 ∷ 0 ∷ 0 ∷ 0 ∷ 96 ∷ 5 ∷ 0 ∷ 0 ∷ 0 ∷ 0 ∷ 97 ∷ 46 ∷ 106
     ∷ 115 ∷ 1 ∷ 102 ∷ 1 ∷ 111 ∷ 46 ∷ 106 ∷ 115 ∷ 0 ∷ 0 ∷ 0 ∷ 0 ∷ 0 ∷ 0 ∷ 0 ∷ 0 ∷ 0 ∷ 0 ∷ 0 ∷ 0 ∷ 0 ∷ 0 ∷ 0 ∷ 0 ∷ []
 
 two_lines-fine : compiled_fault two_lines ≡ None
@@ -83,13 +83,13 @@ two_lines-length = refl
 -- ---- a map with tokens on the lines 0 and 7 alone, whose numbers are listed
 abbrev far_lines : List ℕ
 far_lines =
-    115 ∷ 109 ∷ 97 ∷ 112 ∷ 1 ∷ 0 ∷ 0 ∷ 0 ∷ 201 ∷ 0 ∷ 0 ∷ 0 ∷ 0 ∷ 0 ∷ 0 ∷ 0 ∷ 0 ∷ 0 ∷ 0 ∷ 0 ∷ 0 ∷ 0 ∷ 0 ∷ 0 ∷ 0 ∷ 0 ∷ 0 ∷ 0
+    115 ∷ 109 ∷ 97 ∷ 112 ∷ 1 ∷ 0 ∷ 0 ∷ 0 ∷ 207 ∷ 0 ∷ 0 ∷ 0 ∷ 0 ∷ 0 ∷ 0 ∷ 0 ∷ 0 ∷ 0 ∷ 0 ∷ 0 ∷ 0 ∷ 0 ∷ 0 ∷ 0 ∷ 0 ∷ 0 ∷ 0 ∷ 0
     ∷ 0 ∷ 0 ∷ 0 ∷ 0 ∷ 0 ∷ 0 ∷ 0 ∷ 0 ∷ 0 ∷ 0 ∷ 0 ∷ 0 ∷ 0 ∷ 0 ∷ 0 ∷ 0 ∷ 0 ∷ 0 ∷ 0 ∷ 0 ∷ 0 ∷ 0 ∷ 0 ∷ 0 ∷ 0 ∷ 0 ∷ 0 ∷ 0
     ∷ 3 ∷ 0 ∷ 0 ∷ 0 ∷ 2 ∷ 0 ∷ 0 ∷ 0 ∷ 2 ∷ 0 ∷ 0 ∷ 0 ∷ 0 ∷ 0 ∷ 0 ∷ 0 ∷ 0 ∷ 0 ∷ 0 ∷ 0 ∷ 0 ∷ 0 ∷ 0 ∷ 0 ∷ 1 ∷ 0 ∷ 0 ∷ 0
-    ∷ 9 ∷ 0 ∷ 0 ∷ 0 ∷ 0 ∷ 0 ∷ 0 ∷ 0 ∷ 2 ∷ 0 ∷ 0 ∷ 0 ∷ 3 ∷ 0 ∷ 0 ∷ 0 ∷ 0 ∷ 0 ∷ 0 ∷ 0 ∷ 3 ∷ 0 ∷ 0 ∷ 0 ∷ 0 ∷ 0 ∷ 0 ∷ 0
-    ∷ 0 ∷ 0 ∷ 0 ∷ 0 ∷ 0 ∷ 0 ∷ 0 ∷ 0 ∷ 0 ∷ 0 ∷ 0 ∷ 0 ∷ 2 ∷ 1 ∷ 1 ∷ 5 ∷ 0 ∷ 0 ∷ 0 ∷ 0 ∷ 0 ∷ 1 ∷ 0 ∷ 0 ∷ 0 ∷ 2 ∷ 0 ∷ 0
+    ∷ 15 ∷ 0 ∷ 0 ∷ 0 ∷ 0 ∷ 0 ∷ 0 ∷ 0 ∷ 2 ∷ 0 ∷ 0 ∷ 0 ∷ 3 ∷ 0 ∷ 0 ∷ 0 ∷ 0 ∷ 0 ∷ 0 ∷ 0 ∷ 3 ∷ 0 ∷ 0 ∷ 0 ∷ 0 ∷ 0 ∷ 0 ∷ 0
+    ∷ 0 ∷ 0 ∷ 0 ∷ 0 ∷ 0 ∷ 0 ∷ 0 ∷ 0 ∷ 0 ∷ 0 ∷ 0 ∷ 0 ∷ 3 ∷ 2 ∷ 1 ∷ 9 ∷ 0 ∷ 0 ∷ 0 ∷ 0 ∷ 0 ∷ 1 ∷ 0 ∷ 0 ∷ 0 ∷ 2 ∷ 0 ∷ 0
     ∷ 0 ∷ 2 ∷ 0 ∷ 0 ∷ 0 ∷ 4 ∷ 0 ∷ 0 ∷ 0 ∷ 4 ∷ 0 ∷ 0 ∷ 0 ∷ 6 ∷ 0 ∷ 0 ∷ 0 ∷ 7 ∷ 0 ∷ 0 ∷ 0 ∷ 0 ∷ 0 ∷ 0 ∷ 0 ∷ 7 ∷ 0 ∷ 0
-    ∷ 0 ∷ 98 ∷ 44 ∷ 89 ∷ 9 ∷ 0 ∷ 0 ∷ 0 ∷ 0 ∷ 0 ∷ 97 ∷ 98 ∷ 1 ∷ 120 ∷ 1 ∷ 114 ∷ 1 ∷ 0 ∷ 0 ∷ 0 ∷ 0 ∷ 0 ∷ 0 ∷ 0 ∷ 0 ∷ 0 ∷ 0 ∷ 0
+    ∷ 0 ∷ 50 ∷ 75 ∷ 87 ∷ 0 ∷ 0 ∷ 0 ∷ 0 ∷ 0 ∷ 0 ∷ 0 ∷ 0 ∷ 0 ∷ 0 ∷ 0 ∷ 0 ∷ 97 ∷ 98 ∷ 1 ∷ 120 ∷ 1 ∷ 114 ∷ 1 ∷ 0 ∷ 0 ∷ 0 ∷ 0 ∷ 0 ∷ 0 ∷ 0 ∷ 0 ∷ 0 ∷ 0 ∷ 0
     ∷ 0 ∷ 0 ∷ 0 ∷ 0 ∷ 0 ∷ []
 
 far_lines-fine : compiled_fault far_lines ≡ None
@@ -135,7 +135,7 @@ later-means : compiled_meaning (codes "smap" ++ 2 ∷ 1 ∷ 0 ∷ 0 ∷ []) ≡ 
 unfolding compiled_fault number_at
 later-means = refl
 
-cut-means : compiled_meaning (take 191 two_lines) ≡ Err Length
+cut-means : compiled_meaning (take 193 two_lines) ≡ Err Length
 unfolding compiled_fault number_at
 cut-means = refl
 
@@ -163,7 +163,7 @@ two_lines_map = record {
   debug_id = None;
 }
 
-two_lines-written : map_bytes two_lines_map (0 ∷ 1 ∷ []) false (record { column = packing 0 1; source = packing 1 0; src_line = packing 0 1; src_col = packing 0 1; name = packing 0 1 } ∷ []) 107 (take 32 (drop 24 two_lines))
+two_lines-written : map_bytes two_lines_map (0 ∷ 1 ∷ []) false (record { column = packing 0 1; source = packing 1 0; src_line = packing 0 2; src_col = packing 0 2; name = packing 0 1 } ∷ []) 107 (take 32 (drop 24 two_lines))
     ≡ two_lines
 unfolding bytes_of stored_text
 two_lines-written = refl
@@ -180,7 +180,7 @@ far_lines-written : map_bytes (record {
   token_chunks = None;
   ignore_list = None;
   debug_id = Some [];
-}) (0 ∷ 7 ∷ []) true (record { column = packing 3 2; source = packing 0 1; src_line = packing 0 1; src_col = packing 0 5; name = packing 0 0 } ∷ []) 0 (take 32 (drop 24 far_lines))
+}) (0 ∷ 7 ∷ []) true (record { column = packing 3 3; source = packing 0 2; src_line = packing 0 1; src_col = packing 0 9; name = packing 0 0 } ∷ []) 0 (take 32 (drop 24 far_lines))
     ≡ far_lines
 unfolding bytes_of stored_text
 far_lines-written = refl

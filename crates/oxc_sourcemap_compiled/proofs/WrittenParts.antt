@@ -47,7 +47,7 @@ parts-sum a b c d e f g z =
 pub record PartsLie (r : MapRecord) (lines : List ℕ) (listed : Bool) (blocks : List Block) (text_length : ℕ) (stamp bytes : List ℕ) : Type 0 where
   pub header : LiesAt 0 (header_bytes (header_of_map r lines listed blocks) (compiled_length r lines listed blocks) text_length stamp) bytes
   pub starts : LiesAt 88 (table (line_starts r.tokens lines)) bytes
-  pub rows : LiesAt (rows_base (header_of_map r lines listed blocks)) (rows_of 0 (block_groups (length r.tokens)) ((length r.tokens + 3) / 4) blocks) bytes
+  pub rows : LiesAt (rows_base (header_of_map r lines listed blocks)) (rows_of 0 (block_groups (length r.tokens)) ((length r.tokens + 7) / 8) blocks) bytes
   pub ignored : LiesAt (ignored_base (header_of_map r lines listed blocks)) (table (ignored_of r)) bytes
   pub offsets : LiesAt (offsets_base (header_of_map r lines listed blocks)) (table (map (text_offset r) (range_with_len 0 (stored_count r + 1)))) bytes
   pub numbers : LiesAt (line_numbers_base (header_of_map r lines listed blocks)) (listed_table listed lines) bytes
@@ -67,7 +67,7 @@ module _ (r : MapRecord) (lines : List ℕ) (listed : Bool) (blocks : List Block
   p1 = table (line_starts r.tokens lines)
 
   abbrev p2 : List ℕ
-  p2 = rows_of 0 (block_groups (length r.tokens)) ((length r.tokens + 3) / 4) blocks
+  p2 = rows_of 0 (block_groups (length r.tokens)) ((length r.tokens + 7) / 8) blocks
 
   abbrev p3 : List ℕ
   p3 = table (ignored_of r)
@@ -99,7 +99,7 @@ module _ (r : MapRecord) (lines : List ℕ) (listed : Bool) (blocks : List Block
       table-length (line_starts r.tokens lines) ∙ ap (λ n. 4 * n) (length_push starts (length r.tokens) ∙ ap (λ n. n + 1) (length-map lines (λ n. count_before_line n r.tokens)))
 
   length-2 : length p2 ≡ 29 * blocks_for (length r.tokens)
-  length-2 = rows-length 0 (block_groups (length r.tokens)) ((length r.tokens + 3) / 4) blocks ∙ ap (λ n. 29 * n) are.count
+  length-2 = rows-length 0 (block_groups (length r.tokens)) ((length r.tokens + 7) / 8) blocks ∙ ap (λ n. 29 * n) are.count
 
   length-3 : length p3 ≡ 4 * length (ignored_of r)
   length-3 = table-length (ignored_of r)
@@ -110,11 +110,11 @@ module _ (r : MapRecord) (lines : List ℕ) (listed : Bool) (blocks : List Block
   length-5 : length p5 ≡ 4 * (if listed then length lines else 0)
   length-5 = listed-length listed lines
 
-  few : (length r.tokens + 3) / 4 ≤ block_groups (length r.tokens) * length blocks
-  few = subst (λ n. (length r.tokens + 3) / 4 ≤ block_groups (length r.tokens) * n) (sym are.count) (groups-fit (nat_le (length r.tokens) 16384) (length r.tokens))
+  few : (length r.tokens + 7) / 8 ≤ block_groups (length r.tokens) * length blocks
+  few = subst (λ n. (length r.tokens + 7) / 8 ≤ block_groups (length r.tokens) * n) (sym are.count) (groups-fit (nat_le (length r.tokens) 16384) (length r.tokens))
 
   length-6 : length p6 ≡ all_group_bytes r.tokens blocks
-  length-6 = groups-length (nat_le (length r.tokens) 16384) ((length r.tokens + 3) / 4) blocks r.tokens few
+  length-6 = groups-length (nat_le (length r.tokens) 16384) ((length r.tokens + 7) / 8) blocks r.tokens few
 
   length-7 : length p7 ≡ text_offset r (stored_count r)
   length-7 = texts-length r (stored_count r)

@@ -53,9 +53,9 @@ field_number (suc (suc (suc (suc k)))) t = id_number t.name_id
 -- How a field of these tokens is written: from each value the least one is taken, which one of the tokens has, and what is left
 -- fits into the bits of the width.
 pub record IsPacked (k : ℕ) (tokens : List TokenRecord) (p : Packing) : Type 0 where
-  pub width : p.width ≤ 16
+  pub width : p.width ≤ 32
   pub least : (i : ℕ) (d : TokenRecord) → i < length tokens → p.least ≤ field_number k (get_or tokens i d)
-  pub fits : (i : ℕ) (d : TokenRecord) → i < length tokens → field_number k (get_or tokens i d) - p.least < 2 ^ (2 * p.width)
+  pub fits : (i : ℕ) (d : TokenRecord) → i < length tokens → field_number k (get_or tokens i d) - p.least < 2 ^ p.width
   pub reached : (d : TokenRecord) → (i : ℕ) × (i < length tokens) × (p.least ≡ field_number k (get_or tokens i d))
 
 -- how all fields of these tokens are written
@@ -95,7 +95,7 @@ group_bytes_of each groups (b ∷ bs) = min groups each * stride_of b + group_by
 
 -- and those of all tokens
 abbrev pub all_group_bytes : List TokenRecord → List Block → ℕ
-all_group_bytes tokens blocks = group_bytes_of (block_groups (length tokens)) ((length tokens + 3) / 4) blocks
+all_group_bytes tokens blocks = group_bytes_of (block_groups (length tokens)) ((length tokens + 7) / 8) blocks
 
 -- the row of a block
 abbrev pub row_of : ℕ → Block → List ℕ
@@ -112,36 +112,36 @@ abbrev pub above_in : ℕ → Packing → Option TokenRecord → ℕ
 above_in k p None = 0
 above_in k p (Some t) = field_number k t - p.least
 
--- four numbers in one, the first lowest, each below this factor
-abbrev pub four_in : ℕ → ℕ → ℕ → ℕ → ℕ → ℕ
-four_in factor a b c d = a + factor * (b + factor * (c + factor * d))
-
 -- what is written of each field of a token fits into its bits
 pub record FieldsFit (b : Block) (t : Option TokenRecord) : Type 0 where
-  pub column : above_in 0 b.column t < 2 ^ (2 * b.column.width)
-  pub source : above_in 1 b.source t < 2 ^ (2 * b.source.width)
-  pub src_line : above_in 2 b.src_line t < 2 ^ (2 * b.src_line.width)
-  pub src_col : above_in 3 b.src_col t < 2 ^ (2 * b.src_col.width)
-  pub name : above_in 4 b.name t < 2 ^ (2 * b.name.width)
+  pub column : above_in 0 b.column t < 2 ^ b.column.width
+  pub source : above_in 1 b.source t < 2 ^ b.source.width
+  pub src_line : above_in 2 b.src_line t < 2 ^ b.src_line.width
+  pub src_col : above_in 3 b.src_col t < 2 ^ b.src_col.width
+  pub name : above_in 4 b.name t < 2 ^ b.name.width
 
 -- what is written of a token, in one number, its column lowest
 abbrev pub token_bits : Block → Option TokenRecord → ℕ
 token_bits b t =
-    above_in 0 b.column t + 2 ^ (2 * b.column.width) * (above_in 1 b.source t + 2 ^ (2 * b.source.width) * (above_in 2 b.src_line t
-    + 2 ^ (2 * b.src_line.width) * (above_in 3 b.src_col t + 2 ^ (2 * b.src_col.width) * above_in 4 b.name t)))
+    above_in 0 b.column t + 2 ^ b.column.width * (above_in 1 b.source t + 2 ^ b.source.width * (above_in 2 b.src_line t
+    + 2 ^ b.src_line.width * (above_in 3 b.src_col t + 2 ^ b.src_col.width * above_in 4 b.name t)))
 
 -- all widths of a block are those of numbers of 32 bits
 pub record AreNarrow (b : Block) : Type 0 where
-  pub column : b.column.width ≤ 16
-  pub source : b.source.width ≤ 16
-  pub src_line : b.src_line.width ≤ 16
-  pub src_col : b.src_col.width ≤ 16
-  pub name : b.name.width ≤ 16
+  pub column : b.column.width ≤ 32
+  pub source : b.source.width ≤ 32
+  pub src_line : b.src_line.width ≤ 32
+  pub src_col : b.src_col.width ≤ 32
+  pub name : b.name.width ≤ 32
 
--- up to four tokens, in one number, the first one lowest
+-- the first tokens of a group, in one number, the first one lowest; what is written of one that is not there is 0
+abbrev pub first_bits : Block → List TokenRecord → ℕ → ℕ
+first_bits b ts zero = 0
+first_bits b ts (suc n) = first_bits b ts n + 2 ^ (n * stride_of b) * token_bits b (slice_get ts n)
+
+-- all tokens of a group, of which there are up to eight
 abbrev pub group_bits : Block → List TokenRecord → ℕ
-group_bits b ts =
-    four_in (2 ^ (2 * stride_of b)) (token_bits b (slice_get ts 0)) (token_bits b (slice_get ts 1)) (token_bits b (slice_get ts 2)) (token_bits b (slice_get ts 3))
+group_bits b ts = first_bits b ts 8
 
 -- Of a number of so many bits the whole bytes are written, and the rest of it is left.
 pub record IsWritten (old out : List ℕ) (rest : Rest) (bits number : ℕ) : Type 0 where
@@ -164,8 +164,8 @@ no_block = record { column = no_packing; source = no_packing; src_line = no_pack
 -- the groups of all tokens
 abbrev pub groups_of : List Block → List TokenRecord → List ℕ
 groups_of blocks tokens =
-    flat_map (λ g. group_of (get_or blocks (g / block_groups (length tokens)) no_block) (take 4 (drop (4 * g) tokens)))
-    (range_with_len 0 ((length tokens + 3) / 4))
+    flat_map (λ g. group_of (get_or blocks (g / block_groups (length tokens)) no_block) (take 8 (drop (8 * g) tokens)))
+    (range_with_len 0 ((length tokens + 7) / 8))
 
 -- ---- texts
 -- a text that may be absent, with one byte in front of it where it is there
@@ -210,11 +210,11 @@ pub record AreSmall (r : MapRecord) : Type 0 where
   pub names : length r.names ≤ 4294967295
   pub ignored : length (ignored_of r) ≤ 4294967295
 
--- A map fits into a compiled map: by what a header counts, by its texts, and by its groups of at most 80 bytes.
+-- A map fits into a compiled map: by what a header counts, by its texts, and by its groups of at most 160 bytes.
 pub record FitsCompiled (r : MapRecord) : Type 0 where
   pub small : AreSmall r
   pub few_texts : text_offset r (stored_count r) ≤ 4294967295
-  pub few_groups : 80 * ((length r.tokens + 3) / 4) ≤ 4294967295
+  pub few_groups : 160 * ((length r.tokens + 7) / 8) ≤ 4294967295
 
 abbrev pub AreCountsOf : SourceMapParts → Type 0
 AreCountsOf parts = AreSmall (record_of_parts parts)
@@ -239,7 +239,7 @@ listed_table false lines = []
 -- the parts behind the header
 abbrev pub parts_bytes : MapRecord → List ℕ → Bool → List Block → List ℕ
 parts_bytes r lines listed blocks =
-    table (line_starts r.tokens lines) ++ (rows_of 0 (block_groups (length r.tokens)) ((length r.tokens + 3) / 4) blocks ++ (table (ignored_of r)
+    table (line_starts r.tokens lines) ++ (rows_of 0 (block_groups (length r.tokens)) ((length r.tokens + 7) / 8) blocks ++ (table (ignored_of r)
     ++ (table (map (text_offset r) (range_with_len 0 (stored_count r + 1))) ++ (listed_table listed lines ++ (groups_of blocks r.tokens
     ++ (flat_map (stored_text r) (range_with_len 0 (stored_count r)) ++ bytes_of 16 0))))))
 

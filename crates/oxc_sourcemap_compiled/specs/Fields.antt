@@ -1,5 +1,5 @@
 -- The values of fields of tokens. Tokens stand in blocks, one after the other, and each field of a token behind that before it, bit by bit:
--- in twice as many bits as the width of the field in that block. So four tokens take a whole number of bytes, the sum of the widths.
+-- in as many bits as the width of the field in that block. So eight tokens take a whole number of bytes, the sum of the widths.
 use Rattle.std.specs.Prelude.{ℕ, ◌+◌, ◌*◌, ◌/◌, ◌%◌, ◌^◌, ◌≤◌, List, length, take, drop, get_or}
 use Rattle.std.specs.Prelude.{min, sum, nat_le, if◌then◌else◌}
 use Rattle.oxc_sourcemap_compiled.specs.Numbers.{number_at}
@@ -10,8 +10,8 @@ use Rattle.oxc_sourcemap_compiled.specs.declared.layout.Header.{Header}
 
 -- a field whose values have at most 32 bits
 pub record IsField (f : Field) : Type 0 where
-  pub width : f.width ≤ 16
-  pub first : f.first ≤ 2040
+  pub width : f.width ≤ 32
+  pub first : f.first ≤ 1020
   pub stride : f.stride ≤ 1275
   pub at : f.at ≤ 1099511627776
 
@@ -19,11 +19,11 @@ pub record IsField (f : Field) : Type 0 where
 unfoldable pub value_at : List ℕ → Field → ℕ → ℕ
 value_at bytes f bit =
     let at = f.at + bit / 8 in
-    if nat_le (at + 8) (length bytes) then (f.least + number_at 8 bytes at / 2 ^ (bit % 8) % 2 ^ (2 * f.width)) % 2 ^ 32 else f.least
+    if nat_le (at + 8) (length bytes) then (f.least + number_at 8 bytes at / 2 ^ (bit % 8) % 2 ^ f.width) % 2 ^ 32 else f.least
 
 -- the value of a field in a token, by the number of the token in its block
 abbrev pub value_in : List ℕ → Field → ℕ → ℕ
-value_in bytes f j = value_at bytes f (f.first + j * (2 * f.stride))
+value_in bytes f j = value_at bytes f (f.first + j * f.stride)
 
 -- where the row of a block lies: 4 bytes for where its groups begin, 4 for the least value of each field, 1 for each width
 abbrev pub row_base : Header → ℕ → ℕ
@@ -40,9 +40,9 @@ field_in bytes h b k =
     record {
       least = number_at 4 bytes (row_base h b + 4 + 4 * k);
       at = groups_base h + number_at 4 bytes (row_base h b);
-      first = 2 * sum (take k widths);
+      first = sum (take k widths);
       stride = sum widths;
-      width = min (get_or widths k 0) 16;
+      width = min (get_or widths k 0) 32;
     }
 
 -- the five fields of a block have values of at most 32 bits

@@ -24,13 +24,13 @@ header_in bytes = record {
   group_bytes = number_at 4 bytes 84;
 }
 
--- how many groups of four tokens a block has, of a map with this many tokens: 4096, so all, where there are at most 16384, else 16
+-- how many groups of eight tokens a block has, of a map with this many tokens: 2048, so all, where there are at most 16384, else 8
 abbrev pub block_groups : ℕ → ℕ
-block_groups tokens = if nat_le tokens 16384 then 4096 else 16
+block_groups tokens = if nat_le tokens 16384 then 2048 else 8
 
 -- how many tokens a block has
 abbrev pub block_size : ℕ → ℕ
-block_size tokens = 4 * block_groups tokens
+block_size tokens = 8 * block_groups tokens
 
 -- how many blocks this many tokens take, the last one with fewer
 abbrev pub blocks_for : ℕ → ℕ

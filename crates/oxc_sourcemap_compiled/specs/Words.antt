@@ -6,7 +6,7 @@ pub use Rattle.oxc_sourcemap_compiled.specs.Compiled.{all_group_bytes}
 pub use Rattle.oxc_sourcemap_compiled.specs.Compiled.{row_of, FitsCompiled}
 pub use Rattle.oxc_sourcemap_compiled.specs.Compiled.{rows_of, group_of, above_in}
 pub use Rattle.oxc_sourcemap_compiled.specs.Compiled.{AreNarrow, FieldsFit, IsWritten}
-pub use Rattle.oxc_sourcemap_compiled.specs.Compiled.{token_bits, group_bits}
+pub use Rattle.oxc_sourcemap_compiled.specs.Compiled.{token_bits, first_bits, group_bits}
 pub use Rattle.oxc_sourcemap_compiled.specs.Compiled.{groups_of, ignored_of, AreCountsOf}
 pub use Rattle.oxc_sourcemap_compiled.specs.Compiled.{stored_text}
 pub use Rattle.oxc_sourcemap_compiled.specs.Compiled.{stored_count, text_offset, header_bytes}

@@ -6,8 +6,8 @@ ghost use Rattle.oxc_sourcemap_compiled.specs.Words.{stored_id, token_at};
 use crate::numbers::u64_at;
 use oxc_sourcemap_tokens::Token;
 
-/// One field of the tokens of a block: where the block lies, at which bit of each token the field begins, how many bytes four tokens
-/// take and four values of the field, and what is added to each value.
+/// One field of the tokens of a block: where the block lies, at which bit of each token the field begins, how many bits a token takes
+/// and a value of the field, and what is added to each value.
 #[derive(Clone, Copy)]
 pub(crate) struct Field {
     pub(crate) least: u32,
@@ -49,7 +49,7 @@ impl Field {
         if at + 8 > bytes.len() {
             return self.least;
         }
-        let above = bits_from(u64_at(bytes, at), bit % 8, 2 * self.width);
+        let above = bits_from(u64_at(bytes, at), bit % 8, self.width);
         self.least.wrapping_add(above)
     }
 
@@ -60,7 +60,7 @@ impl Field {
         requires there { j < 16384 }
         ensures { result ≡ value_in bytes.now self.now j }
     {
-        self.value_at(bytes, self.first + j * (2 * self.stride))
+        self.value_at(bytes, self.first + j * self.stride)
     }
 }
 

@@ -34,22 +34,22 @@ pub(crate) struct Layout {
     pub(crate) texts: usize,
 }
 
-/// How many groups of four tokens a block has, of a map with this many tokens.
+/// How many groups of eight tokens a block has, of a map with this many tokens.
 pub(crate) fn groups_in_block(tokens: usize) -> usize
     ensures value { result ≡ block_groups tokens }
-    ensures some { 16 ≤ result }
-    ensures few { result ≤ 4096 }
+    ensures some { 8 ≤ result }
+    ensures few { result ≤ 2048 }
 {
-    if tokens <= 16384 { 4096 } else { 16 }
+    if tokens <= 16384 { 2048 } else { 8 }
 }
 
 /// The block of a group of this many tokens.
 #[inline(always)]
 pub(crate) fn block_with(tokens: usize, group: usize) -> usize
-    requires { group < (tokens + 3) / 4 }
+    requires { group < (tokens + 7) / 8 }
     ensures { result ≡ group / block_groups tokens }
 {
-    if tokens <= 16384 { 0 } else { group / 16 }
+    if tokens <= 16384 { 0 } else { group / 8 }
 }
 
 /// How many blocks this many tokens take.

@@ -74,9 +74,9 @@ fn read_field(bytes: &[u8], header: &Header, layout: &Layout, b: usize, k: usize
     Field {
         least: u32_at(bytes, row + 4 + 4 * k),
         at: layout.groups + u32_at(bytes, row) as usize,
-        first: 2 * width_before(widths, k),
+        first: width_before(widths, k),
         stride: width_of_all(widths),
-        width: usize::from(widths[k]).min(16),
+        width: usize::from(widths[k]).min(32),
     }
 }
 

@@ -54,7 +54,7 @@ impl Field {
             → IsCut (value_in bytes.now self.now) limit first (first + count) cut
             → result ≡ cut }
     {
-        let bits = 2 * self.stride;
+        let bits = self.stride;
         let mut start = first;
         let mut bit = self.first + first * bits;
         let mut size = count;

@@ -142,7 +142,7 @@ fn push_parts(
         out,
         blocks,
         groups_in_block(tokens.len()),
-        (tokens.len() + 3) / 4,
+        (tokens.len() + 7) / 8,
     )?;
     push_table(out, ignored_ids(parts))?;
     push_offsets(out, parts)?;
@@ -233,7 +233,7 @@ fn write_map(
 /// ```
 ///
 /// Fails with `Unsorted` if the tokens are not sorted, then with `Map(TooLarge)` if there are more than 4294967295 tokens, sources,
-/// names or entries of the ignore list, or more bytes of texts or of groups of tokens (a group of four tokens has at most 80), and with
+/// names or entries of the ignore list, or more bytes of texts or of groups of tokens (a group of eight tokens has at most 160), and with
 /// `Map(OutOfMemory)`.
 pub fn compile(
     alloc: Global,
@@ -268,7 +268,7 @@ pub fn compile(
     let group_bytes = group_bytes(
         blocks.as_slice(),
         groups_in_block(tokens.len()),
-        (tokens.len() + 3) / 4,
+        (tokens.len() + 7) / 8,
     );
     let text_bytes = text_bytes(parts);
     if group_bytes > 4294967295 || text_bytes > 4294967295 {

@@ -1,4 +1,4 @@
-//! Blocks of tokens: their rows, and their groups of four.
+//! Blocks of tokens: their rows, and their groups of eight.
 ghost use Rattle.std.specs.Prelude.{◌≡◌, ◌≤◌, ◌<◌, ◌+◌, ◌-◌, ◌*◌, ◌/◌, ◌^◌, ℕ, IfOk, OnOk, length};
 ghost use Rattle.std.specs.Prelude.{get_or, slice_get, List};
 ghost use Rattle.std.specs.Prelude.{◌++◌, take, drop};
@@ -18,7 +18,7 @@ use crate::writing::pushing::{push_number, push_u32};
 use oxc_sourcemap_tokens::{Memory, Token};
 use std::alloc::Global;
 
-/// How a field of the tokens of a block is written: what is taken from each value, and how many bytes four of them take.
+/// How a field of the tokens of a block is written: what is taken from each value, and how many bits are left of it.
 #[derive(Clone, Copy)]
 pub(crate) struct Packing {
     least: u32,
@@ -62,29 +62,45 @@ fn field_of(token: &Token, k: usize) -> u32
     }
 }
 
-/// How many bytes four numbers take that are at most this one.
+/// How many bits numbers take that are at most this one.
 fn width_of(most: u32) -> u8
-    ensures fits { most < 2 ^ (2 * result) }
-    ensures small { result ≤ 16 }
+    ensures fits { most < 2 ^ result }
+    ensures small { result ≤ 32 }
 {
     match most {
         0 => 0,
-        1..=3 => 1,
-        4..=15 => 2,
-        16..=63 => 3,
-        64..=255 => 4,
-        256..=1023 => 5,
-        1024..=4095 => 6,
-        4096..=16383 => 7,
-        16384..=65535 => 8,
-        65536..=262143 => 9,
-        262144..=1048575 => 10,
-        1048576..=4194303 => 11,
-        4194304..=16777215 => 12,
-        16777216..=67108863 => 13,
-        67108864..=268435455 => 14,
-        268435456..=1073741823 => 15,
-        _ => 16,
+        1 => 1,
+        2..=3 => 2,
+        4..=7 => 3,
+        8..=15 => 4,
+        16..=31 => 5,
+        32..=63 => 6,
+        64..=127 => 7,
+        128..=255 => 8,
+        256..=511 => 9,
+        512..=1023 => 10,
+        1024..=2047 => 11,
+        2048..=4095 => 12,
+        4096..=8191 => 13,
+        8192..=16383 => 14,
+        16384..=32767 => 15,
+        32768..=65535 => 16,
+        65536..=131071 => 17,
+        131072..=262143 => 18,
+        262144..=524287 => 19,
+        524288..=1048575 => 20,
+        1048576..=2097151 => 21,
+        2097152..=4194303 => 22,
+        4194304..=8388607 => 23,
+        8388608..=16777215 => 24,
+        16777216..=33554431 => 25,
+        33554432..=67108863 => 26,
+        67108864..=134217727 => 27,
+        134217728..=268435455 => 28,
+        268435456..=536870911 => 29,
+        536870912..=1073741823 => 30,
+        1073741824..=2147483647 => 31,
+        _ => 32,
     }
 }
 
@@ -127,7 +143,7 @@ pub(crate) fn blocks_of(alloc: Global, tokens: &[Token]) -> Memory<Vec<Block>>
     requires { length tokens.now ≤ 4294967295 }
     ensures { IfOk result (λ blocks. AreBlocksOf tokens.now blocks.items) }
 {
-    let size = 4 * groups_in_block(tokens.len());
+    let size = 8 * groups_in_block(tokens.len());
     let count = count_blocks(tokens.len());
     let mut blocks = Vec::with_capacity(alloc, count)?;
     for b in 0..count {
@@ -141,7 +157,7 @@ pub(crate) fn blocks_of(alloc: Global, tokens: &[Token]) -> Memory<Vec<Block>>
 fn stride(block: &Block) -> usize
     requires { AreNarrow block.now }
     ensures value { result ≡ stride_of block.now }
-    ensures small { result ≤ 80 }
+    ensures small { result ≤ 160 }
 {
     usize::from(block.column.width)
         + usize::from(block.source.width)
@@ -152,10 +168,10 @@ fn stride(block: &Block) -> usize
 
 /// How many bytes all groups take, if so many are in each block but the last.
 pub(crate) fn group_bytes(blocks: &[Block], each: usize, groups: usize) -> usize
-    requires groups { groups ≤ 1073741824 }
+    requires groups { groups ≤ 536870912 }
     requires narrow { All AreNarrow blocks.now }
     ensures value { result ≡ group_bytes_of each groups blocks.now }
-    ensures most { result ≤ 80 * groups }
+    ensures most { result ≤ 160 * groups }
 {
     let mut sum = 0;
     let mut rest = groups;
@@ -192,7 +208,7 @@ pub(crate) fn push_rows(
     each: usize,
     groups: usize,
 ) -> Memory<()>
-    requires groups { groups ≤ 1073741824 }
+    requires groups { groups ≤ 536870912 }
     requires narrow { All AreNarrow blocks.now }
     ensures { OnOk result (out.new.items ≡ out.old.items ++ rows_of 0 each groups blocks.now) }
 {
@@ -260,20 +276,20 @@ fn joined_bits(low: u32, width: usize, high: u64) -> u64
 /// What is written of a token, in one number, where it has few bits.
 #[inline(always)]
 fn token_number(block: Block, token: Option<&Token>) -> u64
-    requires few { stride_of block ≤ 28 }
+    requires few { stride_of block ≤ 56 }
     requires narrow { AreNarrow block }
     requires fits { FieldsFit block (lent_item token) }
     ensures { result ≡ token_bits block (lent_item token.entry) }
 {
     let name = u64::from(above(token, 4, block.name));
     let src_col = above(token, 3, block.src_col);
-    let more = joined_bits(src_col, 2 * usize::from(block.src_col.width), name);
+    let more = joined_bits(src_col, usize::from(block.src_col.width), name);
     let src_line = above(token, 2, block.src_line);
-    let more = joined_bits(src_line, 2 * usize::from(block.src_line.width), more);
+    let more = joined_bits(src_line, usize::from(block.src_line.width), more);
     let source = above(token, 1, block.source);
-    let more = joined_bits(source, 2 * usize::from(block.source.width), more);
+    let more = joined_bits(source, usize::from(block.source.width), more);
     let column = above(token, 0, block.column);
-    joined_bits(column, 2 * usize::from(block.column.width), more)
+    joined_bits(column, usize::from(block.column.width), more)
 }
 
 /// Appends a field of a token.
@@ -287,17 +303,17 @@ fn push_field(
     requires left { rest.bits < 2 ^ rest.count }
     requires few { rest.count ≤ 7 }
     requires field { k < 5 }
-    requires width { packing.width ≤ 16 }
-    requires fits { above_in k packing (lent_item token) < 2 ^ (2 * packing.width) }
+    requires width { packing.width ≤ 32 }
+    requires fits { above_in k packing (lent_item token) < 2 ^ packing.width }
     ensures written { IfOk result (λ r. (old : List ℕ) (bits number : ℕ)
         → IsWritten old out.old.items rest bits number
-        → IsWritten old out.new.items r (bits + 2 * packing.width)
+        → IsWritten old out.new.items r (bits + packing.width)
         (number + 2 ^ bits * above_in k packing (lent_item token.entry))) }
     ensures left { IfOk result (λ r. r.bits < 2 ^ r.count) }
     ensures few { IfOk result (λ r. r.count ≤ 7) }
 {
     let value = u64::from(above(token, k, packing));
-    push_bits(out, rest, value, 2 * usize::from(packing.width))
+    push_bits(out, rest, value, usize::from(packing.width))
 }
 
 /// Appends a token field by field.
@@ -308,7 +324,7 @@ fn push_fields(out: &mut Vec<u8>, rest: Rest, block: Block, token: Option<&Token
     requires fits { FieldsFit block (lent_item token) }
     ensures written { IfOk result (λ r. (old : List ℕ) (bits number : ℕ)
         → IsWritten old out.old.items rest bits number
-        → IsWritten old out.new.items r (bits + 2 * stride_of block)
+        → IsWritten old out.new.items r (bits + stride_of block)
         (number + 2 ^ bits * token_bits block (lent_item token.entry))) }
     ensures left { IfOk result (λ r. r.bits < 2 ^ r.count) }
     ensures few { IfOk result (λ r. r.count ≤ 7) }
@@ -330,30 +346,30 @@ fn push_token(out: &mut Vec<u8>, rest: Rest, block: Block, token: Option<&Token>
     requires fits { FieldsFit block (lent_item token) }
     ensures written { IfOk result (λ r. (old : List ℕ) (bits number : ℕ)
         → IsWritten old out.old.items rest bits number
-        → IsWritten old out.new.items r (bits + 2 * stride_of block)
+        → IsWritten old out.new.items r (bits + stride_of block)
         (number + 2 ^ bits * token_bits block (lent_item token.entry))) }
     ensures left { IfOk result (λ r. r.bits < 2 ^ r.count) }
     ensures few { IfOk result (λ r. r.count ≤ 7) }
 {
     let stride = stride(&block);
-    if stride <= 28 {
-        push_bits(out, rest, token_number(block, token), 2 * stride)
+    if stride <= 56 {
+        push_bits(out, rest, token_number(block, token), stride)
     } else {
         push_fields(out, rest, block, token)
     }
 }
 
-/// Appends a group of up to four tokens.
+/// Appends a group of up to eight tokens.
 fn push_group(out: &mut Vec<u8>, block: &Block, tokens: &[Token]) -> Memory<()>
     requires narrow { AreNarrow block.now }
-    requires fits { (n : ℕ) → n < 4 → FieldsFit block.now (slice_get tokens.now n) }
+    requires fits { (n : ℕ) → n < 8 → FieldsFit block.now (slice_get tokens.now n) }
     ensures { OnOk result (out.new.items ≡ out.old.items ++ group_of block.now tokens.now) }
 {
     let block = *block;
-    let rest = push_token(out, Rest { bits: 0, count: 0 }, block, tokens.first())?;
-    let rest = push_token(out, rest, block, tokens.get(1))?;
-    let rest = push_token(out, rest, block, tokens.get(2))?;
-    push_token(out, rest, block, tokens.get(3))?;
+    let mut rest = Rest { bits: 0, count: 0 };
+    for n in 0..8 {
+        rest = push_token(out, rest, block, tokens.get(n))?;
+    }
     Ok(())
 }
 
@@ -363,10 +379,10 @@ pub(crate) fn push_groups(out: &mut Vec<u8>, blocks: &[Block], tokens: &[Token])
     requires blocks { AreBlocksOf tokens.now blocks.now }
     ensures { OnOk result (out.new.items ≡ out.old.items ++ groups_of blocks.now tokens.now) }
 {
-    for g in 0..(tokens.len() + 3) / 4 {
-        let end = (4 * g + 4).min(tokens.len());
+    for g in 0..(tokens.len() + 7) / 8 {
+        let end = (8 * g + 8).min(tokens.len());
         let block = &blocks[block_with(tokens.len(), g)];
-        push_group(out, block, &tokens[4 * g..end])?;
+        push_group(out, block, &tokens[8 * g..end])?;
     }
     Ok(())
 }

@@ -23,5 +23,5 @@ returns-clause-value c =
     let groups : layout.groups ≡ groups_base h = ap (λ l. l.groups) placed in
     let before = c.width_before.ensures.value ∙ ap (λ ws. sum (take k ws)) slice in
     let stride = c.width_of_all.ensures.value ∙ ap sum slice in
-    let width = c.min.ensures ∙ ap (λ m. min m 16) c.from.ensures ∙ ap (λ ws. min (get_or ws k 0) 16) slice in
-    same-field least (ap (λ n. n + c.u32_at-2.result) groups ∙ ap (λ n. groups_base h + n) place) (ap (λ n. 2 * n) before) stride width
+    let width = c.min.ensures ∙ ap (λ m. min m 32) c.from.ensures ∙ ap (λ ws. min (get_or ws k 0) 32) slice in
+    same-field least (ap (λ n. n + c.u32_at-2.result) groups ∙ ap (λ n. groups_base h + n) place) before stride width

@@ -18,9 +18,9 @@ returns-clause-bytes c =
     let listed = c.in_ok-lines.has_line_numbers in
     let number = c.args.text_length in
     let stamp = c.args.stamp.now in
-    let groups = c.group_bytes-group_bytes.ensures.value ∙ ap (λ p. group_bytes_of p ((length c.as_slice-tokens.result.now + 3) / 4) c.as_slice.result.now) c.groups_in_block.ensures.value
-    ∙ ap (λ ts. group_bytes_of (block_groups (length ts)) ((length ts + 3) / 4) c.as_slice.result.now) tokens
-    ∙ ap (group_bytes_of (block_groups (length r.tokens)) ((length r.tokens + 3) / 4)) c.as_slice.ensures.value in
+    let groups = c.group_bytes-group_bytes.ensures.value ∙ ap (λ p. group_bytes_of p ((length c.as_slice-tokens.result.now + 7) / 8) c.as_slice.result.now) c.groups_in_block.ensures.value
+    ∙ ap (λ ts. group_bytes_of (block_groups (length ts)) ((length ts + 7) / 8) c.as_slice.result.now) tokens
+    ∙ ap (group_bytes_of (block_groups (length r.tokens)) ((length r.tokens + 7) / 8)) c.as_slice.ensures.value in
     record {
       lines = lines;
       listed = c.in_ok-lines.has_line_numbers;

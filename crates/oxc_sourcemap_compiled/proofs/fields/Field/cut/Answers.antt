@@ -6,17 +6,17 @@ use Rattle.oxc_sourcemap_compiled.proofs.Searches.{halved-none, halved-more, hal
 use Rattle.oxc_sourcemap_compiled.proofs.fields.Field.cut.Goals as goal
 
 -- the bit of a token so many steps further, and that of where a search goes on
-bit-at : (first bit start step s : ℕ) → bit ≡ first + start * (2 * s) → 0 < step → bit + (step - 1) * (2 * s) ≡ first + (start + step - 1) * (2 * s)
+bit-at : (first bit start step s : ℕ) → bit ≡ first + start * s → 0 < step → bit + (step - 1) * s ≡ first + (start + step - 1) * s
 bit-at first bit start step s is some = by-one (step - 1) (omega (arith, some)) where
-  by-one : (m : ℕ) → start + step - 1 ≡ start + m → bit + m * (2 * s) ≡ first + (start + step - 1) * (2 * s)
+  by-one : (m : ℕ) → start + step - 1 ≡ start + m → bit + m * s ≡ first + (start + step - 1) * s
   by-one m e =
-      let there : bit + m * (2 * s) ≡ first + (start + m) * (2 * s) = omega (arith, is) in
-      omega (arith, there, ap (λ n. n * (2 * s)) e)
+      let there : bit + m * s ≡ first + (start + m) * s = omega (arith, is) in
+      omega (arith, there, ap (λ n. n * s) e)
 
-bit-next : (less : Bool) (first bit start step s moved bits : ℕ) → bit ≡ first + start * (2 * s) → moved ≡ (if less then step else 0) → bits ≡ (if less then step * (2 * s) else 0)
-    → bit + bits ≡ first + (start + moved) * (2 * s)
-bit-next true first bit start step s moved bits is m b = omega (arith, is, ap (λ n. n * (2 * s)) m, b)
-bit-next false first bit start step s moved bits is m b = omega (arith, is, ap (λ n. n * (2 * s)) m, b)
+bit-next : (less : Bool) (first bit start step s moved bits : ℕ) → bit ≡ first + start * s → moved ≡ (if less then step else 0) → bits ≡ (if less then step * s else 0)
+    → bit + bits ≡ first + (start + moved) * s
+bit-next true first bit start step s moved bits is m b = omega (arith, is, ap (λ n. n * s) m, b)
+bit-next false first bit start step s moved bits is m b = omega (arith, is, ap (λ n. n * s) m, b)
 
 pub loop-size-init : goal.loop-size-init
 loop-size-init c = record {
@@ -40,7 +40,7 @@ loop-size-preserved c =
     let some : 0 < step = omega (arith, c.loop-size-test.true) in
     let read = c.value_at-value.ensures ∙ ap (value_at c.args.bytes.now self) (bit-at self.first bit start step self.stride h.bit some) in
     let moved = c.step_if_less-start.ensures.value ∙ ap (λ v. if nat_lt v c.args.limit then step else 0) read in
-    let bits = c.count_if_less-bit.ensures ∙ ap (λ v. if nat_lt v c.args.limit then step * (2 * self.stride) else 0) read in
+    let bits = c.count_if_less-bit.ensures ∙ ap (λ v. if nat_lt v c.args.limit then step * self.stride else 0) read in
     let value = ap (λ n. start + n) moved in
     record {
       halved = halved-more (nat_lt (f at) c.args.limit) f c.args.limit c.args.first c.args.count start size (start + c.step_if_less-start.result) refl c.loop-size-test.true value h.halved;

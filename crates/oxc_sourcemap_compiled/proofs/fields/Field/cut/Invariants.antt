@@ -9,7 +9,7 @@ invariant-loop-size l = record {
   halved : IsHalved (value_in l.bytes l.self) l.limit l.first l.count l.start l.size;
   counted : l.steps + binary_digits l.size ≡ l.fn.steps + binary_digits l.count;
   small : binary_digits l.count ≤ 15;
-  bit : l.bit ≡ l.self.first + l.start * (2 * l.self.stride);
+  bit : l.bit ≡ l.self.first + l.start * l.self.stride;
   few : l.fn.steps ≤ 65535;
 }
 

@@ -14,8 +14,8 @@ loop-b-preserved c =
     let made = c.block_of.result in
     let items = c.push.new.self.items in
     let pushed : items ≡ old ++ made ∷ [] = c.in_ok-push.ensures.items in
-    let size = 4 * c.groups_in_block-size.result in
-    let size_is : size ≡ block_size (length tokens) = ap (λ n. 4 * n) c.groups_in_block-size.ensures.value in
+    let size = 8 * c.groups_in_block-size.result in
+    let size_is : size ≡ block_size (length tokens) = ap (λ n. 8 * n) c.groups_in_block-size.ensures.value in
     let part = part-is tokens (size * b) size c.min-end.result c.min-end.ensures ∙ ap (λ n. take n (drop (n * b) tokens)) size_is in
     let fits : ArePacked (block_tokens tokens b) made = subst (λ ts. ArePacked ts made) part c.block_of.ensures in
     record {

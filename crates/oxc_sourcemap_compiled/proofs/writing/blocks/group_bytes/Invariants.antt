@@ -5,5 +5,5 @@ use Rattle.oxc_sourcemap_compiled.proofs.writing.blocks.group_bytes.Given as goa
 abbrev pub invariant-loop-block : goal.invariant-loop-block
 invariant-loop-block l = record {
   value : l.sum + group_bytes_of l.each l.rest (drop l.block-index l.blocks) ≡ group_bytes_of l.each l.groups l.blocks;
-  most : l.sum + 80 * l.rest ≤ 80 * l.groups;
+  most : l.sum + 160 * l.rest ≤ 160 * l.groups;
 }

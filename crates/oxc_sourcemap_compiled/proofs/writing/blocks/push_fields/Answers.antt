@@ -13,7 +13,7 @@ returns-clause-written c = λ old bits number h.
     let h3 = c.in_ok-rest-3.ensures.written old _ _ h2 in
     let h4 = c.in_ok-rest-4.ensures.written old _ _ h3 in
     let h5 = c.in_ok-rest-5.ensures.written old _ _ h4 in
-    let whole : bits + 2 * b.column.width + 2 * b.source.width + 2 * b.src_line.width + 2 * b.src_col.width + 2 * b.name.width ≡ bits + 2 * stride_of b = omega arith in
+    let whole : bits + b.column.width + b.source.width + b.src_line.width + b.src_col.width + b.name.width ≡ bits + stride_of b = omega arith in
     same-written old c.push_field-5.new.out.items c.in_ok-rest-5.rest _ _ _ _ whole
-    (five-values number bits (2 * b.column.width) (2 * b.source.width) (2 * b.src_line.width) (2 * b.src_col.width)
+    (five-values number bits b.column.width b.source.width b.src_line.width b.src_col.width
     (above_in 0 b.column t) (above_in 1 b.source t) (above_in 2 b.src_line t) (above_in 3 b.src_col t) (above_in 4 b.name t)) h5

@@ -1,33 +1,52 @@
-use Rattle.std.proofs.Common.{◌≡◌, ◌+◌, ◌*◌, ◌/◌, ◌^◌, ◌∙◌, ◌++◌, ap, arith, slice_get}
+use Rattle.std.proofs.Common.{◌≡◌, suc, ◌+◌, ◌*◌, ◌/◌, ◌^◌, ◌∙◌, ◌++◌, ap, arith, refl, slice_get}
+use Rattle.std.proofs.Common.{subst, sym}
 use Rattle.oxc_sourcemap_tokens.specs.Results.{lent_item}
-use Rattle.oxc_sourcemap_compiled.specs.Compiled.{stride_of, token_bits, bytes_of}
-use Rattle.oxc_sourcemap_compiled.specs.Compiled.{four_in}
+use Rattle.oxc_sourcemap_compiled.specs.Compiled.{stride_of, token_bits, bytes_of, FieldsFit}
+use Rattle.oxc_sourcemap_compiled.specs.Compiled.{first_bits, group_bits}
 use Rattle.oxc_sourcemap_compiled.proofs.Slices.{lent-at}
-use Rattle.oxc_sourcemap_compiled.proofs.Bits.{nothing-written, four-values}
+use Rattle.oxc_sourcemap_compiled.proofs.Bits.{nothing-written, same-written}
 use Rattle.oxc_sourcemap_compiled.proofs.writing.blocks.push_group.Goals as goal
+
+pub loop-n-init : goal.loop-n-init
+loop-n-init c =
+    let old = c.args.out.now.items in
+    let none : 0 ≡ 0 * stride_of c.args.block.now = omega arith in
+    record {
+      written = same-written old old (record { bits = 0; count = 0 }) 0 (0 * stride_of c.args.block.now) 0 0 none refl (nothing-written old);
+      left = omega arith;
+      few = omega arith;
+    }
+
+pub push_token-requires-clause-fits : goal.push_token-requires-clause-fits
+push_token-requires-clause-fits c =
+    let ts = c.args.tokens.now in
+    let n = c.loop-n.n in
+    let is : lent_item c.get.result ≡ slice_get ts n = lent-at c.get.result ts n c.get.ensures.lookup.0 (c.get.ensures.lookup.4 (omega arith)) in
+    subst (FieldsFit c.args.block.now) (sym is) (c.requires.fits n (omega (arith, c.loop-n-test.true)))
+
+pub loop-n-preserved : goal.loop-n-preserved
+loop-n-preserved c =
+    let old = c.args.out.now.items in
+    let b = c.args.block.now in
+    let n = c.loop-n.n in
+    let ts = c.args.tokens.now in
+    let is : lent_item c.get.result ≡ slice_get ts n = lent-at c.get.result ts n c.get.ensures.lookup.0 (c.get.ensures.lookup.4 (omega arith)) in
+    let more = c.in_ok-rest.ensures.written old (n * stride_of b) (first_bits b ts n) c.loop-n.invariant.written in
+    let bits : n * stride_of b + stride_of b ≡ (n + 1) * stride_of b = omega arith in
+    let next : suc n ≡ n + 1 = omega arith in
+    let number : first_bits b ts n + 2 ^ (n * stride_of b) * token_bits b (lent_item c.get.result) ≡ first_bits b ts (n + 1) =
+    ap (λ t. first_bits b ts n + 2 ^ (n * stride_of b) * token_bits b t) is ∙ ap (first_bits b ts) next in
+    record {
+      written = same-written old c.push_token.new.out.items c.in_ok-rest.rest (n * stride_of b + stride_of b) ((n + 1) * stride_of b) _ (first_bits b ts (n + 1)) bits number more;
+      left = c.in_ok-rest.ensures.left;
+      few = c.in_ok-rest.ensures.few;
+    }
 
 pub returns : goal.returns
 returns c =
     let old = c.args.out.now.items in
     let b = c.args.block.now in
-    let s = stride_of b in
-    let h1 = c.in_ok-rest.ensures.written old 0 0 (nothing-written old) in
-    let h2 = c.in_ok-rest-2.ensures.written old _ _ h1 in
-    let h3 = c.in_ok-rest-3.ensures.written old _ _ h2 in
-    let h4 = c.in_ok-push_token.ensures.written old _ _ h3 in
-    let all : (0 + 2 * s + 2 * s + 2 * s + 2 * s) / 8 ≡ s = omega arith in
-    let p = 2 ^ (2 * s) in
-    let t0 = token_bits b (lent_item c.first.result) in
-    let t1 = token_bits b (lent_item c.get.result) in
-    let t2 = token_bits b (lent_item c.get-2.result) in
-    let t3 = token_bits b (lent_item c.get-3.result) in
-    let e0 : lent_item c.first.result ≡ slice_get c.args.tokens.now 0 = c.first.ensures.value in
-    let e1 : lent_item c.get.result ≡ slice_get c.args.tokens.now 1 = lent-at c.get.result c.args.tokens.now 1 c.get.ensures.lookup.0 (c.get.ensures.lookup.4 (omega arith)) in
-    let e2 : lent_item c.get-2.result ≡ slice_get c.args.tokens.now 2 = lent-at c.get-2.result c.args.tokens.now 2 c.get-2.ensures.lookup.0 (c.get-2.ensures.lookup.4 (omega arith)) in
-    let e3 : lent_item c.get-3.result ≡ slice_get c.args.tokens.now 3 = lent-at c.get-3.result c.args.tokens.now 3 c.get-3.ensures.lookup.0 (c.get-3.ensures.lookup.4 (omega arith)) in
-    h4.items ∙ ap (λ n. old ++ bytes_of n (0 + 1 * t0 + 2 ^ (0 + 2 * s) * t1 + 2 ^ (0 + 2 * s + 2 * s) * t2 + 2 ^ (0 + 2 * s + 2 * s + 2 * s) * t3)) all
-    ∙ ap (λ n. old ++ bytes_of s n) (four-values s t0 t1 t2 t3)
-    ∙ ap (λ o. old ++ bytes_of s (four_in p (token_bits b o) t1 t2 t3)) e0
-    ∙ ap (λ o. old ++ bytes_of s (four_in p (token_bits b (slice_get c.args.tokens.now 0)) (token_bits b o) t2 t3)) e1
-    ∙ ap (λ o. old ++ bytes_of s (four_in p (token_bits b (slice_get c.args.tokens.now 0)) (token_bits b (slice_get c.args.tokens.now 1)) (token_bits b o) t3)) e2
-    ∙ ap (λ o. old ++ bytes_of s (four_in p (token_bits b (slice_get c.args.tokens.now 0)) (token_bits b (slice_get c.args.tokens.now 1)) (token_bits b (slice_get c.args.tokens.now 2)) (token_bits b o))) e3
+    let ts = c.args.tokens.now in
+    let end : c.loop-n.n ≡ 8 = omega (arith, c.loop-n-test.false) in
+    let all : 8 * stride_of b / 8 ≡ stride_of b = omega arith in
+    c.loop-n.invariant.written.items ∙ ap (λ n. old ++ bytes_of (n * stride_of b / 8) (first_bits b ts n)) end ∙ ap (λ n. old ++ bytes_of n (group_bits b ts)) all

@@ -17,7 +17,7 @@ push_group-requires c =
     let there = group-there (nat_le (length tokens) 16384) g (length tokens) c.loop-g-test.true in
     let of_group = c.requires.blocks.each (g / p) no_block (omega (arith, c.requires.blocks.count, there)) in
     let are : ArePacked (block_tokens tokens (g / p)) block = subst (λ b. ArePacked (block_tokens tokens (g / p)) (get_or c.args.blocks.now b no_block)) (sym c.block_with.ensures) of_group in
-    let part = part-is tokens (4 * g) 4 c.min-end.result c.min-end.ensures in
+    let part = part-is tokens (8 * g) 8 c.min-end.result c.min-end.ensures in
     record {
       narrow = record {
         column = are.column.width;
@@ -34,8 +34,8 @@ loop-g-preserved c =
     let tokens = c.args.tokens.now in
     let blocks = c.args.blocks.now in
     let g = c.loop-g.g in
-    let f = λ (g : ℕ). group_of (get_or blocks (g / block_groups (length tokens)) no_block) (take 4 (drop (4 * g) tokens)) in
-    let part = part-is tokens (4 * g) 4 c.min-end.result c.min-end.ensures in
-    let there = ap (λ b. c.loop-g.out.items ++ group_of (get_or blocks b no_block) (take (c.min-end.result - 4 * g) (drop (4 * g) tokens))) c.block_with.ensures in
+    let f = λ (g : ℕ). group_of (get_or blocks (g / block_groups (length tokens)) no_block) (take 8 (drop (8 * g) tokens)) in
+    let part = part-is tokens (8 * g) 8 c.min-end.result c.min-end.ensures in
+    let there = ap (λ b. c.loop-g.out.items ++ group_of (get_or blocks b no_block) (take (c.min-end.result - 8 * g) (drop (8 * g) tokens))) c.block_with.ensures in
     c.in_ok-push_group.ensures ∙ there ∙ ap (λ ts. c.loop-g.out.items ++ group_of (get_or blocks (g / block_groups (length tokens)) no_block) ts) part ∙ ap (λ xs. xs ++ f g) c.loop-g.invariant
     ∙ append_assoc c.args.out.now.items (flat_map f (range_with_len 0 g)) (f g) ∙ ap (λ xs. c.args.out.now.items ++ xs) (sym (flat_map-more f g))

@@ -5,4 +5,4 @@ use Rattle.oxc_sourcemap_compiled.specs.Layout.{block_groups}
 use Rattle.oxc_sourcemap_compiled.proofs.writing.blocks.push_groups.Given as goal
 
 abbrev pub invariant-loop-g : goal.invariant-loop-g
-invariant-loop-g l = l.out.items ≡ l.initial.out.items ++ flat_map (λ g. group_of (get_or l.blocks (g / block_groups (length l.tokens)) no_block) (take 4 (drop (4 * g) l.tokens))) (range_with_len 0 l.g)
+invariant-loop-g l = l.out.items ≡ l.initial.out.items ++ flat_map (λ g. group_of (get_or l.blocks (g / block_groups (length l.tokens)) no_block) (take 8 (drop (8 * g) l.tokens))) (range_with_len 0 l.g)

@@ -11,7 +11,7 @@ use Rattle.oxc_sourcemap_compiled.specs.Compiled.{map_bytes, bytes_of, stored_te
 use Rattle.oxc_sourcemap_compiled.specs.declared.writing.blocks.Packing.{Packing}
 use Rattle.oxc_sourcemap_compiled.specs.Numbers.{number_at}
 use Rattle.oxc_sourcemap_compiled.specs.Layout.{header_in, compiled_fault}
-use Rattle.oxc_sourcemap_compiled.specs.Fields.{value_in, field_in}
+use Rattle.oxc_sourcemap_compiled.specs.Fields.{value_at, value_in, field_in}
 use Rattle.oxc_sourcemap_compiled.specs.CompiledMeaning.{compiled_in, compiled_meaning, token_in}
 use Rattle.oxc_sourcemap_compiled.specs.CompiledMeaning.{part_between}
 use Rattle.oxc_sourcemap_compiled.specs.declared.errors.CompiledError.TheVariants.{NotCompiled}

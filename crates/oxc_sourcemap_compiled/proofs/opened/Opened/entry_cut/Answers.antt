@@ -1,4 +1,4 @@
-use Rattle.std.proofs.Common.{◌≡◌, ◌<◌, ◌+◌, ◌-◌, ◌/◌, ℕ, List, nat_lt, true, false, arith, ap, ◌∙◌}
+use Rattle.std.proofs.Common.{◌≡◌, ◌<◌, ◌≤◌, ◌+◌, ◌-◌, ◌/◌, ℕ, List, nat_lt, true, false, arith, ap, ◌∙◌}
 use Rattle.std.proofs.Common.{sym, subst, refl}
 use Rattle.oxc_sourcemap_compiled.specs.Cuts.{IsCut}
 use Rattle.oxc_sourcemap_compiled.specs.Words.{start_in}
@@ -11,6 +11,12 @@ middle bytes start size result some is =
     let next : start + (size - size / 2) - 1 + 1 ≡ start + (size - size / 2) = omega (arith, some) in
     ap (start_in bytes) next ∙ sym is
 
+is-below : (x y i : ℕ) → x ≡ y → y ≤ i → nat_lt x (i + 1) ≡ true
+is-below x y i e le = grind (arith, e, le)
+
+is-past : (x y i : ℕ) → x ≡ y → i < y → nat_lt x (i + 1) ≡ false
+is-past x y i e lt = grind (arith, e, lt)
+
 pub loop-size-init : goal.loop-size-init
 loop-size-init c = halved-none (λ k. start_in c.args.self.now.bytes.now (k + 1)) (c.args.i + 1) 0 c.args.self.now.header.lines
 
@@ -20,7 +26,7 @@ loop-size-preserved-then-line_start-i c =
     let start = c.loop-size.start in
     let size = c.loop-size.size in
     let at = middle c.args.self.now.bytes.now start size c.line_start.result c.loop-size-test.true c.line_start.ensures.value in
-    let lt : nat_lt (f (start + (size - size / 2) - 1)) (c.args.i + 1) ≡ true = grind (arith, at, c.if-line_start-i.true) in
+    let lt : nat_lt (f (start + (size - size / 2) - 1)) (c.args.i + 1) ≡ true = is-below _ c.line_start.result c.args.i at (omega (arith, c.if-line_start-i.true)) in
     halved-more true f (c.args.i + 1) 0 c.args.self.now.header.lines start size _ lt c.loop-size-test.true refl c.loop-size.invariant
 
 pub loop-size-preserved : goal.loop-size-preserved
@@ -29,7 +35,7 @@ loop-size-preserved c =
     let start = c.loop-size.start in
     let size = c.loop-size.size in
     let at = middle c.args.self.now.bytes.now start size c.line_start.result c.loop-size-test.true c.line_start.ensures.value in
-    let le : nat_lt (f (start + (size - size / 2) - 1)) (c.args.i + 1) ≡ false = grind (arith, at, c.if-line_start-i.false) in
+    let le : nat_lt (f (start + (size - size / 2) - 1)) (c.args.i + 1) ≡ false = is-past _ c.line_start.result c.args.i at (omega (arith, c.if-line_start-i.false)) in
     halved-more false f (c.args.i + 1) 0 c.args.self.now.header.lines start size start le c.loop-size-test.true (omega arith) c.loop-size.invariant
 
 pub returns-clause-cut : goal.returns-clause-cut

@@ -377,8 +377,7 @@ static int map_open_file(int from, struct smap_file *file) {
     file->len = (size_t)found.st_size;
     file->at = file->len ? mmap(NULL, file->len, PROT_READ, MAP_SHARED, from, 0) : NULL;
     if (file->at == MAP_FAILED) return errno;
-    /* (a lookup needs some pages here and there: what lies beside them is not read too) */
-    if (file->at) posix_madvise(file->at, file->len, POSIX_MADV_RANDOM);
+    if (file->at) posix_madvise(file->at, file->len, POSIX_MADV_RANDOM); /* (lookups need pages here and there, none beside them) */
     return 0;
 }
 

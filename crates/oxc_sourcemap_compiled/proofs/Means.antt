@@ -1,5 +1,6 @@
 -- The bytes of a map mean the map, and are in order.
-use Rattle.std.proofs.Common.{◌≡◌, ℕ, ◌+◌, ◌*◌, ◌/◌, ◌<◌, ◌≤◌, Bool, true, false, ◌==◌, List, map, nat_le}
+use Rattle.std.proofs.Common.{◌≡◌, ℕ, ◌+◌, ◌*◌, ◌/◌, ◌<◌, ◌≤◌, Bool, true, false, ◌==◌, List, map}
+use Rattle.std.proofs.Common.{nat_le}
 use Rattle.std.proofs.Common.{length, get_or, take, drop, nat_lt, Option, Some, None, Ok, is_some}
 use Rattle.std.proofs.Common.{refl, sym, ap, ◌∙◌, arith, subst, [], length-take, length-drop}
 use Rattle.std.proofs.Common.{if◌then◌else◌}
@@ -17,7 +18,8 @@ use Rattle.oxc_sourcemap_compiled.specs.Compiled.{line_starts, field_number, Are
 use Rattle.oxc_sourcemap_compiled.specs.Compiled.{group_bytes_of, no_block, rows_of, groups_of}
 use Rattle.oxc_sourcemap_compiled.specs.Compiled.{stored_count, text_offset, ignored_of}
 use Rattle.oxc_sourcemap_compiled.specs.Compiled.{listed_table, header_of_map, compiled_length}
-use Rattle.oxc_sourcemap_compiled.specs.Compiled.{map_bytes, AreBytesOf, block_tokens, all_group_bytes}
+use Rattle.oxc_sourcemap_compiled.specs.Compiled.{map_bytes, AreBytesOf, block_tokens}
+use Rattle.oxc_sourcemap_compiled.specs.Compiled.{all_group_bytes}
 use Rattle.oxc_sourcemap_compiled.specs.Numbers.{number_at}
 use Rattle.oxc_sourcemap_compiled.specs.Layout.{header_in, AreCounts, texts_base, compiled_fault}
 use Rattle.oxc_sourcemap_compiled.specs.Layout.{rows_base, groups_base, line_numbers_base}

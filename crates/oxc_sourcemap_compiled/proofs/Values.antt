@@ -15,7 +15,8 @@ use Rattle.oxc_sourcemap_compiled.specs.Compiled.{id_number, field_number, IsPac
 use Rattle.oxc_sourcemap_compiled.specs.Compiled.{group_bytes_of, stride_of, widths_of, no_block}
 use Rattle.oxc_sourcemap_compiled.specs.Compiled.{above_in, rows_of, groups_of, group_of}
 use Rattle.oxc_sourcemap_compiled.specs.Compiled.{token_bits, group_bits}
-use Rattle.oxc_sourcemap_compiled.specs.Compiled.{FieldsFit, ArePacked, block_tokens, all_group_bytes}
+use Rattle.oxc_sourcemap_compiled.specs.Compiled.{FieldsFit, ArePacked, block_tokens}
+use Rattle.oxc_sourcemap_compiled.specs.Compiled.{all_group_bytes}
 use Rattle.oxc_sourcemap_compiled.specs.Numbers.{number_at}
 use Rattle.oxc_sourcemap_compiled.specs.Layout.{rows_base, groups_base, block_groups, block_size}
 use Rattle.oxc_sourcemap_compiled.specs.Fields.{value_at, value_in, value_of, field_in}
@@ -31,8 +32,10 @@ use Rattle.oxc_sourcemap_compiled.proofs.Groups.{bytes-below, bytes-before, byte
 use Rattle.oxc_sourcemap_compiled.proofs.Groups.{group_at, groups-length, group-length}
 use Rattle.oxc_sourcemap_compiled.proofs.ReadNumbers.{bytes-bits}
 use Rattle.oxc_sourcemap_compiled.proofs.Bits.{window, low-value, one-more}
-use Rattle.oxc_sourcemap_compiled.proofs.Sizes.{each, size, group-block, group-again, group-in, token-is}
-use Rattle.oxc_sourcemap_compiled.proofs.Sizes.{token-low, group-is, group-low, in-group, block-there}
+use Rattle.oxc_sourcemap_compiled.proofs.Sizes.{each, size, group-block, group-again, group-in}
+use Rattle.oxc_sourcemap_compiled.proofs.Sizes.{token-is}
+use Rattle.oxc_sourcemap_compiled.proofs.Sizes.{token-low, group-is, group-low, in-group}
+use Rattle.oxc_sourcemap_compiled.proofs.Sizes.{block-there}
 use Rattle.oxc_sourcemap_compiled.proofs.Sizes.{groups-fit, groups-before}
 
 -- ---- parts of lists

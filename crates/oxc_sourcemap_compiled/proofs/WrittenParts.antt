@@ -1,6 +1,7 @@
 -- Where the parts of a compiled map lie in the bytes that are written, and how many bytes there are.
 use Rattle.std.proofs.Common.{◌≡◌, ℕ, ◌+◌, ◌*◌, ◌/◌, Bool, true, false, List, ◌++◌, length, map}
-use Rattle.std.proofs.Common.{refl, ap, ◌∙◌, arith, length-append, if◌then◌else◌, ◌≤◌, subst, sym, nat_le}
+use Rattle.std.proofs.Common.{refl, ap, ◌∙◌, arith, length-append, if◌then◌else◌, ◌≤◌, subst, sym}
+use Rattle.std.proofs.Common.{nat_le}
 use Rattle.std.proofs.lemmas.List.{length-map, length_push}
 use Rattle.std.proofs.lemmas.List.FromFn.{length-map-range_with_len}
 use Rattle.std.specs.List.{flat_map, range_with_len}
@@ -12,7 +13,8 @@ use Rattle.oxc_sourcemap_compiled.specs.Compiled.{stored_text, text_offset, igno
 use Rattle.oxc_sourcemap_compiled.specs.Compiled.{header_bytes, listed_table, header_of_map}
 use Rattle.oxc_sourcemap_compiled.specs.Compiled.{compiled_length, map_bytes}
 use Rattle.oxc_sourcemap_compiled.specs.Layout.{rows_base, ignored_base, offsets_base}
-use Rattle.oxc_sourcemap_compiled.specs.Layout.{line_numbers_base, groups_base, texts_base, block_groups}
+use Rattle.oxc_sourcemap_compiled.specs.Layout.{line_numbers_base, groups_base, texts_base}
+use Rattle.oxc_sourcemap_compiled.specs.Layout.{block_groups}
 use Rattle.oxc_sourcemap_compiled.specs.Layout.{blocks_for}
 use Rattle.oxc_sourcemap_compiled.specs.declared.layout.Header.{Header}
 use Rattle.oxc_sourcemap_compiled.specs.declared.writing.blocks.Block.{Block}

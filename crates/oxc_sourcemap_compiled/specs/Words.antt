@@ -1,7 +1,8 @@
 -- The words of this crate's clauses, from one place.
 pub use Rattle.oxc_sourcemap_compiled.specs.Compiled.{bytes_of, table, AreLinesOf, line_starts}
 pub use Rattle.oxc_sourcemap_compiled.specs.Compiled.{id_number, field_number, IsPacked, ArePacked}
-pub use Rattle.oxc_sourcemap_compiled.specs.Compiled.{block_tokens, AreBlocksOf, stride_of, group_bytes_of}
+pub use Rattle.oxc_sourcemap_compiled.specs.Compiled.{block_tokens, AreBlocksOf, stride_of}
+pub use Rattle.oxc_sourcemap_compiled.specs.Compiled.{group_bytes_of}
 pub use Rattle.oxc_sourcemap_compiled.specs.Compiled.{all_group_bytes}
 pub use Rattle.oxc_sourcemap_compiled.specs.Compiled.{row_of, FitsCompiled}
 pub use Rattle.oxc_sourcemap_compiled.specs.Compiled.{rows_of, group_of, above_in}
@@ -17,13 +18,15 @@ pub use Rattle.oxc_sourcemap_compiled.specs.Cuts.{IsCut, DoNotFall}
 pub use Rattle.oxc_sourcemap_compiled.specs.Decompiled.{checked_texts, checked_contents}
 pub use Rattle.oxc_sourcemap_compiled.specs.Decompiled.{checked_text, checked_map, is_optional_utf8}
 pub use Rattle.oxc_sourcemap_compiled.specs.Decompiled.{DoLinesFollow, DoTextsFollow, DoesNotGoBack}
-pub use Rattle.oxc_sourcemap_compiled.specs.Fields.{IsField, AreFields, value_at, value_in, field_in, value_of}
+pub use Rattle.oxc_sourcemap_compiled.specs.Fields.{IsField, AreFields, value_at, value_in}
+pub use Rattle.oxc_sourcemap_compiled.specs.Fields.{field_in, value_of}
 pub use Rattle.oxc_sourcemap_compiled.specs.Fields.{row_base, row_in}
 pub use Rattle.oxc_sourcemap_compiled.specs.Layout.{header_in, layout_in, AreCounts, HasParts}
 pub use Rattle.oxc_sourcemap_compiled.specs.Layout.{block_count, text_count, compiled_fault}
 pub use Rattle.oxc_sourcemap_compiled.specs.Layout.{block_groups, block_size, blocks_for}
 pub use Rattle.oxc_sourcemap_compiled.specs.Layout.{listed_count}
-pub use Rattle.oxc_sourcemap_compiled.specs.CompiledMeaning.{stored_id, token_at, token_in, start_in}
+pub use Rattle.oxc_sourcemap_compiled.specs.CompiledMeaning.{stored_id, token_at, token_in}
+pub use Rattle.oxc_sourcemap_compiled.specs.CompiledMeaning.{start_in}
 pub use Rattle.oxc_sourcemap_compiled.specs.CompiledMeaning.{number_in_list}
 pub use Rattle.oxc_sourcemap_compiled.specs.CompiledMeaning.{line_in, entry_begin, entry_end}
 pub use Rattle.oxc_sourcemap_compiled.specs.CompiledMeaning.{entry_tokens}

@@ -1,5 +1,5 @@
 //! Contents of sources that lie apart from a compiled map, in another one that has sources and contents alone.
-ghost use Rattle.std.specs.Prelude.{◌≡◌, IfOk};
+ghost use Rattle.std.specs.Prelude.{◌≡◌, IfOk, IfErr};
 ghost use Rattle.oxc_sourcemap_parts.specs.Words.{cow_texts, record_of_parts, texts_of};
 ghost use Rattle.sourcemap_files.specs.Contents.{contents_alone, without_contents};
 
@@ -26,7 +26,7 @@ fn copies_of(alloc: Global, texts: &[CowStr<'static>]) -> Outcome<Vec<CowStr<'st
     Ok(copies)
 }
 
-/// Takes the contents out of a map: the sources with them, and nothing else.
+/// Takes the contents out of a map: the sources with them, and nothing else. After an error the map is as it was.
 pub fn take_contents(
     alloc: Global,
     parts: &mut SourceMapParts<'static>,
@@ -35,6 +35,7 @@ pub fn take_contents(
         ≡ without_contents (record_of_parts parts.old)) }
     ensures apart { IfOk result (λ apart. record_of_parts apart
         ≡ contents_alone (record_of_parts parts.old)) }
+    ensures kept { IfErr result (λ e. record_of_parts parts.new ≡ record_of_parts parts.old) }
 {
     let mut apart = SourceMapParts::empty(alloc)?;
     apart.sources = copies_of(alloc, parts.sources.as_slice())?;

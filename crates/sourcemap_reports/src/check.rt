@@ -279,7 +279,7 @@ fn check_text(report: &mut Report, text: &str, code: Option<&str>) -> Outcome<()
     tell_held(report, map, code)
 }
 
-/// What is told of a compiled map; of one that has contents that lie apart, how many.
+/// What is told of a compiled map; of contents that lie apart nothing but the summary.
 fn check_compiled(
     rt: &HostRuntime,
     report: &mut Report,

@@ -2,7 +2,8 @@ use Rattle.std.proofs.Common.{◌-◌, ◌*◌, ◌/◌, ◌++◌, ℕ, get_or, 
 use Rattle.std.proofs.Common.{append_assoc, slice_get, subst, ◌<◌, length, nat_le}
 use Rattle.std.specs.List.{flat_map, range_with_len}
 use Rattle.oxc_sourcemap_compiled.specs.Layout.{block_groups}
-use Rattle.oxc_sourcemap_compiled.specs.Compiled.{group_of, no_block, FieldsFit, ArePacked, block_tokens}
+use Rattle.oxc_sourcemap_compiled.specs.Compiled.{group_of, no_block, FieldsFit, ArePacked}
+use Rattle.oxc_sourcemap_compiled.specs.Compiled.{block_tokens}
 use Rattle.oxc_sourcemap_compiled.proofs.Values.{group-fits}
 use Rattle.oxc_sourcemap_compiled.proofs.Sizes.{group-there}
 use Rattle.oxc_sourcemap_compiled.proofs.Slices.{part-is, flat_map-more}

@@ -10,7 +10,6 @@ use Rattle.oxc_sourcemap_compiled.specs.Compiled.{no_block, group_of, group_bits
 use Rattle.oxc_sourcemap_compiled.specs.declared.writing.blocks.Block.{Block}
 use Rattle.oxc_sourcemap_compiled.proofs.Bytes.{bytes-length}
 use Rattle.oxc_sourcemap_compiled.proofs.Sizes.{each, first-block, next-block, same-block}
-use Rattle.oxc_sourcemap_compiled.proofs.Sizes.{each-some}
 use Rattle.oxc_sourcemap_compiled.proofs.Slices.{flat_map-more}
 
 -- ---- how many bytes they take

@@ -1,6 +1,6 @@
-use Rattle.std.proofs.Common.{◌≡◌, ◌+◌, ◌-◌, ◌*◌, ◌/◌, ◌%◌, ◌<◌, ℕ, min, arith, ap, ◌∙◌, sym, subst}
+use Rattle.std.proofs.Common.{◌+◌, ◌-◌, ◌*◌, ◌<◌, ℕ, min, arith, ap, ◌∙◌, sym, subst}
 use Rattle.oxc_sourcemap_compiled.specs.Cuts.{IsCut}
-use Rattle.oxc_sourcemap_compiled.specs.Words.{column_of, value_in, field_in}
+use Rattle.oxc_sourcemap_compiled.specs.Words.{column_of, value_in}
 use Rattle.oxc_sourcemap_compiled.proofs.Searches.{block-cut, same-cut}
 use Rattle.oxc_sourcemap_compiled.proofs.Sizes.{column-of-one, column-of-many}
 use Rattle.oxc_sourcemap_compiled.proofs.opened.Opened.column_cut.Goals as goal

@@ -1,4 +1,4 @@
-use Rattle.std.proofs.Common.{◌≡◌, ◌≤◌, ◌<◌, ◌+◌, ◌*◌, ◌%◌, ◌^◌, ap, sym, ◌∙◌, arith, subst}
+use Rattle.std.proofs.Common.{◌≡◌, ◌<◌, ◌+◌, ◌*◌, ◌%◌, ◌^◌, ap, sym, arith, subst}
 use Rattle.std.proofs.Math.Nat.{mod-eq_of_lt}
 use Rattle.oxc_sourcemap_compiled.proofs.Bits.{written, left-small, all-small, few-bits}
 use Rattle.oxc_sourcemap_compiled.proofs.writing.blocks.push_bits.Goals as goal

@@ -1,4 +1,4 @@
-use Rattle.std.proofs.Common.{◌≡◌, ◌+◌, ◌*◌, ◌^◌, ◌∙◌, arith}
+use Rattle.std.proofs.Common.{◌≡◌, ◌+◌, arith}
 use Rattle.oxc_sourcemap_tokens.specs.Results.{lent_item}
 use Rattle.oxc_sourcemap_compiled.specs.Compiled.{stride_of, above_in}
 use Rattle.oxc_sourcemap_compiled.proofs.Bits.{same-written, five-values}

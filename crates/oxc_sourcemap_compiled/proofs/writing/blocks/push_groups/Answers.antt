@@ -1,5 +1,5 @@
 use Rattle.std.proofs.Common.{◌-◌, ◌*◌, ◌/◌, ◌++◌, ℕ, get_or, take, drop, ap, ◌∙◌, sym, arith}
-use Rattle.std.proofs.Common.{append_assoc, slice_get, subst, ◌<◌, length, nat_le}
+use Rattle.std.proofs.Common.{append_assoc, slice_get, subst, length, nat_le}
 use Rattle.std.specs.List.{flat_map, range_with_len}
 use Rattle.oxc_sourcemap_compiled.specs.Layout.{block_groups}
 use Rattle.oxc_sourcemap_compiled.specs.Compiled.{group_of, no_block, FieldsFit, ArePacked}

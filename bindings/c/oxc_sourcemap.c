@@ -361,10 +361,8 @@ struct smap_file {
 };
 
 static uint32_t no_file(int reason, smap_fault *fault) {
-    static const smap_fault none;
-    *fault = none;
-    fault->detail = (uint64_t)reason;
-    return fault->code = SMAP_NO_FILE;
+    *fault = (smap_fault){ .code = SMAP_NO_FILE, .detail = (uint64_t)reason };
+    return SMAP_NO_FILE;
 }
 
 #ifdef __unix__

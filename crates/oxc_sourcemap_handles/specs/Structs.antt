@@ -1,5 +1,5 @@
 -- What a lookup answers, a token, a piece and the counts of a map, as C reads them.
-use Rattle.std.specs.Prelude.{◌≡◌, ◌≢◌, ℕ, ◌+◌, ◌*◌, List, [], length, map, min, slice_get, sum}
+use Rattle.std.specs.Prelude.{◌≡◌, ℕ, ◌+◌, ◌*◌, List, [], length, map, min, slice_get, sum}
 use Rattle.std.specs.Prelude.{Option, Some, None, option_map}
 use Rattle.std.specs.Option.{unwrap_or, option_and_then}
 use Rattle.oxc_sourcemap_tokens.specs.Token.{TokenRecord, last}

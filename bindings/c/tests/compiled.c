@@ -94,10 +94,10 @@ static void open_errors(void) {
     opens(4, "\xff\xff\xff\xff", 4, all - 1, SMAP_COMPILED_VERSION, 4294967295);
     opens(0, "", 0, 8, SMAP_COMPILED_LENGTH, 0);
     opens(8, "\x67", 1, 103, SMAP_COMPILED_LENGTH, 0);
-    opens(56, "\x41", 1, all - 1, SMAP_COMPILED_LENGTH, 0);
+    opens(56, "\x01\x40", 2, all - 1, SMAP_COMPILED_LENGTH, 0);
     opens(0, "", 0, all + 1, SMAP_COMPILED_LENGTH, 0);
     opens(12, "\1", 1, all, SMAP_COMPILED_LENGTH, 0);
-    opens(56, "\x41", 1, all, SMAP_COMPILED_SIZES, 0);
+    opens(56, "\x01\x40", 2, all, SMAP_COMPILED_SIZES, 0);
     opens(84, "\xff\xff\xff\xff", 4, all, SMAP_COMPILED_SIZES, 0);
     CHECK(smap_open_compiled(NULL, 0, &out, &fault) == SMAP_NOT_COMPILED && is_fault(&fault, SMAP_NOT_COMPILED, 0));
     CHECK(out == (smap_compiled *)&failed);

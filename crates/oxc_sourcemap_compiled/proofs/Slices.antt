@@ -1,6 +1,6 @@
 -- Parts of lists, and what holds of their elements.
 use Rattle.std.proofs.Common.{◌≡◌, ℕ, zero, suc, ◌+◌, ◌-◌, ◌<◌, ◌≤◌, Bool, true, false, List, []}
-use Rattle.std.proofs.Common.{◌∷◌, ◌++◌, take, drop, length, get_or, nat_lt, min}
+use Rattle.std.proofs.Common.{◌∷◌, ◌++◌, take, drop, length, get_or, nat_lt, min, max}
 use Rattle.std.proofs.Common.{refl, sym, ap, ◌∙◌, arith, subst, length-drop, ◌⊎◌, inl, inr}
 use Rattle.std.proofs.Common.{append-nil, append_assoc, map, Bor, option_map, slice_get, Option}
 use Rattle.std.proofs.Common.{Some, None, is_some}
@@ -40,6 +40,16 @@ min-is true a v m e is =
     inr here
 min-is false a v m e is =
     let le : a ≤ v = grind (arith, e) in
+    let here : m ≡ a = omega (arith, is, le) in
+    inl here
+
+pub max-is : (b : Bool) (a v m : ℕ) → nat_lt a v ≡ b → m ≡ max a v → (m ≡ a) ⊎ (m ≡ v)
+max-is true a v m e is =
+    let lt : a < v = grind (arith, e) in
+    let here : m ≡ v = omega (arith, is, lt) in
+    inr here
+max-is false a v m e is =
+    let le : v ≤ a = grind (arith, e) in
     let here : m ≡ a = omega (arith, is, le) in
     inl here
 

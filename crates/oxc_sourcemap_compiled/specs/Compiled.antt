@@ -51,12 +51,14 @@ field_number (suc (suc (suc zero))) t = t.src_col
 field_number (suc (suc (suc (suc k)))) t = id_number t.name_id
 
 -- How a field of these tokens is written: from each value the least one is taken, which one of the tokens has, and what is left
--- fits into the bits of the width.
+-- fits into the bits of the width, which are no more than one of the tokens needs.
 pub record IsPacked (k : ℕ) (tokens : List TokenRecord) (p : Packing) : Type 0 where
   pub width : p.width ≤ 32
   pub least : (i : ℕ) (d : TokenRecord) → i < length tokens → p.least ≤ field_number k (get_or tokens i d)
   pub fits : (i : ℕ) (d : TokenRecord) → i < length tokens → field_number k (get_or tokens i d) - p.least < 2 ^ p.width
   pub reached : (d : TokenRecord) → (i : ℕ) × (i < length tokens) × (p.least ≡ field_number k (get_or tokens i d))
+  pub needed : 0 < p.width → (d : TokenRecord)
+      → (i : ℕ) × (i < length tokens) × (2 ^ (p.width - 1) ≤ field_number k (get_or tokens i d) - p.least)
 
 -- how all fields of these tokens are written
 pub record ArePacked (tokens : List TokenRecord) (b : Block) : Type 0 where
@@ -84,11 +86,11 @@ packings b = b.column ∷ b.source ∷ b.src_line ∷ b.src_col ∷ b.name ∷ [
 abbrev pub widths_of : Block → List ℕ
 widths_of b = b.column.width ∷ b.source.width ∷ b.src_line.width ∷ b.src_col.width ∷ b.name.width ∷ []
 
--- how many bytes a group of a block takes
+-- how many bits a token of a block takes, and so how many bytes a group of eight
 abbrev pub stride_of : Block → ℕ
 stride_of b = b.column.width + b.source.width + b.src_line.width + b.src_col.width + b.name.width
 
--- how many bytes the groups of blocks take: so many in each but for the last, and so many in all
+-- how many bytes the groups of blocks take, if there are so many groups in each block but the last, and so many in all
 abbrev pub group_bytes_of : ℕ → ℕ → List Block → ℕ
 group_bytes_of each groups [] = 0
 group_bytes_of each groups (b ∷ bs) = min groups each * stride_of b + group_bytes_of each (groups - each) bs
@@ -150,7 +152,7 @@ pub record IsWritten (old out : List ℕ) (rest : Rest) (bits number : ℕ) : Ty
   pub count : rest.count ≡ bits % 8
   pub small : number < 2 ^ bits
 
--- their bytes
+-- the bytes of a group
 abbrev pub group_of : Block → List TokenRecord → List ℕ
 group_of b ts = bytes_of (stride_of b) (group_bits b ts)
 

@@ -8,14 +8,14 @@ use Rattle.oxc_sourcemap_compiled.specs.declared.fields.Field.{Field}
 use Rattle.oxc_sourcemap_compiled.specs.declared.fields.Row.{Row}
 use Rattle.oxc_sourcemap_compiled.specs.declared.layout.Header.{Header}
 
--- a field whose values have at most 32 bits
+-- a field that is read: its values have at most 32 bits, and their places are numbers that a machine can add
 pub record IsField (f : Field) : Type 0 where
   pub width : f.width ≤ 32
   pub first : f.first ≤ 1020
   pub stride : f.stride ≤ 1275
   pub at : f.at ≤ 1099511627776
 
--- the value of a field that begins at a bit of its block; the least one where it lies past the end
+-- the value of a field that begins at a bit of its block; the least one where fewer than eight bytes are left from there on
 unfoldable pub value_at : List ℕ → Field → ℕ → ℕ
 value_at bytes f bit =
     let at = f.at + bit / 8 in
@@ -45,7 +45,7 @@ field_in bytes h b k =
       width = min (get_or widths k 0) 32;
     }
 
--- the five fields of a block have values of at most 32 bits
+-- the five fields of a block are such
 pub record AreFields (row : Row) : Type 0 where
   pub column : IsField row.column
   pub source : IsField row.source

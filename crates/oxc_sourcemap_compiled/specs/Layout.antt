@@ -25,15 +25,15 @@ header_in bytes = record {
   group_bytes = number_at 4 bytes 84;
 }
 
--- how many groups of eight tokens a block has, of a map with this many tokens: 2048, so all, where there are at most 16384, else 8
+-- how many groups of eight tokens a block has at most, of a map with this many tokens: 2048 where there are at most 16384, else 8
 abbrev pub block_groups : ℕ → ℕ
 block_groups tokens = if nat_le tokens 16384 then 2048 else 8
 
--- how many tokens a block has
+-- how many tokens a block has at most
 abbrev pub block_size : ℕ → ℕ
 block_size tokens = 8 * block_groups tokens
 
--- how many blocks this many tokens take, the last one with fewer
+-- how many blocks this many tokens take: all but the last have as many as a block may
 abbrev pub blocks_for : ℕ → ℕ
 blocks_for tokens = (tokens + (block_size tokens - 1)) / block_size tokens
 

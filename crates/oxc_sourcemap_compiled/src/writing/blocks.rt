@@ -65,6 +65,7 @@ fn field_of(token: &Token, k: usize) -> u32
 /// How many bits numbers take that are at most this one.
 fn width_of(most: u32) -> u8
     ensures fits { most < 2 ^ result }
+    ensures needed { 0 < result → 2 ^ (result - 1) ≤ most }
     ensures small { result ≤ 32 }
 {
     match most {

@@ -7,7 +7,7 @@ use Rattle.oxc_sourcemap_compiled.specs.Compiled.{table, row_of, rows_of, group_
 use Rattle.oxc_sourcemap_compiled.specs.Compiled.{widths_of, no_block, IsPacked, ArePacked}
 use Rattle.oxc_sourcemap_compiled.specs.Numbers.{number_at}
 use Rattle.oxc_sourcemap_compiled.specs.Layout.{groups_base}
-use Rattle.oxc_sourcemap_compiled.specs.Fields.{field_in, widths_in, row_base}
+use Rattle.oxc_sourcemap_compiled.specs.Fields.{field_in, widths_in, row_base, row_in}
 use Rattle.oxc_sourcemap_compiled.specs.declared.layout.Header.{Header}
 use Rattle.oxc_sourcemap_compiled.specs.declared.writing.blocks.Packing.{Packing}
 use Rattle.oxc_sourcemap_compiled.specs.declared.writing.blocks.Block.{Block}
@@ -104,15 +104,21 @@ least-read k at place b all lt h small =
     let is = least-at k place b lt in
     ap (number_at 4 all) here ∙ entry-read (k + 1) at (numbers_of place b) all (numbers-lie at place b all h) (omega (arith, lt)) (omega (arith, is, small)) ∙ is
 
+-- the widths of a block, by its row
+widths-read : (i place : ℕ) (b : Block) (all : List ℕ) (h : Header) → LiesAt (row_base h i) (row_of place b) all → widths_in all h i ≡ widths_of b
+widths-read i place b all h row = lies-take (row_base h i + 24) 5 (widths_of b) all (widths-lie (row_base h i) place b all row) refl
+
 -- the field of a block, by its row
-pub field-read : (k i place : ℕ) (b : Block) (all : List ℕ) (h : Header) → k < 5 → LiesAt (row_base h i) (row_of place b) all → place ≤ 4294967295
-    → (packing_at k b).least ≤ 4294967295 → (packing_at k b).width ≤ 32
-    → field_in all h i k ≡ record { least = (packing_at k b).least; at = groups_base h + place; first = sum (take k (widths_of b)); stride = sum (widths_of b); width = (packing_at k b).width }
+pub field-read : (k i place : ℕ) (b : Block) (all : List ℕ) (h : Header) → k < 5 → LiesAt (row_base h i) (row_of place b) all → (packing_at k b).least ≤ 4294967295 → (packing_at k b).width ≤ 32
+    → field_in all h i k ≡ record { least = (packing_at k b).least; first = sum (take k (widths_of b)); width = (packing_at k b).width }
 unfolding field_in
-field-read k i place b all h lt row small_place small narrow =
-    let widths : widths_in all h i ≡ widths_of b = lies-take (row_base h i + 24) 5 (widths_of b) all (widths-lie (row_base h i) place b all row) refl in
+field-read k i place b all h lt row small narrow =
+    let widths : widths_in all h i ≡ widths_of b = widths-read i place b all h row in
     let is = width-at k b lt in
     let width : min (get_or (widths_of b) k 0) 32 ≡ (packing_at k b).width = omega (arith, is, narrow) in
-    same-field (least-read k (row_base h i) place b all lt row small)
-    (ap (λ n. groups_base h + n) (place-read (row_base h i) place b all row small_place)) (ap (λ ws. sum (take k ws)) widths)
-    (ap sum widths) (ap (λ ws. min (get_or ws k 0) 32) widths ∙ width)
+    same-field (least-read k (row_base h i) place b all lt row small) (ap (λ ws. sum (take k ws)) widths) (ap (λ ws. min (get_or ws k 0) 32) widths ∙ width)
+
+-- where the block lies, and how many bits a token has
+pub row-read : (i place : ℕ) (b : Block) (all : List ℕ) (h : Header) → LiesAt (row_base h i) (row_of place b) all → place ≤ 4294967295
+    → ((row_in all h i).at ≡ groups_base h + place) × ((row_in all h i).stride ≡ sum (widths_of b))
+row-read i place b all h row small = (ap (λ n. groups_base h + n) (place-read (row_base h i) place b all row small), ap sum (widths-read i place b all h row))

@@ -19,15 +19,16 @@ use Rattle.oxc_sourcemap_compiled.specs.Compiled.{FieldsFit, ArePacked, block_to
 use Rattle.oxc_sourcemap_compiled.specs.Compiled.{all_group_bytes}
 use Rattle.oxc_sourcemap_compiled.specs.Numbers.{number_at}
 use Rattle.oxc_sourcemap_compiled.specs.Layout.{rows_base, groups_base, block_groups, block_size}
-use Rattle.oxc_sourcemap_compiled.specs.Fields.{value_at, value_in, value_of, field_in}
+use Rattle.oxc_sourcemap_compiled.specs.Fields.{value_at, value_in, value_of, field_in, row_in, row_base}
 use Rattle.oxc_sourcemap_compiled.specs.declared.fields.Field.{Field}
+use Rattle.oxc_sourcemap_compiled.specs.declared.fields.Row.{Row}
 use Rattle.oxc_sourcemap_compiled.specs.declared.layout.Header.{Header}
 use Rattle.oxc_sourcemap_compiled.specs.declared.writing.blocks.Packing.{Packing}
 use Rattle.oxc_sourcemap_compiled.specs.declared.writing.blocks.Block.{Block}
 use Rattle.oxc_sourcemap_compiled.proofs.Parts.{LiesAt, lies-whole, lies-within}
 use Rattle.oxc_sourcemap_compiled.proofs.Parts.{lies-among}
 use Rattle.oxc_sourcemap_compiled.proofs.Digits.{first-small, token-read}
-use Rattle.oxc_sourcemap_compiled.proofs.Rows.{packing_at, packed-at, rows-lie, field-read}
+use Rattle.oxc_sourcemap_compiled.proofs.Rows.{packing_at, packed-at, rows-lie, field-read, row-read}
 use Rattle.oxc_sourcemap_compiled.proofs.Groups.{bytes-below, bytes-before, bytes-within}
 use Rattle.oxc_sourcemap_compiled.proofs.Groups.{group_at, groups-length, group-length}
 use Rattle.oxc_sourcemap_compiled.proofs.ReadNumbers.{bytes-bits}
@@ -117,10 +118,10 @@ group-fits tokens b g n lt are = record {
 }
 
 -- the value of a field, by the word that is read
-value-is : (bytes : List ℕ) (f : Field) (j v : ℕ) → nat_le (f.at + (f.first + j * f.stride) / 8 + 8) (length bytes) ≡ true
-    → (f.least + number_at 8 bytes (f.at + (f.first + j * f.stride) / 8) / 2 ^ ((f.first + j * f.stride) % 8) % 2 ^ f.width) % 2 ^ 32 ≡ v → value_in bytes f j ≡ v
+value-is : (bytes : List ℕ) (row : Row) (f : Field) (j at s v : ℕ) → row.at ≡ at → row.stride ≡ s → nat_le (at + (f.first + j * s) / 8 + 8) (length bytes) ≡ true
+    → (f.least + number_at 8 bytes (at + (f.first + j * s) / 8) / 2 ^ ((f.first + j * s) % 8) % 2 ^ f.width) % 2 ^ 32 ≡ v → value_in bytes row f j ≡ v
 unfolding value_at
-value-is bytes f j v room is = rw room is
+value-is bytes row f j at s v here each room is = rw (here, each, room) is
 
 -- ---- the fields of a token in its bits
 skip : (v rest w r : ℕ) → v < 2 ^ w → (v + 2 ^ w * rest) / 2 ^ (w + r) ≡ rest / 2 ^ r
@@ -265,7 +266,7 @@ module _ (tokens : List TokenRecord) (blocks : List Block) (bytes : List ℕ) (h
     before = length (flat_map (group_at (each one) blocks tokens) (range_with_len 0 (i / 8)))
 
     abbrev field : Field
-    field = record { least = packing.least; at = groups_base h + place; first = sum (take k (widths_of block)); stride = sum (widths_of block); width = packing.width }
+    field = record { least = packing.least; first = sum (take k (widths_of block)); width = packing.width }
 
     abbrev bit : ℕ
     bit = in_block % 8 * stride_of block + sum (take k (widths_of block))
@@ -307,8 +308,14 @@ module _ (tokens : List TokenRecord) (blocks : List Block) (bytes : List ℕ) (h
         let below = bytes-below one (each one * home) all_groups blocks (groups-before one i (length tokens) there) few-groups in
         omega (arith, place-is, below, few)
 
+    row-lies : LiesAt (row_base h home) (row_of place block) bytes
+    row-lies = rows-lie (rows_base h) 0 (each one) all_groups home blocks bytes rows block-is
+
+    placed : ((row_in bytes h home).at ≡ groups_base h + place) × ((row_in bytes h home).stride ≡ sum (widths_of block))
+    placed = row-read home place block bytes h row-lies place-small
+
     field-is : field_in bytes h home k ≡ field
-    field-is = field-read k home place block bytes h is_field (rows-lie (rows_base h) 0 (each one) all_groups home blocks bytes rows block-is) place-small (omega (arith, least-reached, small)) fields.width
+    field-is = field-read k home place block bytes h is_field row-lies (omega (arith, least-reached, small)) fields.width
 
     group-lies : (base : ℕ) (all : List ℕ) → LiesAt base (groups_of blocks tokens) all → LiesAt (base + before) (group_of block group) all
     group-lies base all g =
@@ -367,15 +374,15 @@ module _ (tokens : List TokenRecord) (blocks : List Block) (bytes : List ℕ) (h
         value-of-group block group (groups_base h + before) bytes values-small (group-lies (groups_base h) bytes groups) k (in_block % 8) is_field (omega arith) fields.width
         ∙ ap (above_in k packing) token-there
 
-    read-is : number_at 8 bytes (field.at + (first + in_block * field.stride) / 8) / 2 ^ ((first + in_block * field.stride) % 8) % 2 ^ packing.width ≡ number - packing.least
+    read-is : number_at 8 bytes (groups_base h + place + (first + in_block * sum (widths_of block)) / 8) / 2 ^ ((first + in_block * sum (widths_of block)) % 8) % 2 ^ packing.width ≡ number - packing.least
     read-is =
-        ap (λ a. number_at 8 bytes a / 2 ^ ((first + in_block * field.stride) % 8) % 2 ^ packing.width) at-is
+        ap (λ a. number_at 8 bytes a / 2 ^ ((first + in_block * sum (widths_of block)) % 8) % 2 ^ packing.width) at-is
         ∙ ap (λ r. number_at 8 bytes at / 2 ^ r % 2 ^ packing.width) bit-is ∙ above-is
 
     pub value-read : value_of bytes h k i ≡ field_number k (get_or tokens i d)
     value-read =
         let whole : packing.least + (number - packing.least) ≡ number = omega (arith, least-reached) in
         let low : number < 4294967296 = omega (arith, small) in
-        let room : nat_le (field.at + (first + in_block * field.stride) / 8 + 8) (length bytes) ≡ true = grind (arith, within, at-is) in
-        ap (λ n. value_in bytes (field_in bytes h (i / block_size n) k) (i % block_size n)) counted ∙ ap (λ f. value_in bytes f in_block) field-is
-        ∙ value-is bytes field in_block number room (ap (λ n. (packing.least + n) % 4294967296) read-is ∙ ap (λ n. n % 4294967296) whole ∙ mod-eq_of_lt low)
+        let room : nat_le (groups_base h + place + (first + in_block * sum (widths_of block)) / 8 + 8) (length bytes) ≡ true = grind (arith, within, at-is) in
+        ap (λ n. value_in bytes (row_in bytes h (i / block_size n)) (field_in bytes h (i / block_size n) k) (i % block_size n)) counted ∙ ap (λ f. value_in bytes (row_in bytes h home) f in_block) field-is
+        ∙ value-is bytes (row_in bytes h home) field in_block (groups_base h + place) (sum (widths_of block)) number placed.0 placed.1 room (ap (λ n. (packing.least + n) % 4294967296) read-is ∙ ap (λ n. n % 4294967296) whole ∙ mod-eq_of_lt low)

@@ -8,6 +8,7 @@ use Rattle.oxc_sourcemap_compiled.specs.Decompiled.{checked_map}
 use Rattle.oxc_sourcemap_compiled.specs.Means.{stored_map, compiled_of}
 use Rattle.std.specs.Prelude.{true, false}
 use Rattle.oxc_sourcemap_compiled.specs.Compiled.{map_bytes, bytes_of, stored_text}
+use Rattle.oxc_sourcemap_compiled.specs.declared.fields.Field.{Field}
 use Rattle.oxc_sourcemap_compiled.specs.declared.writing.blocks.Packing.{Packing}
 use Rattle.oxc_sourcemap_compiled.specs.Numbers.{number_at}
 use Rattle.oxc_sourcemap_compiled.specs.Layout.{header_in, compiled_fault}
@@ -25,7 +26,10 @@ unfolding number_at
 number-means = refl
 
 -- Eight values of three bits take three bytes: 1 to 7 and 0 are 1 + 2 * 8 + 3 * 8^2 + 4 * 8^3 + 5 * 8^4 + 6 * 8^5 + 7 * 8^6, and 10 is added.
-values-mean : value_in (209 ∷ 88 ∷ 31 ∷ 0 ∷ 0 ∷ 0 ∷ 0 ∷ 0 ∷ 0 ∷ 0 ∷ 0 ∷ 0 ∷ 0 ∷ 0 ∷ 0 ∷ 0 ∷ 0 ∷ []) (record { least = 10; at = 0; first = 0; stride = 3; width = 3 }) 6 ≡ 17
+abbrev threes : Field
+threes = record { least = 10; first = 0; width = 3 }
+
+values-mean : value_in (209 ∷ 88 ∷ 31 ∷ 0 ∷ 0 ∷ 0 ∷ 0 ∷ 0 ∷ 0 ∷ 0 ∷ 0 ∷ 0 ∷ 0 ∷ 0 ∷ 0 ∷ 0 ∷ 0 ∷ []) (record { at = 0; stride = 3; column = threes; source = threes; src_line = threes; src_col = threes; name = threes }) threes 6 ≡ 17
 unfolding value_at number_at
 values-mean = refl
 

@@ -25,11 +25,11 @@ stored_id n = if nat_lt 0 n then Some (n - 1) else None
 abbrev pub token_at : List ℕ → Row → ℕ → ℕ → TokenRecord
 token_at bytes row line j = record {
   dst_line = line;
-  dst_col = value_in bytes row.column j;
-  src_line = value_in bytes row.src_line j;
-  src_col = value_in bytes row.src_col j;
-  source_id = stored_id (value_in bytes row.source j);
-  name_id = stored_id (value_in bytes row.name j);
+  dst_col = value_in bytes row row.column j;
+  src_line = value_in bytes row row.src_line j;
+  src_col = value_in bytes row row.src_col j;
+  source_id = stored_id (value_in bytes row row.source j);
+  name_id = stored_id (value_in bytes row row.name j);
 }
 
 -- the token at an index, on a line

@@ -8,22 +8,30 @@ use Rattle.oxc_sourcemap_compiled.specs.declared.fields.Field.{Field}
 use Rattle.oxc_sourcemap_compiled.specs.declared.fields.Row.{Row}
 use Rattle.oxc_sourcemap_compiled.specs.declared.layout.Header.{Header}
 
--- a field that is read: its values have at most 32 bits, and their places are numbers that a machine can add
+-- a field that is read: its values have at most 32 bits
 pub record IsField (f : Field) : Type 0 where
   pub width : f.width ≤ 32
   pub first : f.first ≤ 1020
-  pub stride : f.stride ≤ 1275
-  pub at : f.at ≤ 1099511627776
+
+-- a block that is read: its fields are such, and its places are numbers that a machine can add
+pub record IsRow (row : Row) : Type 0 where
+  pub at : row.at ≤ 1099511627776
+  pub stride : row.stride ≤ 1275
+  pub column : IsField row.column
+  pub source : IsField row.source
+  pub src_line : IsField row.src_line
+  pub src_col : IsField row.src_col
+  pub name : IsField row.name
 
 -- the value of a field that begins at a bit of its block; the least one where fewer than eight bytes are left from there on
-unfoldable pub value_at : List ℕ → Field → ℕ → ℕ
-value_at bytes f bit =
-    let at = f.at + bit / 8 in
+unfoldable pub value_at : List ℕ → Row → Field → ℕ → ℕ
+value_at bytes row f bit =
+    let at = row.at + bit / 8 in
     if nat_le (at + 8) (length bytes) then (f.least + number_at 8 bytes at / 2 ^ (bit % 8) % 2 ^ f.width) % 2 ^ 32 else f.least
 
 -- the value of a field in a token, by the number of the token in its block
-abbrev pub value_in : List ℕ → Field → ℕ → ℕ
-value_in bytes f j = value_at bytes f (f.first + j * f.stride)
+abbrev pub value_in : List ℕ → Row → Field → ℕ → ℕ
+value_in bytes row f j = value_at bytes row f (f.first + j * row.stride)
 
 -- where the row of a block lies: 4 bytes for where its groups begin, 4 for the least value of each field, 1 for each width
 abbrev pub row_base : Header → ℕ → ℕ
@@ -39,23 +47,15 @@ field_in bytes h b k =
     let widths = widths_in bytes h b in
     record {
       least = number_at 4 bytes (row_base h b + 4 + 4 * k);
-      at = groups_base h + number_at 4 bytes (row_base h b);
       first = sum (take k widths);
-      stride = sum widths;
       width = min (get_or widths k 0) 32;
     }
 
--- the five fields of a block are such
-pub record AreFields (row : Row) : Type 0 where
-  pub column : IsField row.column
-  pub source : IsField row.source
-  pub src_line : IsField row.src_line
-  pub src_col : IsField row.src_col
-  pub name : IsField row.name
-
--- how a block is read: its five fields
+-- how a block is read: where it lies, how many bits a token has, and its five fields
 abbrev pub row_in : List ℕ → Header → ℕ → Row
 row_in bytes h b = record {
+  at = groups_base h + number_at 4 bytes (row_base h b);
+  stride = sum (widths_in bytes h b);
   column = field_in bytes h b 0;
   source = field_in bytes h b 1;
   src_line = field_in bytes h b 2;
@@ -65,4 +65,6 @@ row_in bytes h b = record {
 
 -- the value of a field of a token, by the number of the field and the index of the token
 abbrev pub value_of : List ℕ → Header → ℕ → ℕ → ℕ
-value_of bytes h k i = value_in bytes (field_in bytes h (i / block_size h.tokens) k) (i % block_size h.tokens)
+value_of bytes h k i =
+    let b = i / block_size h.tokens in
+    value_in bytes (row_in bytes h b) (field_in bytes h b k) (i % block_size h.tokens)

@@ -18,7 +18,7 @@ pub use Rattle.oxc_sourcemap_compiled.specs.Cuts.{IsCut, DoNotFall}
 pub use Rattle.oxc_sourcemap_compiled.specs.Decompiled.{checked_texts, checked_contents}
 pub use Rattle.oxc_sourcemap_compiled.specs.Decompiled.{checked_text, checked_map, is_optional_utf8}
 pub use Rattle.oxc_sourcemap_compiled.specs.Decompiled.{DoLinesFollow, DoTextsFollow, DoesNotGoBack}
-pub use Rattle.oxc_sourcemap_compiled.specs.Fields.{IsField, AreFields, value_at, value_in}
+pub use Rattle.oxc_sourcemap_compiled.specs.Fields.{IsField, IsRow, value_at, value_in}
 pub use Rattle.oxc_sourcemap_compiled.specs.Fields.{field_in, value_of}
 pub use Rattle.oxc_sourcemap_compiled.specs.Fields.{row_base, row_in}
 pub use Rattle.oxc_sourcemap_compiled.specs.Layout.{header_in, layout_in, AreCounts, HasParts}

@@ -4,7 +4,7 @@ ghost use Rattle.std.specs.Prelude.{true, false};
 ghost use Rattle.std.specs.Prelude.{Some};
 ghost use Rattle.oxc_sourcemap_tokens.specs.Results.{lent_item};
 ghost use Rattle.oxc_sourcemap_compiled.specs.Words.{IsOpened, IsField, block_count, text_count};
-ghost use Rattle.oxc_sourcemap_compiled.specs.Words.{AreFields, HasParts, layout_in, row_base};
+ghost use Rattle.oxc_sourcemap_compiled.specs.Words.{IsRow, HasParts, layout_in, row_base};
 ghost use Rattle.oxc_sourcemap_compiled.specs.Words.{field_in, row_in, token_in, start_in};
 ghost use Rattle.oxc_sourcemap_compiled.specs.Words.{column_of};
 ghost use Rattle.oxc_sourcemap_compiled.specs.Words.{ignored_in, text_in, optional_in, offset_in};
@@ -73,9 +73,7 @@ fn read_field(bytes: &[u8], header: &Header, layout: &Layout, b: usize, k: usize
     let widths = &bytes[row + 24..row + 29];
     Field {
         least: u32_at(bytes, row + 4 + 4 * k),
-        at: layout.groups + u32_at(bytes, row) as usize,
         first: width_before(widths, k),
-        stride: width_of_all(widths),
         width: usize::from(widths[k]).min(32),
     }
 }
@@ -86,10 +84,13 @@ fn read_row(bytes: &[u8], header: &Header, layout: &Layout, b: usize) -> Row
     requires parts { HasParts (length bytes.now) header.now }
     requires layout { layout.now ≡ layout_in header.now }
     requires there { row_base header.now b + 29 ≤ length bytes.now }
-    ensures fields { AreFields result }
-    ensures row { result ≡ row_in bytes.now header.now b }
+    ensures row { IsRow result }
+    ensures value { result ≡ row_in bytes.now header.now b }
 {
+    let row = layout.rows + 29 * b;
     Row {
+        at: layout.groups + u32_at(bytes, row) as usize,
+        stride: width_of_all(&bytes[row + 24..row + 29]),
         column: read_field(bytes, header, layout, b, 0),
         source: read_field(bytes, header, layout, b, 1),
         src_line: read_field(bytes, header, layout, b, 2),
@@ -163,15 +164,15 @@ impl<'a> Opened<'a> {
         self.header.tokens <= 16384
     }
 
-    /// The columns of a block.
+    /// How a block is read.
     #[inline(always)]
-    pub(crate) fn columns(&self, b: usize) -> Field
+    pub(crate) fn row(&self, b: usize) -> Row
         requires opened { IsOpened self.now }
         requires there { b < block_count self.now.header }
-        ensures field { IsField result }
-        ensures value { result ≡ field_in self.now.bytes.now self.now.header b 0 }
+        ensures row { IsRow result }
+        ensures value { result ≡ row_in self.now.bytes.now self.now.header b }
     {
-        read_field(self.bytes, &self.header, &self.layout, b, 0)
+        read_row(self.bytes, &self.header, &self.layout, b)
     }
 
     /// The column of a token.
@@ -182,9 +183,10 @@ impl<'a> Opened<'a> {
         ensures { result ≡ column_of self.now.bytes.now self.now.header i }
     {
         if self.is_one_block() {
-            self.front.column.value(self.bytes, i)
+            self.front.value(self.bytes, self.front.column, i)
         } else {
-            self.columns(i / 64).value(self.bytes, i % 64)
+            let row = self.row(i / 64);
+            row.value(self.bytes, row.column, i % 64)
         }
     }
 
@@ -198,7 +200,7 @@ impl<'a> Opened<'a> {
         if self.is_one_block() {
             self.front.token(self.bytes, line, i)
         } else {
-            read_row(self.bytes, &self.header, &self.layout, i / 64).token(self.bytes, line, i % 64)
+            self.row(i / 64).token(self.bytes, line, i % 64)
         }
     }
 

@@ -1,7 +1,7 @@
 //! Searches by halving: of a line, of a block, and of a token in a block. `steps` counts the numbers that are compared.
 ghost use Rattle.std.specs.Prelude.{◌≡◌, ◌+◌, ◌*◌, ◌/◌, ◌≤◌, ◌<◌, ℕ, true, nat_lt, if◌then◌else◌};
 ghost use Rattle.std.specs.Prelude.{IfSome, IsNone, ◌≢◌, slice_get};
-ghost use Rattle.oxc_sourcemap_compiled.specs.Words.{IsOpened, IsField, IsCut, DoNotFall};
+ghost use Rattle.oxc_sourcemap_compiled.specs.Words.{IsOpened, IsRow, IsCut, DoNotFall};
 ghost use Rattle.oxc_sourcemap_compiled.specs.Words.{AreRowsExact};
 ghost use Rattle.oxc_sourcemap_compiled.specs.Words.{value_in, column_of, least_column_of};
 ghost use Rattle.oxc_sourcemap_compiled.specs.Words.{block_count};
@@ -10,7 +10,7 @@ ghost use Rattle.oxc_sourcemap_compiled.specs.Words.{tokens_in, IsTokenAt};
 ghost use Rattle.oxc_sourcemap_lookup.specs.Words.{binary_digits};
 ghost use Rattle.std.specs.Prelude.{◌-◌};
 
-use crate::fields::Field;
+use crate::fields::Row;
 use crate::opened::Opened;
 use oxc_sourcemap_tokens::Token;
 
@@ -39,11 +39,11 @@ fn step_if_less(x: u32, y: u64, count: usize, steps: &mut u64) -> usize
     count_if_less(x, y, count)
 }
 
-impl Field {
-    /// Where the values of the field stop being below `limit`, among `count` tokens of the block from `first` on.
+impl Row {
+    /// Where columns stop being below `limit`, among `count` tokens of the block from `first` on.
     #[inline(always)]
     fn cut(&self, bytes: &[u8], first: usize, count: usize, limit: u64, steps: &mut u64) -> usize
-        requires field { IsField self.now }
+        requires row { IsRow self.now }
         requires there { first + count ≤ 16384 }
         requires few { steps.old ≤ 65535 }
         ensures counted { steps.new ≡ steps.old + binary_digits count }
@@ -51,17 +51,17 @@ impl Field {
         ensures reached { first ≤ result }
         ensures within { result ≤ first + count }
         ensures cut { (cut : ℕ)
-            → IsCut (value_in bytes.now self.now) limit first (first + count) cut
+            → IsCut (value_in bytes.now self.now self.now.column) limit first (first + count) cut
             → result ≡ cut }
     {
         let bits = self.stride;
         let mut start = first;
-        let mut bit = self.first + first * bits;
+        let mut bit = self.column.first + first * bits;
         let mut size = count;
         while size > 0 {
             let half = size / 2;
             let step = size - half;
-            let value = self.value_at(bytes, bit + (step - 1) * bits);
+            let value = self.value_at(bytes, self.column, bit + (step - 1) * bits);
             start += step_if_less(value, limit, step, steps);
             bit += count_if_less(value, limit, step * bits);
             size = half;
@@ -161,7 +161,6 @@ impl<'a> Opened<'a> {
         if self.is_one_block() {
             return self
                 .front
-                .column
                 .cut(self.bytes, first, end - first, limit, steps);
         }
         let block = self.block_with_cut(first, end, limit, steps);
@@ -169,7 +168,7 @@ impl<'a> Opened<'a> {
         let start = base.max(first) - base;
         let stop = (base + 64).min(end) - base;
         base + self
-            .columns(block)
+            .row(block)
             .cut(self.bytes, start, stop - start, limit, steps)
     }
 

@@ -1,6 +1,5 @@
 use Rattle.std.proofs.Common.{◌≡◌, ◌+◌, ◌-◌, ◌*◌, ap, ◌∙◌, arith, take, drop, sum, get_or, min}
 use Rattle.oxc_sourcemap_compiled.specs.Numbers.{number_at}
-use Rattle.oxc_sourcemap_compiled.specs.Layout.{groups_base}
 use Rattle.oxc_sourcemap_compiled.specs.Fields.{field_in, widths_in, row_base}
 use Rattle.oxc_sourcemap_compiled.proofs.Blocks.{same-field}
 use Rattle.oxc_sourcemap_compiled.proofs.opened.read_field.Goals as goal
@@ -19,9 +18,6 @@ returns-clause-value c =
     let five : row + 29 - (row + 24) ≡ 5 = omega arith in
     let slice : take (row + 29 - (row + 24)) (drop (row + 24) bytes) ≡ widths_in bytes h b = ap (λ n. take n (drop (row + 24) bytes)) five ∙ ap (λ r. take 5 (drop (r + 24) bytes)) rows in
     let least = c.u32_at.ensures ∙ ap (λ r. number_at 4 bytes (r + 4 + 4 * k)) rows in
-    let place = c.u32_at-2.ensures ∙ ap (number_at 4 bytes) rows in
-    let groups : layout.groups ≡ groups_base h = ap (λ l. l.groups) placed in
     let before = c.width_before.ensures.value ∙ ap (λ ws. sum (take k ws)) slice in
-    let stride = c.width_of_all.ensures.value ∙ ap sum slice in
     let width = c.min.ensures ∙ ap (λ m. min m 32) c.from.ensures ∙ ap (λ ws. min (get_or ws k 0) 32) slice in
-    same-field least (ap (λ n. n + c.u32_at-2.result) groups ∙ ap (λ n. groups_base h + n) place) before stride width
+    same-field least before width

@@ -13,8 +13,8 @@ returns-then-is_one_block-clause-cut c = λ exact rise cut is.
     let end = c.args.end in
     let row = c.requires.opened.front in
     let few = c.is_one_block.ensures.few c.if-is_one_block.true in
-    let same = λ (j : ℕ) (lt : j < end). ap (λ row. value_in bytes row.column j) row ∙ column-of-one bytes h j few (omega (arith, lt, c.requires.there, few)) in
-    c.cut.ensures.cut cut (same-cut (column_of bytes h) (value_in bytes c.args.self.now.front.column) c.args.limit first end (first + (end - first)) cut (omega (arith, c.requires.order)) same is)
+    let same = λ (j : ℕ) (lt : j < end). ap (λ row. value_in bytes row row.column j) row ∙ column-of-one bytes h j few (omega (arith, lt, c.requires.there, few)) in
+    c.cut.ensures.cut cut (same-cut (column_of bytes h) (value_in bytes c.args.self.now.front c.args.self.now.front.column) c.args.limit first end (first + (end - first)) cut (omega (arith, c.requires.order)) same is)
 
 pub returns-clause-cut : goal.returns-clause-cut
 returns-clause-cut c = λ exact rise cut is.
@@ -26,9 +26,9 @@ returns-clause-cut c = λ exact rise cut is.
     let block = c.block_with_cut-block.result in
     let base = 64 * block in
     let f = column_of bytes h in
-    let g = value_in bytes c.columns.result in
+    let g = value_in bytes c.row.result c.row.result.column in
     let found = c.block_with_cut-block.ensures.cut exact rise cut is in
-    let same = λ (j : ℕ) (small : j < 64). ap (λ x. value_in bytes x j) c.columns.ensures.value ∙ column-of-many bytes h block j (c.is_one_block.ensures.many c.if-is_one_block.false) small in
+    let same = λ (j : ℕ) (small : j < 64). ap (λ row. value_in bytes row row.column j) c.row.ensures.value ∙ column-of-many bytes h block j (c.is_one_block.ensures.many c.if-is_one_block.false) small in
     let made = block-cut f g limit first end cut base is found.0 found.1 (omega (arith, c.block_with_cut-block.ensures.reached)) c.block_with_cut-block.ensures.within same in
     let started = subst (λ m. IsCut g limit (m - base) (m - base + (min (base + 64) end - base - (m - base))) (cut - base)) (sym c.max.ensures) made in
     let stopped = subst (λ m. IsCut g limit (c.max.result - base) (c.max.result - base + (m - base - (c.max.result - base))) (cut - base)) (sym c.min.ensures) started in

@@ -2,14 +2,14 @@ use Rattle.std.proofs.Common.{◌≡◌, ◌≤◌, ◌+◌, ◌*◌}
 use Rattle.oxc_sourcemap_lookup.specs.Digits.{binary_digits}
 use Rattle.oxc_sourcemap_compiled.specs.Words.{value_in}
 use Rattle.oxc_sourcemap_compiled.proofs.Searches.{IsHalved}
-use Rattle.oxc_sourcemap_compiled.proofs.fields.Field.cut.Given as goal
+use Rattle.oxc_sourcemap_compiled.proofs.fields.Row.cut.Given as goal
 
 abbrev pub invariant-loop-size : goal.invariant-loop-size
 invariant-loop-size l = record {
-  halved : IsHalved (value_in l.bytes l.self) l.limit l.first l.count l.start l.size;
+  halved : IsHalved (value_in l.bytes l.self l.self.column) l.limit l.first l.count l.start l.size;
   counted : l.steps + binary_digits l.size ≡ l.fn.steps + binary_digits l.count;
   small : binary_digits l.count ≤ 15;
-  bit : l.bit ≡ l.self.first + l.start * l.self.stride;
+  bit : l.bit ≡ l.self.column.first + l.start * l.self.stride;
   few : l.fn.steps ≤ 65535;
 }
 

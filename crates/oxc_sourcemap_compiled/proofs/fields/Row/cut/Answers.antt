@@ -4,7 +4,7 @@ use Rattle.std.proofs.Common.{ap, ◌∙◌, if◌then◌else◌}
 use Rattle.oxc_sourcemap_lookup.proofs.Halving.{digits-half, digits-below}
 use Rattle.oxc_sourcemap_compiled.specs.Words.{value_at, value_in}
 use Rattle.oxc_sourcemap_compiled.proofs.Searches.{halved-none, halved-more, halved-all}
-use Rattle.oxc_sourcemap_compiled.proofs.fields.Field.cut.Goals as goal
+use Rattle.oxc_sourcemap_compiled.proofs.fields.Row.cut.Goals as goal
 
 -- the bit of a token so many steps further, and that of where a search goes on
 bit-at : (first bit start step s : ℕ) → bit ≡ first + start * s → 0 < step → bit + (step - 1) * s ≡ first + (start + step - 1) * s
@@ -21,7 +21,7 @@ bit-next false first bit start step s moved bits is m b = omega (arith, is, ap (
 
 pub loop-size-init : goal.loop-size-init
 loop-size-init c = record {
-  halved = halved-none (value_in c.args.bytes.now c.args.self.now) c.args.limit c.args.first c.args.count;
+  halved = halved-none (value_in c.args.bytes.now c.args.self.now c.args.self.now.column) c.args.limit c.args.first c.args.count;
   counted = refl;
   small = digits-below 15 c.args.count (omega (arith, c.requires.there));
   few = c.requires.few;
@@ -31,7 +31,7 @@ loop-size-init c = record {
 pub loop-size-preserved : goal.loop-size-preserved
 loop-size-preserved c =
     let self = c.args.self.now in
-    let f = value_in c.args.bytes.now self in
+    let f = value_in c.args.bytes.now self self.column in
     let start = c.loop-size.start in
     let size = c.loop-size.size in
     let bit = c.loop-size.bit in
@@ -39,7 +39,7 @@ loop-size-preserved c =
     let at = start + step - 1 in
     let h = c.loop-size.invariant in
     let some : 0 < step = omega (arith, c.loop-size-test.true) in
-    let read = c.value_at-value.ensures ∙ ap (value_at c.args.bytes.now self) (bit-at self.first bit start step self.stride h.bit some) in
+    let read = c.value_at-value.ensures ∙ ap (value_at c.args.bytes.now self self.column) (bit-at self.column.first bit start step self.stride h.bit some) in
     let moved = c.step_if_less-start.ensures.value ∙ ap (λ v. if nat_lt v c.args.limit then step else 0) read in
     let bits = c.count_if_less-bit.ensures ∙ ap (λ v. if nat_lt v c.args.limit then step * self.stride else 0) read in
     let value = ap (λ n. start + n) moved in
@@ -48,8 +48,8 @@ loop-size-preserved c =
       counted = omega (arith, h.counted, digits-half size c.loop-size-test.true, c.step_if_less-start.ensures.counted);
       small = h.small;
       few = h.few;
-      bit = bit-next (nat_lt (f at) c.args.limit) self.first bit start step self.stride c.step_if_less-start.result c.count_if_less-bit.result h.bit moved bits;
+      bit = bit-next (nat_lt (f at) c.args.limit) self.column.first bit start step self.stride c.step_if_less-start.result c.count_if_less-bit.result h.bit moved bits;
     }
 
 pub returns-clause-cut : goal.returns-clause-cut
-returns-clause-cut c = λ cut is. halved-all (value_in c.args.bytes.now c.args.self.now) c.args.limit c.args.first c.args.count c.loop-size.start c.loop-size.size cut c.loop-size.invariant.halved (omega (arith, c.loop-size-test.false)) is
+returns-clause-cut c = λ cut is. halved-all (value_in c.args.bytes.now c.args.self.now c.args.self.now.column) c.args.limit c.args.first c.args.count c.loop-size.start c.loop-size.size cut c.loop-size.invariant.halved (omega (arith, c.loop-size-test.false)) is

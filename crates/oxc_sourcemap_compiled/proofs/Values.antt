@@ -13,13 +13,14 @@ use Rattle.std.specs.List.{flat_map, range_with_len}
 use Rattle.oxc_sourcemap_tokens.specs.Token.{TokenRecord, IsInBounds, AreInBounds}
 use Rattle.oxc_sourcemap_compiled.specs.Compiled.{id_number, field_number, IsPacked, AreBlocksOf}
 use Rattle.oxc_sourcemap_compiled.specs.Compiled.{group_bytes_of, stride_of, widths_of, no_block}
-use Rattle.oxc_sourcemap_compiled.specs.Compiled.{above_in, rows_of, groups_of, group_of}
+use Rattle.oxc_sourcemap_compiled.specs.Compiled.{above_in, row_of, rows_of, groups_of, group_of}
 use Rattle.oxc_sourcemap_compiled.specs.Compiled.{token_bits, group_bits}
 use Rattle.oxc_sourcemap_compiled.specs.Compiled.{FieldsFit, ArePacked, block_tokens}
 use Rattle.oxc_sourcemap_compiled.specs.Compiled.{all_group_bytes}
 use Rattle.oxc_sourcemap_compiled.specs.Numbers.{number_at}
 use Rattle.oxc_sourcemap_compiled.specs.Layout.{rows_base, groups_base, block_groups, block_size}
-use Rattle.oxc_sourcemap_compiled.specs.Fields.{value_at, value_in, value_of, field_in, row_in, row_base}
+use Rattle.oxc_sourcemap_compiled.specs.Fields.{value_at, value_in, value_of, field_in, row_in}
+use Rattle.oxc_sourcemap_compiled.specs.Fields.{row_base}
 use Rattle.oxc_sourcemap_compiled.specs.declared.fields.Field.{Field}
 use Rattle.oxc_sourcemap_compiled.specs.declared.fields.Row.{Row}
 use Rattle.oxc_sourcemap_compiled.specs.declared.layout.Header.{Header}
@@ -28,7 +29,8 @@ use Rattle.oxc_sourcemap_compiled.specs.declared.writing.blocks.Block.{Block}
 use Rattle.oxc_sourcemap_compiled.proofs.Parts.{LiesAt, lies-whole, lies-within}
 use Rattle.oxc_sourcemap_compiled.proofs.Parts.{lies-among}
 use Rattle.oxc_sourcemap_compiled.proofs.Digits.{first-small, token-read}
-use Rattle.oxc_sourcemap_compiled.proofs.Rows.{packing_at, packed-at, rows-lie, field-read, row-read}
+use Rattle.oxc_sourcemap_compiled.proofs.Rows.{packing_at, packed-at, rows-lie, field-read}
+use Rattle.oxc_sourcemap_compiled.proofs.Rows.{row-read}
 use Rattle.oxc_sourcemap_compiled.proofs.Groups.{bytes-below, bytes-before, bytes-within}
 use Rattle.oxc_sourcemap_compiled.proofs.Groups.{group_at, groups-length, group-length}
 use Rattle.oxc_sourcemap_compiled.proofs.ReadNumbers.{bytes-bits}

@@ -100,7 +100,11 @@ def contents_apart(run, check, text):
         told = "dist/app.js.map.contents.smc: leads out of its folder, so it is not read\n"
         check("no content" in out and err.endswith(told), f"contents by a link out of the folder: {status}, {out}, {err}")
         apart.unlink()
-        for data, why in ((b"", "not a compiled source map"), (other_sources(compiled), "is of another map than dist/app.js.map.smc")):
+        for data, why in (
+            (b"", "not a compiled source map"),
+            (compiled.read_bytes().replace(b"src", b"\xff\xff\xff"), "is damaged"),
+            (other_sources(compiled), "is of another map than dist/app.js.map.smc"),
+        ):
             apart.write_bytes(data)
             told = f"sourcemap: dist/app.js.map.contents.smc: {why}, so it is not read: compile the map again\n"
             found = run(traced, folder)

@@ -1,8 +1,9 @@
 -- Values side by side in the bits of a number: as bytes, step by step, and each read back through a window of eight bytes.
 use Rattle.std.proofs.Common.{◌≡◌, ℕ, zero, suc, ◌+◌, ◌-◌, ◌*◌, ◌/◌, ◌%◌, ◌^◌, ◌<◌, ◌≤◌, List, ◌∷◌}
 use Rattle.std.proofs.Common.{append_assoc, append-nil, ◌++◌, refl, sym, ap, ◌∙◌, arith, subst}
-use Rattle.std.proofs.Common.{Bool, true, false, nat_le}
+use Rattle.std.proofs.Common.{Bool, true, false, nat_le, get_or}
 use Rattle.std.proofs.Math.Nat.{add-mul-mod_self_left, add-mul-div_left, div-one, pow-suc}
+use Rattle.std.proofs.Math.Nat.{div-eq_of_lt}
 use Rattle.std.proofs.Math.Pow.{pow_mono}
 use Rattle.std.proofs.lemmas.Nat.{pow-add, shr-shr, pow_pos, div_below, mul-add-lt}
 use Rattle.oxc_sourcemap_compiled.specs.Numbers.{number_at}
@@ -92,6 +93,36 @@ window number n q r w at all small lies within few there =
     window-by (nat_le 8 m) m r w (at + q) all refl few there ∙ ap (λ n. n / 2 ^ r % 2 ^ w) read ∙ ap (λ n. n % 2 ^ w) down where
       pow-positive : (q : ℕ) → 0 < 256 ^ q
       pow-positive q = subst (λ p. 0 < p) (sym (bytes-bits q)) (pow_pos (8 * q))
+
+-- ---- read in a word
+-- bytes have at most 255
+number-small : (w at : ℕ) (all : List ℕ) → ((k : ℕ) → get_or all k 0 < 256) → number_at w all at < 256 ^ w
+unfolding number_at
+number-small zero at all each = omega arith
+number-small (suc w) at all each = omega (arith, each at, number-small w (at + 1) all each, pow-suc 256 w)
+
+-- Of a token of at most 56 bits the value of a field is had of the eight bytes from the token's first bit on, too.
+pub in-word : (at bit f w : ℕ) (all : List ℕ) → ((k : ℕ) → get_or all k 0 < 256) → f + w ≤ 56
+    → number_at 8 all (at + (f + bit) / 8) / 2 ^ ((f + bit) % 8) % 2 ^ w ≡ number_at 8 all (at + bit / 8) / 2 ^ (bit % 8) / 2 ^ f % 2 ^ w
+in-word at bit f w all each few =
+    let r = bit % 8 in
+    let base = at + bit / 8 in
+    let q = (r + f) / 8 in
+    let s = (r + f) % 8 in
+    let m = 8 - q in
+    let x = number_at 8 all base in
+    let low = number_at q all base in
+    let high = number_at m all (base + q) in
+    let place : at + (f + bit) / 8 ≡ base + q = omega arith in
+    let turn : (f + bit) % 8 ≡ s = omega arith in
+    let far : r + f ≡ 8 * q + s = omega arith in
+    let split : x ≡ low + 2 ^ (8 * q) * high = number-split q m 8 base all (omega (arith, few)) ∙ ap (λ p. low + p * high) (bytes-bits q) in
+    let small : low < 2 ^ (8 * q) = subst (λ p. low < p) (bytes-bits q) (number-small q base all each) in
+    let none : 0 + high ≡ high = omega arith in
+    let above : x / 2 ^ (8 * q) ≡ high = ap (λ n. n / 2 ^ (8 * q)) split ∙ add-mul-div_left low high (pow_pos (8 * q)) ∙ ap (λ n. n + high) (div-eq_of_lt small) ∙ none in
+    let word : x / 2 ^ r / 2 ^ f ≡ high / 2 ^ s = shr-shr x r f ∙ ap (λ e. x / 2 ^ e) far ∙ sym (shr-shr x (8 * q) s) ∙ ap (λ n. n / 2 ^ s) above in
+    ap (λ a. number_at 8 all a / 2 ^ ((f + bit) % 8) % 2 ^ w) place ∙ ap (λ e. number_at 8 all (base + q) / 2 ^ e % 2 ^ w) turn
+    ∙ window-by (nat_le 8 m) m s w (base + q) all refl (omega (arith, few)) (omega (arith, few)) ∙ sym (ap (λ n. n % 2 ^ w) word)
 
 -- ---- written step by step
 -- Bytes of what was written so far, and of what is left with a value put above it, are those of all.

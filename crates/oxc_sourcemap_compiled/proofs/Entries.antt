@@ -11,6 +11,9 @@ use Rattle.std.proofs.lemmas.List.FromFn.{length-map-range_with_len, get_or-map-
 use Rattle.oxc_sourcemap_tokens.specs.Token.{TokenRecord}
 use Rattle.oxc_sourcemap_tokens.specs.LineOrder.{IsInLineOrder}
 use Rattle.oxc_sourcemap_parts.specs.Sorted.{token_line}
+use Rattle.oxc_sourcemap_lookup.specs.Biased.{index_by}
+use Rattle.oxc_sourcemap_lookup.specs.declared.bias.Bias.{Bias}
+use Rattle.oxc_sourcemap_lookup.specs.declared.bias.Bias.TheVariants.{Before, Clamped, After}
 use Rattle.oxc_sourcemap_lookup.specs.Lookup.{on_line, index_at, clamped_index_at}
 use Rattle.oxc_sourcemap_lookup.specs.Lookup.{index_at_or_after, index_for, clamped_index_for}
 use Rattle.oxc_sourcemap_lookup.specs.Lookup.{index_after}
@@ -190,17 +193,22 @@ module _ (bytes : List ℕ) (h : Header) (order : AreInOrder bytes h) where
   none-in : (n : ℕ) → ((k : ℕ) → k < h.lines → line_in bytes h k ≢ n) → length (on_line token_line n (tokens_in bytes h)) ≡ 0
   none-in n other = ap length (entries-none n 0 h.lines (λ j low high. other j (omega (arith, high))))
 
-  pub not-found : (n col : ℕ) → ((k : ℕ) → k < h.lines → line_in bytes h k ≢ n) → None ≡ index_for (tokens_in bytes h) n col
+  not-found : (n col : ℕ) → ((k : ℕ) → k < h.lines → line_in bytes h k ≢ n) → None ≡ index_for (tokens_in bytes h) n col
   not-found n col other =
       sym (ap (from_line n (tokens_in bytes h)) (none-found (on_line token_line n (tokens_in bytes h)) col (none-in n other))) ∙ index_for-own n col (tokens_in bytes h) in-order
 
-  pub not-found-clamped : (n col : ℕ) → ((k : ℕ) → k < h.lines → line_in bytes h k ≢ n) → None ≡ clamped_index_for (tokens_in bytes h) n col
+  not-found-clamped : (n col : ℕ) → ((k : ℕ) → k < h.lines → line_in bytes h k ≢ n) → None ≡ clamped_index_for (tokens_in bytes h) n col
   not-found-clamped n col other =
       sym (ap (from_line n (tokens_in bytes h)) (none-found-clamped (on_line token_line n (tokens_in bytes h)) col (none-in n other))) ∙ clamped_index_for-own n col (tokens_in bytes h) in-order
 
-  pub not-found-after : (n col : ℕ) → ((k : ℕ) → k < h.lines → line_in bytes h k ≢ n) → None ≡ index_after (tokens_in bytes h) n col
+  not-found-after : (n col : ℕ) → ((k : ℕ) → k < h.lines → line_in bytes h k ≢ n) → None ≡ index_after (tokens_in bytes h) n col
   not-found-after n col other =
       sym (ap (from_line n (tokens_in bytes h)) (none-found-after (on_line token_line n (tokens_in bytes h)) col (none-in n other))) ∙ index_after-own n col (tokens_in bytes h) in-order
+
+  pub not-found-by : (bias : Bias) (n col : ℕ) → ((k : ℕ) → k < h.lines → line_in bytes h k ≢ n) → None ≡ index_by bias (tokens_in bytes h) n col
+  not-found-by Before n col other = not-found n col other
+  not-found-by Clamped n col other = not-found-clamped n col other
+  not-found-by After n col other = not-found-after n col other
 
   -- ---- tokens by their index
   pub entries-length : (k m : ℕ) → k + m ≤ h.lines → start_in bytes k + length (from_entry k m) ≡ start_in bytes (k + m)

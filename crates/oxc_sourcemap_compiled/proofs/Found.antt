@@ -12,6 +12,9 @@ use Rattle.oxc_sourcemap_lookup.specs.Lookup.{least, not_past, not_before, numbe
 use Rattle.oxc_sourcemap_lookup.specs.Lookup.{numbered_line, numbered_column}
 use Rattle.oxc_sourcemap_lookup.specs.Lookup.{token_for, clamped_token_for, token_after, index_for}
 use Rattle.oxc_sourcemap_lookup.specs.Lookup.{clamped_index_for, index_after}
+use Rattle.oxc_sourcemap_lookup.specs.Biased.{index_by, token_by}
+use Rattle.oxc_sourcemap_lookup.specs.declared.bias.Bias.{Bias}
+use Rattle.oxc_sourcemap_lookup.specs.declared.bias.Bias.TheVariants.{Before, Clamped, After}
 use Rattle.oxc_sourcemap_lookup.proofs.Picks.{at-map, clamped_at-map, at_or_after-map}
 
 -- all items are like this
@@ -105,3 +108,8 @@ found-token-after ts n col =
     let xs = on_line numbered_line n (numbered ts) in
     ap (λ us. at_or_after token_column us col) (on_line-numbers n 0 ts) ∙ at_or_after-map (λ (p : ℕ × TokenRecord). p.1) token_column xs col
     ∙ by-number ts (at_or_after numbered_column xs col) (after-all (StandsAt ts) numbered_column xs col (filter-all (StandsAt ts) (λ p. numbered_line p == n) (numbered ts) (stand ts)))
+
+pub found-token-by : (bias : Bias) (ts : List TokenRecord) (n col : ℕ) → token_by bias ts n col ≡ option_and_then (slice_get ts) (index_by bias ts n col)
+found-token-by Before ts n col = found-token ts n col
+found-token-by Clamped ts n col = found-token-clamped ts n col
+found-token-by After ts n col = found-token-after ts n col

@@ -120,9 +120,6 @@ no-fault bytes long magic version size room =
     let full : nat_lt (length bytes) (texts_base (header_in bytes) + 16) ≡ false = grind (arith, room) in
     rw (short, first, second, cut, third, full) refl
 
-room-by : (base size groups texts all : ℕ) → size ≡ groups → all ≡ base + groups + texts + 16 → base + size + 16 ≤ all
-room-by base size groups texts all e f = omega (arith, e, f)
-
 few-listed : (b : Bool) (n : ℕ) → (if b then n else 0) ≤ n
 few-listed true n = omega arith
 few-listed false n = omega arith
@@ -185,8 +182,7 @@ module _ (r : MapRecord) (text_length : ℕ) (stamp bytes : List ℕ) (fits : Fi
 
   values : (k i : ℕ) (d : TokenRecord) → k < 5 → i < length r.tokens → value_of all h k i ≡ field_number k (get_or r.tokens i d)
   values k i d lt there =
-      let room = room-by (groups_base h) (length (groups_of are.blocks r.tokens)) (all_group_bytes r.tokens are.blocks) (text_offset r (stored_count r)) (length all) lie.group_bytes lie.whole in
-      value-read r.tokens are.blocks all h are.blocks_of fits.tokens are.few_groups lie.rows refl lie.groups room k i d lt there
+      value-read r.tokens are.blocks all h are.blocks_of fits.tokens are.few_groups lie.rows refl refl lie.groups k i d lt there
 
   as-read : AreReadAs r.tokens are.lines all h
   as-read = record {

@@ -30,7 +30,7 @@ id-read (Some n) =
     rw some (ap Some back)
 
 -- tokens with the same fields
-same-token : {l l' c c' m m' n n' : ℕ} {s s' t t' : Option ℕ} → l ≡ l' → c ≡ c' → m ≡ m' → n ≡ n' → s ≡ s' → t ≡ t'
+pub same-token : {l l' c c' m m' n n' : ℕ} {s s' t t' : Option ℕ} → l ≡ l' → c ≡ c' → m ≡ m' → n ≡ n' → s ≡ s' → t ≡ t'
     → ◌≡◌ {A = TokenRecord} (record { dst_line = l; dst_col = c; src_line = m; src_col = n; source_id = s; name_id = t })
     (record { dst_line = l'; dst_col = c'; src_line = m'; src_col = n'; source_id = s'; name_id = t' })
 same-token {l} {l'} {c} {c'} {m} {m'} {n} {n'} {s} {s'} {t} {t'} el ec em en es et =

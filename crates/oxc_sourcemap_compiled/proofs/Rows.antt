@@ -6,8 +6,7 @@ use Rattle.oxc_sourcemap_tokens.specs.Token.{TokenRecord}
 use Rattle.oxc_sourcemap_compiled.specs.Compiled.{table, row_of, rows_of, group_bytes_of, stride_of}
 use Rattle.oxc_sourcemap_compiled.specs.Compiled.{widths_of, no_block, IsPacked, ArePacked}
 use Rattle.oxc_sourcemap_compiled.specs.Numbers.{number_at}
-use Rattle.oxc_sourcemap_compiled.specs.Layout.{groups_base}
-use Rattle.oxc_sourcemap_compiled.specs.Fields.{field_in, widths_in, row_base, row_in}
+use Rattle.oxc_sourcemap_compiled.specs.Fields.{field_in, widths_in, row_base}
 use Rattle.oxc_sourcemap_compiled.specs.declared.layout.Header.{Header}
 use Rattle.oxc_sourcemap_compiled.specs.declared.writing.blocks.Packing.{Packing}
 use Rattle.oxc_sourcemap_compiled.specs.declared.writing.blocks.Block.{Block}
@@ -120,5 +119,5 @@ field-read k i place b all h lt row small narrow =
 
 -- where the block lies, and how many bits a token has
 pub row-read : (i place : ℕ) (b : Block) (all : List ℕ) (h : Header) → LiesAt (row_base h i) (row_of place b) all → place ≤ 4294967295
-    → ((row_in all h i).at ≡ groups_base h + place) × ((row_in all h i).stride ≡ sum (widths_of b))
-row-read i place b all h row small = (ap (λ n. groups_base h + n) (place-read (row_base h i) place b all row small), ap sum (widths-read i place b all h row))
+    → (number_at 4 all (row_base h i) ≡ place) × (sum (widths_in all h i) ≡ sum (widths_of b))
+row-read i place b all h row small = (place-read (row_base h i) place b all row small, ap sum (widths-read i place b all h row))

@@ -2,7 +2,9 @@
 use Rattle.std.proofs.Common.{◌≡◌, ℕ, suc, ◌+◌, ◌-◌, ◌*◌, ◌/◌, ◌%◌, ◌<◌, ◌≤◌, Bool, true, false}
 use Rattle.std.proofs.Common.{arith, ap, ◌∙◌, sym, subst, nat_le, List, if◌then◌else◌}
 use Rattle.oxc_sourcemap_compiled.specs.Layout.{block_size, block_count}
-use Rattle.oxc_sourcemap_compiled.specs.Fields.{value_in, field_in, row_in}
+use Rattle.oxc_sourcemap_compiled.specs.Fields.{value_in, row_in}
+use Rattle.oxc_sourcemap_compiled.specs.CompiledMeaning.{token_at, token_in}
+use Rattle.oxc_sourcemap_compiled.specs.declared.fields.Row.{Row}
 use Rattle.oxc_sourcemap_compiled.specs.Order.{column_of, least_column_of, AreRowsExact}
 use Rattle.oxc_sourcemap_compiled.specs.declared.layout.Header.{Header}
 
@@ -101,19 +103,28 @@ pub few-counted : (h : Header) → h.tokens ≤ 4294967295 → block_count h ≤
 few-counted h le = few-blocks (nat_le h.tokens 16384) h.tokens le
 
 -- the columns of the only block, and those of one of many
-pub column-of-one : (bytes : List ℕ) (h : Header) (j : ℕ) → h.tokens ≤ 16384 → j < 16384 → value_in bytes (row_in bytes h 0) (field_in bytes h 0 0) j ≡ column_of bytes h j
+abbrev column_by : List ℕ → Row → ℕ → ℕ
+column_by bytes row j = value_in bytes row row.column j
+
+pub column-of-one : (bytes : List ℕ) (h : Header) (j : ℕ) → h.tokens ≤ 16384 → j < 16384 → value_in bytes (row_in bytes h 0) (row_in bytes h 0).column j ≡ column_of bytes h j
 column-of-one bytes h j le lt =
     let home : 0 ≡ j / 16384 = omega (arith, lt) in
     let number : j ≡ j % 16384 = omega (arith, lt) in
-    ap (λ b. value_in bytes (row_in bytes h b) (field_in bytes h b 0) j) home ∙ ap (value_in bytes (row_in bytes h (j / 16384)) (field_in bytes h (j / 16384) 0)) number
-    ∙ ap (λ s. value_in bytes (row_in bytes h (j / s)) (field_in bytes h (j / s) 0) (j % s)) (sym (one-size h.tokens le))
+    ap (λ b. column_by bytes (row_in bytes h b) j) home ∙ ap (column_by bytes (row_in bytes h (j / 16384))) number ∙ ap (λ s. column_by bytes (row_in bytes h (j / s)) (j % s)) (sym (one-size h.tokens le))
 
-pub column-of-many : (bytes : List ℕ) (h : Header) (b j : ℕ) → 16384 < h.tokens → j < 64 → value_in bytes (row_in bytes h b) (field_in bytes h b 0) j ≡ column_of bytes h (64 * b + j)
-column-of-many bytes h b j lt low =
+-- what is read of a token of one of many blocks
+of-many : {A : Type 0} (f : ℕ → ℕ → A) (n b j : ℕ) → 16384 < n → j < 64 → f b j ≡ f ((64 * b + j) / block_size n) ((64 * b + j) % block_size n)
+of-many f n b j lt low =
     let home : b ≡ (64 * b + j) / 64 = omega (arith, low) in
     let number : j ≡ (64 * b + j) % 64 = omega (arith, low) in
-    ap (λ b. value_in bytes (row_in bytes h b) (field_in bytes h b 0) j) home ∙ ap (value_in bytes (row_in bytes h ((64 * b + j) / 64)) (field_in bytes h ((64 * b + j) / 64) 0)) number
-    ∙ ap (λ s. value_in bytes (row_in bytes h ((64 * b + j) / s)) (field_in bytes h ((64 * b + j) / s) 0) ((64 * b + j) % s)) (sym (many-size h.tokens lt))
+    ap (λ b. f b j) home ∙ ap (f ((64 * b + j) / 64)) number ∙ ap (λ s. f ((64 * b + j) / s) ((64 * b + j) % s)) (sym (many-size n lt))
+
+pub column-of-many : (bytes : List ℕ) (h : Header) (b j : ℕ) → 16384 < h.tokens → j < 64 → value_in bytes (row_in bytes h b) (row_in bytes h b).column j ≡ column_of bytes h (64 * b + j)
+column-of-many bytes h b j lt low = of-many (λ b. column_by bytes (row_in bytes h b)) h.tokens b j lt low
+
+pub token-of-many : (bytes : List ℕ) (h : Header) (line b j : ℕ) → 16384 < h.tokens → j < 64 → token_at bytes (row_in bytes h b) line j ≡ token_in bytes h line (64 * b + j)
+unfolding token_in
+token-of-many bytes h line b j lt low = of-many (λ b. token_at bytes (row_in bytes h b) line) h.tokens b j lt low
 
 pub exact-of-many : (bytes : List ℕ) (h : Header) → 16384 < h.tokens → AreRowsExact bytes h → (b : ℕ) → b < (h.tokens + 63) / 64
     → ((i : ℕ) → i < h.tokens → i / 64 ≡ b → column_of bytes h (64 * b) ≤ column_of bytes h i) → least_column_of bytes h b ≡ column_of bytes h (64 * b)

@@ -1,7 +1,8 @@
 -- The fields of tokens, read back: what is read of a token's field is what was written.
 use Rattle.std.proofs.Common.{◌≡◌, ℕ, zero, suc, ◌+◌, ◌-◌, ◌*◌, ◌/◌, ◌%◌, ◌^◌, ◌<◌, ◌≤◌, Bool, true}
 use Rattle.std.proofs.Common.{false, List, length, take, drop, get_or, slice_get, Option, Some}
-use Rattle.std.proofs.Common.{None, IfSome, sum, nat_lt, nat_le, refl, sym, ap, ◌∙◌, arith, subst}
+use Rattle.std.proofs.Common.{None, IfSome, sum, min, nat_lt, nat_le, refl, sym, ap, ◌∙◌, arith}
+use Rattle.std.proofs.Common.{subst}
 use Rattle.std.proofs.Common.{length-take, length-drop}
 use Rattle.std.proofs.Math.Nat.{mod-eq_of_lt, add-mul-div_left, div-eq_of_lt, div-one, mod-add-div}
 use Rattle.std.proofs.Math.Nat.{add-mul-mod_self_left}
@@ -19,8 +20,10 @@ use Rattle.oxc_sourcemap_compiled.specs.Compiled.{FieldsFit, ArePacked, block_to
 use Rattle.oxc_sourcemap_compiled.specs.Compiled.{all_group_bytes}
 use Rattle.oxc_sourcemap_compiled.specs.Numbers.{number_at}
 use Rattle.oxc_sourcemap_compiled.specs.Layout.{rows_base, groups_base, block_groups, block_size}
+use Rattle.oxc_sourcemap_compiled.specs.Layout.{groups_in}
 use Rattle.oxc_sourcemap_compiled.specs.Fields.{value_at, value_in, value_of, field_in, row_in}
-use Rattle.oxc_sourcemap_compiled.specs.Fields.{row_base}
+use Rattle.oxc_sourcemap_compiled.specs.Fields.{row_base, field_of, is_placed, placed_row}
+use Rattle.oxc_sourcemap_compiled.specs.Fields.{widths_in}
 use Rattle.oxc_sourcemap_compiled.specs.declared.fields.Field.{Field}
 use Rattle.oxc_sourcemap_compiled.specs.declared.fields.Row.{Row}
 use Rattle.oxc_sourcemap_compiled.specs.declared.layout.Header.{Header}
@@ -31,6 +34,7 @@ use Rattle.oxc_sourcemap_compiled.proofs.Parts.{lies-among}
 use Rattle.oxc_sourcemap_compiled.proofs.Digits.{first-small, token-read}
 use Rattle.oxc_sourcemap_compiled.proofs.Rows.{packing_at, packed-at, rows-lie, field-read}
 use Rattle.oxc_sourcemap_compiled.proofs.Rows.{row-read}
+use Rattle.oxc_sourcemap_compiled.proofs.Blocks.{row-placed, field-placed}
 use Rattle.oxc_sourcemap_compiled.proofs.Groups.{bytes-below, bytes-before, bytes-within}
 use Rattle.oxc_sourcemap_compiled.proofs.Groups.{group_at, groups-length, group-length}
 use Rattle.oxc_sourcemap_compiled.proofs.ReadNumbers.{bytes-bits}
@@ -120,10 +124,10 @@ group-fits tokens b g n lt are = record {
 }
 
 -- the value of a field, by the word that is read
-value-is : (bytes : List ℕ) (row : Row) (f : Field) (j at s v : ℕ) → row.at ≡ at → row.stride ≡ s → nat_le (at + (f.first + j * s) / 8 + 8) (length bytes) ≡ true
+value-is : (bytes : List ℕ) (row : Row) (f : Field) (j at s v : ℕ) → row.at ≡ at → row.stride ≡ s
     → (f.least + number_at 8 bytes (at + (f.first + j * s) / 8) / 2 ^ ((f.first + j * s) % 8) % 2 ^ f.width) % 2 ^ 32 ≡ v → value_in bytes row f j ≡ v
 unfolding value_at
-value-is bytes row f j at s v here each room is = rw (here, each, room) is
+value-is bytes row f j at s v here each is = rw (here, each) is
 
 -- ---- the fields of a token in its bits
 skip : (v rest w r : ℕ) → v < 2 ^ w → (v + 2 ^ w * rest) / 2 ^ (w + r) ≡ rest / 2 ^ r
@@ -232,11 +236,19 @@ module _ (b : Block) (ts : List TokenRecord) (at : ℕ) (bytes : List ℕ) (fit 
         ∙ sym (inner (number / 2 ^ (m * s)) s ahead bits (s - (ahead + bits)) rest) ∙ ap (λ n. n / 2 ^ ahead % 2 ^ bits) (token-read b ts 8 m lt each-small)
         ∙ field-bits k b (slice_get ts m) is_field (fit m lt)
 
+-- the value of a field of a row, by its number
+abbrev value_by : List ℕ → ℕ → Row → ℕ → ℕ
+value_by bytes k row j = value_in bytes row (field_of k row) j
+
+is-within : (a b n : ℕ) → a + b ≤ n → nat_le (a + b) n ≡ true
+is-within a b n le = grind (arith, le)
+
 -- ---- the field of a token in bytes that have the rows and the groups of its blocks
 module _ (tokens : List TokenRecord) (blocks : List Block) (bytes : List ℕ) (h : Header) (are : AreBlocksOf tokens blocks) (bounds : AreInBounds tokens)
     (few : all_group_bytes tokens blocks ≤ 4294967295)
     (rows : LiesAt (rows_base h) (rows_of 0 (block_groups (length tokens)) ((length tokens + 7) / 8) blocks) bytes) (counted : h.tokens ≡ length tokens)
-    (groups : LiesAt (groups_base h) (groups_of blocks tokens) bytes) (room : groups_base h + length (groups_of blocks tokens) + 16 ≤ length bytes) where
+    (sized : h.group_bytes ≡ all_group_bytes tokens blocks)
+    (groups : LiesAt (groups_base h) (groups_of blocks tokens) bytes) where
   module _ (k i : ℕ) (d : TokenRecord) (is_field : k < 5) (there : i < length tokens) where
     abbrev one : Bool
     one = nat_le (length tokens) 16384
@@ -313,8 +325,25 @@ module _ (tokens : List TokenRecord) (blocks : List Block) (bytes : List ℕ) (h
     row-lies : LiesAt (row_base h home) (row_of place block) bytes
     row-lies = rows-lie (rows_base h) 0 (each one) all_groups home blocks bytes rows block-is
 
-    placed : ((row_in bytes h home).at ≡ groups_base h + place) × ((row_in bytes h home).stride ≡ sum (widths_of block))
-    placed = row-read home place block bytes h row-lies place-small
+    row-is : (number_at 4 bytes (row_base h home) ≡ place) × (sum (widths_in bytes h home) ≡ sum (widths_of block))
+    row-is = row-read home place block bytes h row-lies place-small
+
+    -- the groups of the block lie among those of all
+    abbrev count : ℕ
+    count = min (all_groups - each one * home) (each one)
+
+    counted-groups : groups_in h home ≡ count
+    counted-groups = ap (λ n. min ((n + 7) / 8 - block_groups n * home) (block_groups n)) counted
+
+    placed : is_placed bytes h home ≡ true
+    placed =
+        let whole = bytes-within one home count blocks (omega arith) block-is in
+        let below = bytes-below one (each one * home + count) all_groups blocks (omega (arith, groups-before one i (length tokens) there)) few-groups in
+        let size : groups_in h home * sum (widths_in bytes h home) ≡ count * stride_of block = ap (λ n. n * sum (widths_in bytes h home)) counted-groups ∙ ap (λ n. count * n) (row-is.1 ∙ five-widths block) in
+        is-within (number_at 4 bytes (row_base h home)) (groups_in h home * sum (widths_in bytes h home)) h.group_bytes (omega (arith, row-is.0, place-is, size, whole, below, sized))
+
+    at-base : (placed_row bytes h home).at ≡ groups_base h + place
+    at-base = ap (λ n. groups_base h + n) row-is.0
 
     field-is : field_in bytes h home k ≡ field
     field-is = field-read k home place block bytes h is_field row-lies (omega (arith, least-reached, small)) fields.width
@@ -343,12 +372,6 @@ module _ (tokens : List TokenRecord) (blocks : List Block) (bytes : List ℕ) (h
 
     bit-is : (first + in_block * sum (widths_of block)) % 8 ≡ bit % 8
     bit-is = ap (λ n. n % 8) bits-are ∙ mod-eight (in_block / 8 * stride_of block) bit
-
-    within : at + 8 ≤ length bytes
-    within =
-        let inner = lies-within (0 + before) (group_of block group) (groups_of blocks tokens) (group-lies 0 (groups_of blocks tokens) (lies-whole (groups_of blocks tokens))) in
-        let fits = within-eight (in_block % 8) first packing.width (stride_of block) (omega arith) (field-within k block is_field) in
-        omega (arith, inner, group-length block group, room, fits)
 
     one-small : (j n : ℕ) → j < 5 → n < 8 → above_in j (packing_at j block) (slice_get group n) < 2 ^ (packing_at j block).width
     one-small j n is lt =
@@ -381,10 +404,13 @@ module _ (tokens : List TokenRecord) (blocks : List Block) (bytes : List ℕ) (h
         ap (λ a. number_at 8 bytes a / 2 ^ ((first + in_block * sum (widths_of block)) % 8) % 2 ^ packing.width) at-is
         ∙ ap (λ r. number_at 8 bytes at / 2 ^ r % 2 ^ packing.width) bit-is ∙ above-is
 
+    abbrev row : Row
+    row = placed_row bytes h home
+
     pub value-read : value_of bytes h k i ≡ field_number k (get_or tokens i d)
     value-read =
         let whole : packing.least + (number - packing.least) ≡ number = omega (arith, least-reached) in
         let low : number < 4294967296 = omega (arith, small) in
-        let room : nat_le (groups_base h + place + (first + in_block * sum (widths_of block)) / 8 + 8) (length bytes) ≡ true = grind (arith, within, at-is) in
-        ap (λ n. value_in bytes (row_in bytes h (i / block_size n)) (field_in bytes h (i / block_size n) k) (i % block_size n)) counted ∙ ap (λ f. value_in bytes (row_in bytes h home) f in_block) field-is
-        ∙ value-is bytes (row_in bytes h home) field in_block (groups_base h + place) (sum (widths_of block)) number placed.0 placed.1 room (ap (λ n. (packing.least + n) % 4294967296) read-is ∙ ap (λ n. n % 4294967296) whole ∙ mod-eq_of_lt low)
+        ap (λ n. value_by bytes k (row_in bytes h (i / block_size n)) (i % block_size n)) counted ∙ ap (λ row. value_by bytes k row in_block) (row-placed bytes h home placed)
+        ∙ ap (λ f. value_in bytes row f in_block) (field-placed k bytes h home is_field ∙ field-is)
+        ∙ value-is bytes row field in_block (groups_base h + place) (sum (widths_of block)) number at-base row-is.1 (ap (λ n. (packing.least + n) % 4294967296) read-is ∙ ap (λ n. n % 4294967296) whole ∙ mod-eq_of_lt low)

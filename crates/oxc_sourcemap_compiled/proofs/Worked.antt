@@ -12,7 +12,7 @@ use Rattle.oxc_sourcemap_compiled.specs.declared.fields.Field.{Field}
 use Rattle.oxc_sourcemap_compiled.specs.declared.writing.blocks.Packing.{Packing}
 use Rattle.oxc_sourcemap_compiled.specs.Numbers.{number_at}
 use Rattle.oxc_sourcemap_compiled.specs.Layout.{header_in, compiled_fault}
-use Rattle.oxc_sourcemap_compiled.specs.Fields.{value_at, value_in, field_in}
+use Rattle.oxc_sourcemap_compiled.specs.Fields.{value_at, value_in, field_in, row_in}
 use Rattle.oxc_sourcemap_compiled.specs.CompiledMeaning.{compiled_in, compiled_meaning, token_in}
 use Rattle.oxc_sourcemap_compiled.specs.CompiledMeaning.{part_between}
 use Rattle.oxc_sourcemap_compiled.specs.declared.errors.CompiledError.TheVariants.{NotCompiled}
@@ -52,7 +52,7 @@ two_lines-fine = refl
 two_lines-tokens : (compiled_in two_lines).content.tokens
     ≡ record { dst_line = 0; dst_col = 0; src_line = 0; src_col = 0; source_id = Some 0; name_id = Some 0 }
     ∷ record { dst_line = 1; dst_col = 1; src_line = 2; src_col = 2; source_id = Some 0; name_id = None } ∷ []
-unfolding header_in token_in value_at field_in number_at
+unfolding header_in token_in value_at row_in field_in number_at
 two_lines-tokens = refl
 
 two_lines-names : (compiled_in two_lines).content.names ≡ codes "f" ∷ []
@@ -104,7 +104,7 @@ far_lines-tokens : (compiled_in far_lines).content.tokens
     ≡ record { dst_line = 0; dst_col = 5; src_line = 1; src_col = 300; source_id = Some 1; name_id = None }
     ∷ record { dst_line = 0; dst_col = 9; src_line = 1; src_col = 2; source_id = Some 0; name_id = None }
     ∷ record { dst_line = 7; dst_col = 3; src_line = 0; src_col = 0; source_id = None; name_id = None } ∷ []
-unfolding header_in token_in value_at field_in number_at
+unfolding header_in token_in value_at row_in field_in number_at
 far_lines-tokens = refl
 
 -- an absent content
@@ -191,7 +191,7 @@ far_lines-written = refl
 
 -- ---- what these bytes mean, as a whole
 two_lines-mean : compiled_meaning two_lines ≡ Ok (compiled_of two_lines_map 107 (take 32 (drop 24 two_lines)))
-unfolding header_in compiled_fault part_between token_in value_at field_in number_at
+unfolding header_in compiled_fault part_between token_in value_at row_in field_in number_at
 two_lines-mean = refl
 
 -- Contents are stored for each source, and for no more: one is missing here, and two have no source there.

@@ -1,33 +1,35 @@
 -- The values of fields of tokens. Tokens stand in blocks, one after the other, and each field of a token behind that before it, bit by bit:
 -- in as many bits as the width of the field in that block. So eight tokens take a whole number of bytes, the sum of the widths.
-use Rattle.std.specs.Prelude.{ℕ, ◌+◌, ◌*◌, ◌/◌, ◌%◌, ◌^◌, ◌≤◌, List, length, take, drop, get_or}
-use Rattle.std.specs.Prelude.{min, sum, nat_le, if◌then◌else◌}
+use Rattle.std.specs.Prelude.{ℕ, zero, suc, ◌+◌, ◌*◌, ◌/◌, ◌%◌, ◌^◌, ◌≤◌, List, take, drop, get_or}
+use Rattle.std.specs.Prelude.{Bool, min, sum, nat_le, if◌then◌else◌}
 use Rattle.oxc_sourcemap_compiled.specs.Numbers.{number_at}
-use Rattle.oxc_sourcemap_compiled.specs.Layout.{rows_base, groups_base, block_size}
+use Rattle.oxc_sourcemap_compiled.specs.Layout.{rows_base, groups_base, block_size, groups_in}
 use Rattle.oxc_sourcemap_compiled.specs.declared.fields.Field.{Field}
 use Rattle.oxc_sourcemap_compiled.specs.declared.fields.Row.{Row}
 use Rattle.oxc_sourcemap_compiled.specs.declared.layout.Header.{Header}
 
--- a field that is read: its values have at most 32 bits
-pub record IsField (f : Field) : Type 0 where
+-- a field that is read, of tokens with so many bits: its values have at most 32 bits, which are among those of the token
+pub record IsField (stride : ℕ) (f : Field) : Type 0 where
   pub width : f.width ≤ 32
-  pub first : f.first ≤ 1020
+  pub within : f.first + f.width ≤ stride
 
 -- a block that is read: its fields are such, and its places are numbers that a machine can add
 pub record IsRow (row : Row) : Type 0 where
   pub at : row.at ≤ 1099511627776
   pub stride : row.stride ≤ 1275
-  pub column : IsField row.column
-  pub source : IsField row.source
-  pub src_line : IsField row.src_line
-  pub src_col : IsField row.src_col
-  pub name : IsField row.name
+  pub column : IsField row.stride row.column
+  pub source : IsField row.stride row.source
+  pub src_line : IsField row.stride row.src_line
+  pub src_col : IsField row.stride row.src_col
+  pub name : IsField row.stride row.name
 
--- the value of a field that begins at a bit of its block; the least one where fewer than eight bytes are left from there on
+-- the first tokens of a block, so many, lie within so many bytes, with eight more behind them
+abbrev pub HasRoom : ℕ → Row → ℕ → Type 0
+HasRoom size row count = row.at + count * row.stride / 8 + 8 ≤ size
+
+-- the value of a field that begins at a bit of its block
 unfoldable pub value_at : List ℕ → Row → Field → ℕ → ℕ
-value_at bytes row f bit =
-    let at = row.at + bit / 8 in
-    if nat_le (at + 8) (length bytes) then (f.least + number_at 8 bytes at / 2 ^ (bit % 8) % 2 ^ f.width) % 2 ^ 32 else f.least
+value_at bytes row f bit = (f.least + number_at 8 bytes (row.at + bit / 8) / 2 ^ (bit % 8) % 2 ^ f.width) % 2 ^ 32
 
 -- the value of a field in a token, by the number of the token in its block
 abbrev pub value_in : List ℕ → Row → Field → ℕ → ℕ
@@ -51,9 +53,13 @@ field_in bytes h b k =
       width = min (get_or widths k 0) 32;
     }
 
--- how a block is read: where it lies, how many bits a token has, and its five fields
-abbrev pub row_in : List ℕ → Header → ℕ → Row
-row_in bytes h b = record {
+-- whether the groups of a block lie among those of all blocks
+abbrev pub is_placed : List ℕ → Header → ℕ → Bool
+is_placed bytes h b = nat_le (number_at 4 bytes (row_base h b) + groups_in h b * sum (widths_in bytes h b)) h.group_bytes
+
+-- how such a block is read: where it lies, how many bits a token has, and its five fields
+abbrev pub placed_row : List ℕ → Header → ℕ → Row
+placed_row bytes h b = record {
   at = groups_base h + number_at 4 bytes (row_base h b);
   stride = sum (widths_in bytes h b);
   column = field_in bytes h b 0;
@@ -63,8 +69,27 @@ row_in bytes h b = record {
   name = field_in bytes h b 4;
 }
 
+-- that of tokens without bits, whose fields are all 0
+abbrev pub empty_field : Field
+empty_field = record { least = 0; first = 0; width = 0 }
+
+abbrev pub empty_row : Row
+empty_row = record { at = 0; stride = 0; column = empty_field; source = empty_field; src_line = empty_field; src_col = empty_field; name = empty_field }
+
+-- how a block is read; if its groups do not lie among those of all, all fields of its tokens are 0
+unfoldable pub row_in : List ℕ → Header → ℕ → Row
+row_in bytes h b = if is_placed bytes h b then placed_row bytes h b else empty_row
+
+-- the field of this number in a row
+abbrev pub field_of : ℕ → Row → Field
+field_of zero row = row.column
+field_of (suc zero) row = row.source
+field_of (suc (suc zero)) row = row.src_line
+field_of (suc (suc (suc zero))) row = row.src_col
+field_of (suc (suc (suc (suc k)))) row = row.name
+
 -- the value of a field of a token, by the number of the field and the index of the token
 abbrev pub value_of : List ℕ → Header → ℕ → ℕ → ℕ
 value_of bytes h k i =
-    let b = i / block_size h.tokens in
-    value_in bytes (row_in bytes h b) (field_in bytes h b k) (i % block_size h.tokens)
+    let row = row_in bytes h (i / block_size h.tokens) in
+    value_in bytes row (field_of k row) (i % block_size h.tokens)

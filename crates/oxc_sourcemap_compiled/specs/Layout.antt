@@ -1,6 +1,6 @@
 -- Where the parts of a compiled map lie, and whether bytes are one.
 use Rattle.std.specs.Prelude.{ℕ, ◌+◌, ◌-◌, ◌*◌, ◌/◌, ◌≤◌, List, length, Option, Some, None, not}
-use Rattle.std.specs.Prelude.{nat_lt}
+use Rattle.std.specs.Prelude.{min, nat_lt}
 use Rattle.std.specs.Prelude.{nat_le}
 use Rattle.std.specs.Prelude.{◌==◌}
 use Rattle.std.specs.Prelude.{◌||◌, if◌then◌else◌}
@@ -39,6 +39,12 @@ blocks_for tokens = (tokens + (block_size tokens - 1)) / block_size tokens
 
 abbrev pub block_count : Header → ℕ
 block_count h = blocks_for h.tokens
+
+-- how many groups of eight tokens a block has: the last one may have fewer than the others
+abbrev pub groups_in : Header → ℕ → ℕ
+groups_in h b =
+    let each = block_groups h.tokens in
+    min ((h.tokens + 7) / 8 - each * b) each
 
 -- sources, contents and names, and the three texts that are in no list
 abbrev pub text_count : Header → ℕ

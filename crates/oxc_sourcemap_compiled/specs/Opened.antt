@@ -1,13 +1,33 @@
 -- What is opened.
-use Rattle.std.specs.Prelude.{◌≡◌, length}
+use Rattle.std.specs.Prelude.{ℕ, List, IfSome, ◌<◌, ◌≡◌, ◌+◌, ◌*◌, ◌/◌, ◌≤◌, length}
+use Rattle.oxc_sourcemap_compiled.specs.declared.layout.Header.{Header}
 use Rattle.oxc_sourcemap_compiled.specs.declared.opened.Opened.{Opened}
-use Rattle.oxc_sourcemap_compiled.specs.Layout.{header_in, HasParts, layout_in}
-use Rattle.oxc_sourcemap_compiled.specs.Fields.{row_in, IsRow}
+use Rattle.oxc_sourcemap_compiled.specs.declared.opened.ReadBlock.{ReadBlock}
+use Rattle.oxc_sourcemap_compiled.specs.declared.opened.Search.{Search}
+use Rattle.oxc_sourcemap_compiled.specs.Layout.{header_in, HasParts, layout_in, groups_in}
+use Rattle.oxc_sourcemap_compiled.specs.Fields.{row_in, IsRow, HasRoom}
 
--- The layout is that of the header, the parts lie within the bytes, and the row is that of the first block, if there is one.
+-- The layout is that of the header, the parts lie within the bytes, and the row is that of the first block, if there is one, whose
+-- tokens are there.
 pub record IsOpened (o : Opened) : Type 0 where
   pub header : o.header ≡ header_in o.bytes.now
   pub layout : o.layout ≡ layout_in o.header
   pub parts : HasParts (length o.bytes.now) o.header
   pub front : o.front ≡ row_in o.bytes.now o.header 0
   pub fields : IsRow o.front
+  pub room : HasRoom (length o.bytes.now) o.front (8 * groups_in o.header 0)
+
+-- a block that was read: one of many, with its row, and the index of its first token
+pub record IsReadBlock (bytes : List ℕ) (h : Header) (block : ReadBlock) : Type 0 where
+  pub many : 16384 < h.tokens
+  pub number : ℕ
+  pub base : block.base ≡ 64 * number
+  pub row : block.row ≡ row_in bytes h number
+  pub fields : IsRow block.row
+  pub room : HasRoom (length bytes) block.row (8 * groups_in h number)
+
+-- what a search in bytes that are opened has kept: it compared at most so many numbers, and a block that it read, if any, is one of these
+pub record IsSearchIn (o : Opened) (most : ℕ) (search : Search) : Type 0 where
+  pub opened : IsOpened o
+  pub few : search.steps ≤ most
+  pub read : IfSome search.read (IsReadBlock o.bytes.now o.header)

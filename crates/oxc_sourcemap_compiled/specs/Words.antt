@@ -18,12 +18,12 @@ pub use Rattle.oxc_sourcemap_compiled.specs.Cuts.{IsCut, DoNotFall}
 pub use Rattle.oxc_sourcemap_compiled.specs.Decompiled.{checked_texts, checked_contents}
 pub use Rattle.oxc_sourcemap_compiled.specs.Decompiled.{checked_text, checked_map, is_optional_utf8}
 pub use Rattle.oxc_sourcemap_compiled.specs.Decompiled.{DoLinesFollow, DoTextsFollow, DoesNotGoBack}
-pub use Rattle.oxc_sourcemap_compiled.specs.Fields.{IsField, IsRow, value_at, value_in}
-pub use Rattle.oxc_sourcemap_compiled.specs.Fields.{field_in, value_of}
-pub use Rattle.oxc_sourcemap_compiled.specs.Fields.{row_base, row_in}
+pub use Rattle.oxc_sourcemap_compiled.specs.Fields.{IsField, IsRow, HasRoom, value_at, value_in}
+pub use Rattle.oxc_sourcemap_compiled.specs.Fields.{field_in, value_of, widths_in}
+pub use Rattle.oxc_sourcemap_compiled.specs.Fields.{row_base, row_in, empty_row, empty_field}
 pub use Rattle.oxc_sourcemap_compiled.specs.Layout.{header_in, layout_in, AreCounts, HasParts}
 pub use Rattle.oxc_sourcemap_compiled.specs.Layout.{block_count, text_count, compiled_fault}
-pub use Rattle.oxc_sourcemap_compiled.specs.Layout.{block_groups, block_size, blocks_for}
+pub use Rattle.oxc_sourcemap_compiled.specs.Layout.{block_groups, block_size, blocks_for, groups_in}
 pub use Rattle.oxc_sourcemap_compiled.specs.Layout.{listed_count}
 pub use Rattle.oxc_sourcemap_compiled.specs.CompiledMeaning.{stored_id, token_at, token_in}
 pub use Rattle.oxc_sourcemap_compiled.specs.CompiledMeaning.{start_in}
@@ -43,7 +43,7 @@ pub use Rattle.oxc_sourcemap_compiled.specs.Means.{CompiledLooksUp, StoredMeansM
 pub use Rattle.oxc_sourcemap_compiled.specs.Means.{CompiledIsTakenApart}
 pub use Rattle.oxc_sourcemap_compiled.specs.CompiledMessages.{compiled_error_text}
 pub use Rattle.oxc_sourcemap_compiled.specs.Numbers.{number_at}
-pub use Rattle.oxc_sourcemap_compiled.specs.Opened.{IsOpened}
+pub use Rattle.oxc_sourcemap_compiled.specs.Opened.{IsOpened, IsReadBlock, IsSearchIn}
 pub use Rattle.oxc_sourcemap_compiled.specs.Order.{columns_in, column_of, least_column_of}
 pub use Rattle.oxc_sourcemap_compiled.specs.Order.{AreRowsExact}
 pub use Rattle.oxc_sourcemap_compiled.specs.Order.{IsInEntry, IsSpan, IsUpToEnd, AreColumnsOf}

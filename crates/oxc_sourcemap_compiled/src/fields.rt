@@ -1,7 +1,7 @@
 //! Fields of the tokens of a block, bit by bit.
 ghost use Rattle.std.specs.Prelude.{◌≡◌, ◌+◌, ◌-◌, ◌*◌, ◌/◌, ◌%◌, ◌^◌, ◌≤◌, ◌<◌, length};
-ghost use Rattle.oxc_sourcemap_compiled.specs.Words.{IsField, IsRow, value_at, value_in};
-ghost use Rattle.oxc_sourcemap_compiled.specs.Words.{stored_id, token_at};
+ghost use Rattle.oxc_sourcemap_compiled.specs.Words.{IsField, IsRow, HasRoom, value_at, value_in};
+ghost use Rattle.oxc_sourcemap_compiled.specs.Words.{stored_id, token_at, empty_row, empty_field};
 
 use crate::numbers::u64_at;
 use oxc_sourcemap_tokens::Token;
@@ -38,7 +38,7 @@ fn mask_of(bits: usize) -> u64
 /// The number of this many bits from a bit on.
 #[inline(always)]
 fn bits_from(word: u64, from: usize, bits: usize) -> u32
-    requires from { from ≤ 31 }
+    requires from { from ≤ 63 }
     requires bits { bits ≤ 32 }
     ensures { result ≡ word / 2 ^ from % 2 ^ bits }
 {
@@ -52,40 +52,79 @@ fn id_from(stored: u32) -> Option<u32>
     stored.checked_sub(1)
 }
 
+impl Field {
+    /// A field without bits, whose values are 0.
+    #[inline(always)]
+    fn empty() -> Field
+        ensures { result ≡ empty_field }
+    {
+        Field {
+            least: 0,
+            first: 0,
+            width: 0,
+        }
+    }
+
+    /// The value in a word, from a bit on.
+    #[inline(always)]
+    fn value(self, word: u64, from: usize) -> u32
+        requires from { from ≤ 63 }
+        requires field { self.width ≤ 32 }
+        ensures { result ≡ (self.least + word / 2 ^ from % 2 ^ self.width) % 2 ^ 32 }
+    {
+        self.least.wrapping_add(bits_from(word, from, self.width))
+    }
+}
+
 impl Row {
+    /// A block whose tokens have no bits.
+    #[inline(always)]
+    pub(crate) fn empty() -> Row
+        ensures { result ≡ empty_row }
+    {
+        let none = Field::empty();
+        Row {
+            at: 0,
+            stride: 0,
+            column: none,
+            source: none,
+            src_line: none,
+            src_col: none,
+            name: none,
+        }
+    }
+
     /// The value of a field that begins at a bit of the block.
     #[inline(always)]
     #[tactic(auto, unfolding(crate::specs::Fields::value_at))]
     pub(crate) fn value_at(&self, bytes: &[u8], field: Field, bit: usize) -> u32
-        requires row { IsRow self.now }
-        requires field { IsField field }
-        requires there { bit ≤ 4294967295 }
+        requires at { self.now.at ≤ 1099511627776 }
+        requires small { bit ≤ 4294967295 }
+        requires field { field.width ≤ 32 }
+        requires there { self.now.at + bit / 8 + 8 ≤ length bytes.now }
         ensures { result ≡ value_at bytes.now self.now field bit }
     {
-        let at = self.at + bit / 8;
-        if at + 8 > bytes.len() {
-            return field.least;
-        }
-        let above = bits_from(u64_at(bytes, at), bit % 8, field.width);
-        field.least.wrapping_add(above)
+        field.value(u64_at(bytes, self.at + bit / 8), bit % 8)
     }
 
     /// The value of a field in a token of the block, by the number of the token there.
     #[inline(always)]
     pub(crate) fn value(&self, bytes: &[u8], field: Field, j: usize) -> u32
         requires row { IsRow self.now }
-        requires field { IsField field }
-        requires there { j < 16384 }
+        requires field { IsField self.now.stride field }
+        requires few { j < 16384 }
+        requires there { HasRoom (length bytes.now) self.now (j + 1) }
         ensures { result ≡ value_in bytes.now self.now field j }
     {
         self.value_at(bytes, field, field.first + j * self.stride)
     }
 
-    /// The token of this number in the block, on a line.
+    /// The token of this number in the block, on a line, field by field.
     #[inline(always)]
-    pub(crate) fn token(&self, bytes: &[u8], line: u32, j: usize) -> Token
+    fn token_by_fields(&self, bytes: &[u8], line: u32, j: usize) -> Token
         requires row { IsRow self.now }
-        requires there { j < 16384 }
+        requires few { j < 16384 }
+        requires there { HasRoom (length bytes.now) self.now (j + 1) }
         ensures { result ≡ token_at bytes.now self.now line j }
     {
         let source_id = id_from(self.value(bytes, self.source, j));
@@ -95,6 +134,32 @@ impl Row {
             self.value(bytes, self.column, j),
             self.value(bytes, self.src_line, j),
             self.value(bytes, self.src_col, j),
+            source_id,
+            name_id,
+        )
+    }
+
+    /// The token of this number in the block, on a line.
+    // One of at most 56 bits lies in eight bytes, wherever its first bit is.
+    #[inline(always)]
+    pub(crate) fn token(&self, bytes: &[u8], line: u32, j: usize) -> Token
+        requires row { IsRow self.now }
+        requires few { j < 16384 }
+        requires there { HasRoom (length bytes.now) self.now (j + 1) }
+        ensures { result ≡ token_at bytes.now self.now line j }
+    {
+        if self.stride > 56 {
+            return self.token_by_fields(bytes, line, j);
+        }
+        let bit = j * self.stride;
+        let word = u64_at(bytes, self.at + bit / 8) >> (bit % 8);
+        let source_id = id_from(self.source.value(word, self.source.first));
+        let name_id = id_from(self.name.value(word, self.name.first));
+        Token::new(
+            line,
+            self.column.value(word, self.column.first),
+            self.src_line.value(word, self.src_line.first),
+            self.src_col.value(word, self.src_col.first),
             source_id,
             name_id,
         )

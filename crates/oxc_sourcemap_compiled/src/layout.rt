@@ -2,6 +2,7 @@
 ghost use Rattle.std.specs.Prelude.{◌≡◌, ◌+◌, ◌/◌, ◌<◌, ◌≤◌, length, IfOk, IfErr, None, Some};
 ghost use Rattle.oxc_sourcemap_compiled.specs.Words.{header_in, layout_in, AreCounts, HasParts};
 ghost use Rattle.oxc_sourcemap_compiled.specs.Words.{block_groups, blocks_for, compiled_fault};
+ghost use Rattle.oxc_sourcemap_compiled.specs.Words.{groups_in};
 ghost use Rattle.oxc_sourcemap_compiled.specs.Words.{listed_count};
 
 use crate::errors::CompiledError;
@@ -41,6 +42,18 @@ pub(crate) fn groups_in_block(tokens: usize) -> usize
     ensures few { result ≤ 2048 }
 {
     if tokens <= 16384 { 2048 } else { 8 }
+}
+
+/// How many groups of eight tokens a block has.
+#[inline(always)]
+pub(crate) fn count_groups(header: &Header, b: usize) -> usize
+    requires counts { AreCounts header.now }
+    requires few { b ≤ 67108864 }
+    ensures value { result ≡ groups_in header.now b }
+    ensures few { result ≤ 2048 }
+{
+    let each = groups_in_block(header.tokens);
+    ((header.tokens + 7) / 8).saturating_sub(each * b).min(each)
 }
 
 /// The block of a group of this many tokens.

@@ -5,18 +5,16 @@ ghost use Rattle.std.specs.Prelude.{nat_lt, Some, None, if◌then◌else◌};
 ghost use Rattle.std.specs.List.{range_with_len};
 ghost use Rattle.oxc_sourcemap_lookup.specs.Words.{TokenRecord};
 ghost use Rattle.oxc_sourcemap_lookup.specs.Words.{index_at, clamped_index_at, index_at_or_after};
-ghost use Rattle.oxc_sourcemap_lookup.specs.Words.{index_before, index_for, clamped_index_for};
-ghost use Rattle.oxc_sourcemap_lookup.specs.Words.{index_after, binary_digits};
-ghost use Rattle.oxc_sourcemap_compiled.specs.Words.{IsOpened, AreInOrder};
+ghost use Rattle.oxc_sourcemap_lookup.specs.Words.{index_before, index_by, token_by, binary_digits};
+ghost use Rattle.oxc_sourcemap_compiled.specs.Words.{IsOpened, IsSearchIn, AreInOrder};
 ghost use Rattle.oxc_sourcemap_compiled.specs.Words.{entry_begin, entry_end, entry_tokens};
 ghost use Rattle.oxc_sourcemap_compiled.specs.Words.{tokens_in};
 ghost use Rattle.oxc_sourcemap_compiled.specs.Words.{IsOnLine, IsTokenOn, IsInEntry, IsSpan};
 ghost use Rattle.oxc_sourcemap_compiled.specs.Words.{IsUpToEnd, AreColumnsOf};
-ghost use Rattle.oxc_sourcemap_lookup.specs.Words.{token_for, clamped_token_for};
-ghost use Rattle.oxc_sourcemap_lookup.specs.Lookup.{token_after};
 
-use crate::opened::Opened;
-use oxc_sourcemap_tokens::Token;
+use crate::opened::{Opened, Search};
+use oxc_sourcemap_lookup::Bias;
+use oxc_sourcemap_tokens::{Position, Token};
 
 /// The tokens from one index to before another.
 #[derive(Clone, Copy)]
@@ -42,11 +40,11 @@ impl<'a> Opened<'a> {
 
     /// The index behind the token that a lookup finds among these, which are all on one line; that of the first if it finds none.
     #[inline(always)]
-    fn end_of_found(&self, span: Span, col: u32, steps: &mut u64) -> usize
-        requires opened { IsOpened self.now }
-        requires few { steps.old ≤ 256 }
+    fn end_of_found(&self, span: Span, col: u32, search: &mut Search) -> usize
         requires span { IsSpan span self.now.header }
-        ensures counted { steps.new ≤ steps.old + binary_digits (span.end - span.start) + 3 }
+        requires search { IsSearchIn self.now 256 search.old }
+        ensures search { IsSearchIn self.now
+            (search.old.steps + binary_digits (span.end - span.start) + 3) search.new }
         ensures within { IsUpToEnd span result }
         ensures index { (line : List TokenRecord)
             → AreColumnsOf self.now.bytes.now self.now.header span line
@@ -55,18 +53,18 @@ impl<'a> Opened<'a> {
         if span.start == span.end {
             return span.start;
         }
-        let before = self.column_cut(span.start, span.end - 1, u64::from(col), steps);
-        *steps += 1;
-        before + usize::from(self.column(before) <= col)
+        let before = self.column_cut(span.start, span.end - 1, u64::from(col), search);
+        search.steps += 1;
+        before + usize::from(self.column_near(before, search) <= col)
     }
 
     /// The index of the token that a lookup from `col` on finds among these, which are all on one line; the end if it finds none.
     #[inline(always)]
-    fn found_after(&self, span: Span, col: u32, steps: &mut u64) -> usize
-        requires opened { IsOpened self.now }
-        requires few { steps.old ≤ 256 }
+    fn found_after(&self, span: Span, col: u32, search: &mut Search) -> usize
         requires span { IsSpan span self.now.header }
-        ensures counted { steps.new ≤ steps.old + binary_digits (span.end - span.start) + 3 }
+        requires search { IsSearchIn self.now 256 search.old }
+        ensures search { IsSearchIn self.now
+            (search.old.steps + binary_digits (span.end - span.start) + 3) search.new }
         ensures within { IsUpToEnd span result }
         ensures index { (line : List TokenRecord)
             → AreColumnsOf self.now.bytes.now self.now.header span line
@@ -76,25 +74,25 @@ impl<'a> Opened<'a> {
         if span.start == span.end {
             return span.start;
         }
-        let last = self.column_cut(span.start + 1, span.end, u64::from(col) + 1, steps) - 1;
-        *steps += 1;
-        last + usize::from(self.column(last) < col)
+        let last = self.column_cut(span.start + 1, span.end, u64::from(col) + 1, search) - 1;
+        search.steps += 1;
+        last + usize::from(self.column_near(last, search) < col)
     }
 
     /// The index of the token that a lookup finds among those of an entry of lines.
     #[inline(always)]
-    fn index_in(&self, k: usize, col: u32, steps: &mut u64) -> Option<usize>
-        requires opened { IsOpened self.now }
+    fn index_in(&self, k: usize, col: u32, search: &mut Search) -> Option<usize>
         requires there { k < self.now.header.lines }
-        requires few { steps.old ≤ 256 }
-        ensures counted { steps.new ≤ steps.old + binary_digits self.now.header.tokens + 3 }
+        requires search { IsSearchIn self.now 256 search.old }
+        ensures search { IsSearchIn self.now
+            (search.old.steps + binary_digits self.now.header.tokens + 3) search.new }
         ensures among { IfSome result (IsInEntry self.now.bytes.now self.now.header k) }
         ensures found { AreInOrder self.now.bytes.now self.now.header
             → result ≡ option_map (λ i. entry_begin self.now.bytes.now self.now.header k + i)
             (index_at (entry_tokens self.now.bytes.now self.now.header k) col) }
     {
         let span = self.span(k);
-        let end = self.end_of_found(span, col, steps);
+        let end = self.end_of_found(span, col, search);
         if end > span.start {
             Some(end - 1)
         } else {
@@ -104,11 +102,11 @@ impl<'a> Opened<'a> {
 
     /// The index of the token that a clamped lookup finds among those of an entry of lines.
     #[inline(always)]
-    fn index_in_clamped(&self, k: usize, col: u32, steps: &mut u64) -> Option<usize>
-        requires opened { IsOpened self.now }
+    fn index_in_clamped(&self, k: usize, col: u32, search: &mut Search) -> Option<usize>
         requires there { k < self.now.header.lines }
-        requires few { steps.old ≤ 256 }
-        ensures counted { steps.new ≤ steps.old + binary_digits self.now.header.tokens + 3 }
+        requires search { IsSearchIn self.now 256 search.old }
+        ensures search { IsSearchIn self.now
+            (search.old.steps + binary_digits self.now.header.tokens + 3) search.new }
         ensures among { IfSome result (IsInEntry self.now.bytes.now self.now.header k) }
         ensures found { AreInOrder self.now.bytes.now self.now.header
             → result ≡ option_map (λ i. entry_begin self.now.bytes.now self.now.header k + i)
@@ -118,107 +116,64 @@ impl<'a> Opened<'a> {
         if span.start == span.end {
             return None;
         }
-        let end = self.end_of_found(span, col, steps);
+        let end = self.end_of_found(span, col, search);
         Some(end.max(span.start + 1) - 1)
     }
 
     /// The index of the token that a lookup from `col` on finds among those of an entry of lines.
     #[inline(always)]
-    fn index_in_after(&self, k: usize, col: u32, steps: &mut u64) -> Option<usize>
-        requires opened { IsOpened self.now }
+    fn index_in_after(&self, k: usize, col: u32, search: &mut Search) -> Option<usize>
         requires there { k < self.now.header.lines }
-        requires few { steps.old ≤ 256 }
-        ensures counted { steps.new ≤ steps.old + binary_digits self.now.header.tokens + 3 }
+        requires search { IsSearchIn self.now 256 search.old }
+        ensures search { IsSearchIn self.now
+            (search.old.steps + binary_digits self.now.header.tokens + 3) search.new }
         ensures among { IfSome result (IsInEntry self.now.bytes.now self.now.header k) }
         ensures found { AreInOrder self.now.bytes.now self.now.header
             → result ≡ option_map (λ i. entry_begin self.now.bytes.now self.now.header k + i)
             (index_at_or_after (entry_tokens self.now.bytes.now self.now.header k) col) }
     {
         let span = self.span(k);
-        let found = self.found_after(span, col, steps);
+        let found = self.found_after(span, col, search);
         if found < span.end { Some(found) } else { None }
     }
 
-    /// The index of the token that a lookup finds.
-    pub(crate) fn lookup_index(&self, line: u32, col: u32, steps: &mut u64) -> Option<usize>
-        requires opened { IsOpened self.now }
-        ensures counted { steps.new ≤ binary_digits self.now.header.lines
-            + binary_digits self.now.header.tokens + 4 }
+    /// The index of the token that answers for a generated position by this bias.
+    #[inline(always)]
+    pub(crate) fn lookup_index(
+        &self,
+        at: Position,
+        bias: Bias,
+        search: &mut Search,
+    ) -> Option<usize>
+        requires search { IsSearchIn self.now 0 search.old }
+        ensures search { IsSearchIn self.now
+            (binary_digits self.now.header.lines
+            + binary_digits self.now.header.tokens + 4) search.new }
         ensures found { AreInOrder self.now.bytes.now self.now.header
-            → result ≡ index_for (tokens_in self.now.bytes.now self.now.header) line col }
-        ensures among { IfSome result (IsOnLine self.now.bytes.now self.now.header line) }
+            → result ≡ index_by bias (tokens_in self.now.bytes.now self.now.header)
+            at.line at.column }
+        ensures among { IfSome result (IsOnLine self.now.bytes.now self.now.header at.line) }
     {
-        match self.entry(line, steps) {
-            Some(k) => self.index_in(k, col, steps),
-            None => None,
+        let k = self.entry(at.line, &mut search.steps)?;
+        match bias {
+            Bias::Before => self.index_in(k, at.column, search),
+            Bias::Clamped => self.index_in_clamped(k, at.column, search),
+            Bias::After => self.index_in_after(k, at.column, search),
         }
     }
 
-    /// The index of the token that a clamped lookup finds.
-    pub(crate) fn lookup_index_clamped(&self, line: u32, col: u32, steps: &mut u64) -> Option<usize>
-        requires opened { IsOpened self.now }
-        ensures counted { steps.new ≤ binary_digits self.now.header.lines
-            + binary_digits self.now.header.tokens + 4 }
-        ensures found { AreInOrder self.now.bytes.now self.now.header
-            → result ≡ clamped_index_for (tokens_in self.now.bytes.now self.now.header) line col }
-        ensures among { IfSome result (IsOnLine self.now.bytes.now self.now.header line) }
-    {
-        match self.entry(line, steps) {
-            Some(k) => self.index_in_clamped(k, col, steps),
-            None => None,
-        }
-    }
-
-    /// The index of the token that a lookup from a position on finds.
-    pub(crate) fn lookup_index_after(&self, line: u32, col: u32, steps: &mut u64) -> Option<usize>
-        requires opened { IsOpened self.now }
-        ensures counted { steps.new ≤ binary_digits self.now.header.lines
-            + binary_digits self.now.header.tokens + 4 }
-        ensures found { AreInOrder self.now.bytes.now self.now.header
-            → result ≡ index_after (tokens_in self.now.bytes.now self.now.header) line col }
-        ensures among { IfSome result (IsOnLine self.now.bytes.now self.now.header line) }
-    {
-        match self.entry(line, steps) {
-            Some(k) => self.index_in_after(k, col, steps),
-            None => None,
-        }
-    }
-
-    /// The token that a lookup finds.
-    pub(crate) fn lookup_token(&self, line: u32, col: u32) -> Option<Token>
+    /// The token that answers for a generated position by this bias.
+    #[inline(always)]
+    pub(crate) fn lookup_token(&self, at: Position, bias: Bias) -> Option<Token>
         requires opened { IsOpened self.now }
         ensures found { AreInOrder self.now.bytes.now self.now.header
-            → result ≡ token_for (tokens_in self.now.bytes.now self.now.header) line col }
-        ensures among { IfSome result (IsTokenOn self.now.bytes.now self.now.header line) }
+            → result ≡ token_by bias (tokens_in self.now.bytes.now self.now.header)
+            at.line at.column }
+        ensures among { IfSome result (IsTokenOn self.now.bytes.now self.now.header at.line) }
     {
-        match self.lookup_index(line, col, &mut 0) {
-            Some(i) => Some(self.token_on(line, i)),
-            None => None,
-        }
-    }
-
-    /// The token that a clamped lookup finds.
-    pub(crate) fn lookup_token_clamped(&self, line: u32, col: u32) -> Option<Token>
-        requires opened { IsOpened self.now }
-        ensures found { AreInOrder self.now.bytes.now self.now.header
-            → result ≡ clamped_token_for (tokens_in self.now.bytes.now self.now.header) line col }
-        ensures among { IfSome result (IsTokenOn self.now.bytes.now self.now.header line) }
-    {
-        match self.lookup_index_clamped(line, col, &mut 0) {
-            Some(i) => Some(self.token_on(line, i)),
-            None => None,
-        }
-    }
-
-    /// The token that a lookup from a position on finds.
-    pub(crate) fn lookup_token_after(&self, line: u32, col: u32) -> Option<Token>
-        requires opened { IsOpened self.now }
-        ensures found { AreInOrder self.now.bytes.now self.now.header
-            → result ≡ token_after (tokens_in self.now.bytes.now self.now.header) line col }
-        ensures among { IfSome result (IsTokenOn self.now.bytes.now self.now.header line) }
-    {
-        match self.lookup_index_after(line, col, &mut 0) {
-            Some(i) => Some(self.token_on(line, i)),
+        let mut search = Search::new();
+        match self.lookup_index(at, bias, &mut search) {
+            Some(i) => Some(self.token_near(at.line, i, &search)),
             None => None,
         }
     }

@@ -19,7 +19,7 @@ ghost use Rattle.oxc_sourcemap_parts.specs.Words.{record_of_parts};
 
 use crate::errors::CompiledError;
 use crate::numbers::u64_at;
-use crate::opened::Opened;
+use crate::opened::{Opened, Search};
 use oxc_sourcemap_lookup::Bias;
 use oxc_sourcemap_parts::SourceMapParts;
 use oxc_sourcemap_tokens::{Memory, Position, Token};
@@ -98,7 +98,9 @@ impl<'a> CompiledMap<'a> {
             → result ≡ index_for (compiled_in self.now).content.tokens line col }
         ensures among { IfSome result (IsOnLine self.now (header_in self.now) line) }
     {
-        self.opened.lookup_index(line, col, &mut 0)
+        let at = Position { line, column: col };
+        self.opened
+            .lookup_index(at, Bias::Before, &mut Search::new())
     }
 
     /// As `lookup_token_index`, which compares the same: `steps` is set to how many columns and numbers of lines were compared (that
@@ -111,7 +113,11 @@ impl<'a> CompiledMap<'a> {
         ensures counted { steps.new ≤ binary_digits (header_in self.now).lines
             + binary_digits (header_in self.now).tokens + 4 }
     {
-        self.opened.lookup_index(line, col, steps)
+        let mut search = Search::new();
+        let at = Position { line, column: col };
+        let found = self.opened.lookup_index(at, Bias::Before, &mut search);
+        *steps = search.steps;
+        found
     }
 
     /// As `lookup_token_index`, but a position before the first token of its line gives that token.
@@ -120,7 +126,9 @@ impl<'a> CompiledMap<'a> {
             → result ≡ clamped_index_for (compiled_in self.now).content.tokens line col }
         ensures among { IfSome result (IsOnLine self.now (header_in self.now) line) }
     {
-        self.opened.lookup_index_clamped(line, col, &mut 0)
+        let at = Position { line, column: col };
+        self.opened
+            .lookup_index(at, Bias::Clamped, &mut Search::new())
     }
 
     /// The index of the first token of the least column from `col` on, of several at `col` of the last; None if the line has
@@ -130,7 +138,9 @@ impl<'a> CompiledMap<'a> {
             → result ≡ index_after (compiled_in self.now).content.tokens line col }
         ensures among { IfSome result (IsOnLine self.now (header_in self.now) line) }
     {
-        self.opened.lookup_index_after(line, col, &mut 0)
+        let at = Position { line, column: col };
+        self.opened
+            .lookup_index(at, Bias::After, &mut Search::new())
     }
 
     /// The token of the index that `lookup_token_index` finds. Where bytes are not in order, it is some token of the line, or None.
@@ -139,7 +149,8 @@ impl<'a> CompiledMap<'a> {
             → result ≡ token_for (compiled_in self.now).content.tokens line col }
         ensures among { IfSome result (IsTokenOn self.now (header_in self.now) line) }
     {
-        self.opened.lookup_token(line, col)
+        let at = Position { line, column: col };
+        self.opened.lookup_token(at, Bias::Before)
     }
 
     /// The token of the index that `lookup_token_index_approx` finds. Where bytes are not in order, it is some token of the line, or None.
@@ -148,7 +159,8 @@ impl<'a> CompiledMap<'a> {
             → result ≡ clamped_token_for (compiled_in self.now).content.tokens line col }
         ensures among { IfSome result (IsTokenOn self.now (header_in self.now) line) }
     {
-        self.opened.lookup_token_clamped(line, col)
+        let at = Position { line, column: col };
+        self.opened.lookup_token(at, Bias::Clamped)
     }
 
     /// The token of the index that `lookup_token_index_after` finds. Where bytes are not in order, it is some token of the line, or None.
@@ -157,7 +169,8 @@ impl<'a> CompiledMap<'a> {
             → result ≡ token_after (compiled_in self.now).content.tokens line col }
         ensures among { IfSome result (IsTokenOn self.now (header_in self.now) line) }
     {
-        self.opened.lookup_token_after(line, col)
+        let at = Position { line, column: col };
+        self.opened.lookup_token(at, Bias::After)
     }
 
     /// The token that answers for a generated position by this bias, and its index. Where bytes are not in order, it is some token of
@@ -171,10 +184,10 @@ impl<'a> CompiledMap<'a> {
         ensures among { IfSome result (λ found. IsOnLine self.now (header_in self.now) at.line
             found.0 × (found.1 ≡ token_in self.now (header_in self.now) at.line found.0)) }
     {
-        match self.find_index(at, bias) {
-            Some(index) => Some((index, self.opened.token_on(at.line, index))),
-            None => None,
-        }
+        let mut search = Search::new();
+        let index = self.opened.lookup_index(at, bias, &mut search)?;
+        let token = self.opened.token_near(at.line, index, &search);
+        Some((index, token))
     }
 
     /// The index of the token that answers for a generated position by this bias. Where bytes are not in order, it is that of some
@@ -185,11 +198,7 @@ impl<'a> CompiledMap<'a> {
             → result ≡ index_by bias (compiled_in self.now).content.tokens at.line at.column }
         ensures among { IfSome result (IsOnLine self.now (header_in self.now) at.line) }
     {
-        match bias {
-            Bias::Before => self.lookup_token_index(at.line, at.column),
-            Bias::Clamped => self.lookup_token_index_approx(at.line, at.column),
-            Bias::After => self.lookup_token_index_after(at.line, at.column),
-        }
+        self.opened.lookup_index(at, bias, &mut Search::new())
     }
 
     /// The indices of the tokens that answer for generated positions by this bias, each at the index of its position, as far as there

@@ -1,10 +1,12 @@
 //! What is opened: bytes, and where the parts of the map lie in them.
 ghost use Rattle.std.specs.Prelude.{◌≡◌, ◌+◌, ◌*◌, ◌≤◌, ◌<◌, length, sum, take, IfOk, IfErr, None};
 ghost use Rattle.std.specs.Prelude.{true, false};
-ghost use Rattle.std.specs.Prelude.{Some};
+ghost use Rattle.std.specs.Prelude.{Some, IfSome};
 ghost use Rattle.oxc_sourcemap_tokens.specs.Results.{lent_item};
-ghost use Rattle.oxc_sourcemap_compiled.specs.Words.{IsOpened, IsField, block_count, text_count};
+ghost use Rattle.oxc_sourcemap_compiled.specs.Words.{IsOpened, IsReadBlock, IsField};
+ghost use Rattle.oxc_sourcemap_compiled.specs.Words.{block_count, text_count};
 ghost use Rattle.oxc_sourcemap_compiled.specs.Words.{IsRow, HasParts, layout_in, row_base};
+ghost use Rattle.oxc_sourcemap_compiled.specs.Words.{HasRoom, groups_in, widths_in};
 ghost use Rattle.oxc_sourcemap_compiled.specs.Words.{field_in, row_in, token_in, start_in};
 ghost use Rattle.oxc_sourcemap_compiled.specs.Words.{column_of};
 ghost use Rattle.oxc_sourcemap_compiled.specs.Words.{ignored_in, text_in, optional_in, offset_in};
@@ -15,7 +17,7 @@ ghost use Rattle.std.specs.Prelude.{map, IsTrue, ◌↔◌};
 
 use crate::errors::CompiledError;
 use crate::fields::{Field, Row};
-use crate::layout::{Header, Layout, checked_header, layout_of};
+use crate::layout::{Header, Layout, checked_header, count_groups, layout_of};
 use crate::numbers::u32_at;
 use oxc_sourcemap_tokens::Token;
 
@@ -27,6 +29,35 @@ pub(crate) struct Opened<'a> {
     pub(crate) layout: Layout,
     /// The first block, which is the only one of a map of at most 16384 tokens.
     pub(crate) front: Row,
+}
+
+/// A block of a map with more than 16384 tokens, whose row was read, and the index of its first token.
+#[derive(Clone, Copy)]
+pub(crate) struct ReadBlock {
+    pub(crate) row: Row,
+    pub(crate) base: usize,
+}
+
+/// What a search keeps: how many numbers of lines and columns it compared, and the block in which it compared columns, in a map of
+/// many blocks.
+#[derive(Clone, Copy)]
+pub(crate) struct Search {
+    pub(crate) steps: u64,
+    pub(crate) read: Option<ReadBlock>,
+}
+
+impl Search {
+    /// A search that has compared nothing.
+    #[inline(always)]
+    pub(crate) fn new() -> Search
+        ensures steps { result.steps ≡ 0 }
+        ensures read { result.read ≡ None }
+    {
+        Search {
+            steps: 0,
+            read: None,
+        }
+    }
 }
 
 /// The sum of the first of five widths.
@@ -66,7 +97,7 @@ fn read_field(bytes: &[u8], header: &Header, layout: &Layout, b: usize, k: usize
     requires layout { layout.now ≡ layout_in header.now }
     requires there { row_base header.now b + 29 ≤ length bytes.now }
     requires few { k < 5 }
-    ensures field { IsField result }
+    ensures field { IsField (sum (widths_in bytes.now header.now b)) result }
     ensures value { result ≡ field_in bytes.now header.now b k }
 {
     let row = layout.rows + 29 * b;
@@ -83,14 +114,21 @@ fn read_field(bytes: &[u8], header: &Header, layout: &Layout, b: usize, k: usize
 fn read_row(bytes: &[u8], header: &Header, layout: &Layout, b: usize) -> Row
     requires parts { HasParts (length bytes.now) header.now }
     requires layout { layout.now ≡ layout_in header.now }
+    requires few { b ≤ 67108864 }
     requires there { row_base header.now b + 29 ≤ length bytes.now }
     ensures row { IsRow result }
     ensures value { result ≡ row_in bytes.now header.now b }
+    ensures room { HasRoom (length bytes.now) result (8 * groups_in header.now b) }
 {
     let row = layout.rows + 29 * b;
+    let place = u32_at(bytes, row) as usize;
+    let stride = width_of_all(&bytes[row + 24..row + 29]);
+    if place + count_groups(header, b) * stride > header.group_bytes {
+        return Row::empty();
+    }
     Row {
-        at: layout.groups + u32_at(bytes, row) as usize,
-        stride: width_of_all(&bytes[row + 24..row + 29]),
+        at: layout.groups + place,
+        stride,
         column: read_field(bytes, header, layout, b, 0),
         source: read_field(bytes, header, layout, b, 1),
         src_line: read_field(bytes, header, layout, b, 2),
@@ -171,6 +209,8 @@ impl<'a> Opened<'a> {
         requires there { b < block_count self.now.header }
         ensures row { IsRow result }
         ensures value { result ≡ row_in self.now.bytes.now self.now.header b }
+        ensures room { HasRoom (length self.now.bytes.now) result
+            (8 * groups_in self.now.header b) }
     {
         read_row(self.bytes, &self.header, &self.layout, b)
     }
@@ -201,6 +241,41 @@ impl<'a> Opened<'a> {
             self.front.token(self.bytes, line, i)
         } else {
             self.row(i / 64).token(self.bytes, line, i % 64)
+        }
+    }
+
+    /// As `column`, by a block that was read, if it has the token.
+    #[inline(always)]
+    pub(crate) fn column_near(&self, i: usize, search: &Search) -> u32
+        requires opened { IsOpened self.now }
+        requires there { i < self.now.header.tokens }
+        requires read { IfSome search.now.read
+            (IsReadBlock self.now.bytes.now self.now.header) }
+        ensures { result ≡ column_of self.now.bytes.now self.now.header i }
+    {
+        match &search.read {
+            Some(block) if block.base <= i && i - block.base < 64 => {
+                let row = &block.row;
+                row.value(self.bytes, row.column, i - block.base)
+            }
+            _ => self.column(i),
+        }
+    }
+
+    /// As `token_on`, by a block that was read, if it has the token.
+    #[inline(always)]
+    pub(crate) fn token_near(&self, line: u32, i: usize, search: &Search) -> Token
+        requires opened { IsOpened self.now }
+        requires there { i < self.now.header.tokens }
+        requires read { IfSome search.now.read
+            (IsReadBlock self.now.bytes.now self.now.header) }
+        ensures { result ≡ token_in self.now.bytes.now self.now.header line i }
+    {
+        match &search.read {
+            Some(block) if block.base <= i && i - block.base < 64 => {
+                block.row.token(self.bytes, line, i - block.base)
+            }
+            _ => self.token_on(line, i),
         }
     }
 

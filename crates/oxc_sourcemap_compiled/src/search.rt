@@ -1,7 +1,8 @@
 //! Searches by halving: of a line, of a block, and of a token in a block. `steps` counts the numbers that are compared.
 ghost use Rattle.std.specs.Prelude.{◌≡◌, ◌+◌, ◌*◌, ◌/◌, ◌≤◌, ◌<◌, ℕ, true, nat_lt, if◌then◌else◌};
-ghost use Rattle.std.specs.Prelude.{IfSome, IsNone, ◌≢◌, slice_get};
-ghost use Rattle.oxc_sourcemap_compiled.specs.Words.{IsOpened, IsRow, IsCut, DoNotFall};
+ghost use Rattle.std.specs.Prelude.{IfSome, IsNone, ◌≢◌, slice_get, length};
+ghost use Rattle.oxc_sourcemap_compiled.specs.Words.{IsOpened, IsSearchIn, IsRow, HasRoom};
+ghost use Rattle.oxc_sourcemap_compiled.specs.Words.{IsCut, DoNotFall};
 ghost use Rattle.oxc_sourcemap_compiled.specs.Words.{AreRowsExact};
 ghost use Rattle.oxc_sourcemap_compiled.specs.Words.{value_in, column_of, least_column_of};
 ghost use Rattle.oxc_sourcemap_compiled.specs.Words.{block_count};
@@ -11,7 +12,7 @@ ghost use Rattle.oxc_sourcemap_lookup.specs.Words.{binary_digits};
 ghost use Rattle.std.specs.Prelude.{◌-◌};
 
 use crate::fields::Row;
-use crate::opened::Opened;
+use crate::opened::{Opened, ReadBlock, Search};
 use oxc_sourcemap_tokens::Token;
 
 /// All binary digits set if x is less than y, else 0.
@@ -45,6 +46,7 @@ impl Row {
     fn cut(&self, bytes: &[u8], first: usize, count: usize, limit: u64, steps: &mut u64) -> usize
         requires row { IsRow self.now }
         requires there { first + count ≤ 16384 }
+        requires room { HasRoom (length bytes.now) self.now (first + count) }
         requires few { steps.old ≤ 65535 }
         ensures counted { steps.new ≡ steps.old + binary_digits count }
         ensures few { steps.new ≤ steps.old + 15 }
@@ -139,15 +141,22 @@ impl<'a> Opened<'a> {
         }
     }
 
-    /// Where the columns of tokens stop being below `limit`, among the tokens from `first` to before `end`.
+    /// Where the columns of tokens stop being below `limit`, among the tokens from `first` to before `end`. In a map of many blocks
+    /// the one in which tokens are compared is kept.
     #[inline(always)]
-    pub(crate) fn column_cut(&self, first: usize, end: usize, limit: u64, steps: &mut u64) -> usize
-        requires opened { IsOpened self.now }
+    pub(crate) fn column_cut(
+        &self,
+        first: usize,
+        end: usize,
+        limit: u64,
+        search: &mut Search,
+    ) -> usize
         requires order { first ≤ end }
         requires there { end ≤ self.now.header.tokens }
-        requires few { steps.old ≤ 256 }
-        ensures counted { steps.new ≤ steps.old + binary_digits (end - first) + 2 }
-        ensures few { steps.new ≤ steps.old + 48 }
+        requires search { IsSearchIn self.now 256 search.old }
+        ensures search { IsSearchIn self.now (search.old.steps + binary_digits (end - first) + 2)
+            search.new }
+        ensures few { search.new.steps ≤ search.old.steps + 48 }
         ensures reached { first ≤ result }
         ensures within { result ≤ end }
         ensures cut { AreRowsExact self.now.bytes.now self.now.header
@@ -161,15 +170,15 @@ impl<'a> Opened<'a> {
         if self.is_one_block() {
             return self
                 .front
-                .cut(self.bytes, first, end - first, limit, steps);
+                .cut(self.bytes, first, end - first, limit, &mut search.steps);
         }
-        let block = self.block_with_cut(first, end, limit, steps);
+        let block = self.block_with_cut(first, end, limit, &mut search.steps);
         let base = 64 * block;
         let start = base.max(first) - base;
         let stop = (base + 64).min(end) - base;
-        base + self
-            .row(block)
-            .cut(self.bytes, start, stop - start, limit, steps)
+        let row = self.row(block);
+        search.read = Some(ReadBlock { row, base });
+        base + row.cut(self.bytes, start, stop - start, limit, &mut search.steps)
     }
 
     /// Where the numbers of lines stop being below `line`.

@@ -142,6 +142,9 @@ pub fn read_written(rt: &HostRuntime, path: &str) -> Outcome<Written> {
     Ok(Written::Text(text_in(rt.alloc(), path, bytes)?))
 }
 
+/// What to do about a compiled map that is damaged.
+pub const COMPILE_AGAIN: &str = ": compile its map again";
+
 /// What the bytes of a compiled map are.
 #[derive(Drop)]
 pub enum Decompiled {
@@ -172,6 +175,6 @@ pub fn decompile(alloc: Global, bytes: &[u8]) -> Outcome<Decompiled> {
     };
     Ok(match sound_parts(alloc, &map)? {
         Some(parts) => Decompiled::Map(parts),
-        None => { Decompiled::Wrong(String::from_str(alloc, "is damaged: compile its map again")?) }
+        None => Decompiled::Wrong(format!(in alloc; "is damaged{COMPILE_AGAIN}")?),
     })
 }

@@ -3,7 +3,9 @@ ghost use Rattle.std.specs.Prelude.{◌≡◌, IfOk, IfErr};
 ghost use Rattle.oxc_sourcemap_parts.specs.Words.{cow_texts, record_of_parts, texts_of};
 ghost use Rattle.sourcemap_files.specs.Contents.{contents_alone, without_contents};
 
-use crate::compiled::{COMPILED_END, Decompiled, compiled_of, decompile, is_of_same_text};
+use crate::compiled::{
+    COMPILE_AGAIN, COMPILED_END, Decompiled, compiled_of, decompile, is_of_same_text,
+};
 use crate::input::{is_regular, read_bytes, tell, warn};
 use crate::paths::{folder_of, is_inside};
 use oxc_sourcemap_parts::{SourceMapParts, owned_text};
@@ -122,7 +124,10 @@ fn read_contents(
             }
             format!(in alloc; "is of another map than {path}")?
         }
-        Decompiled::Wrong(why) => why,
+        Decompiled::Wrong(why) => {
+            let why = why.as_str();
+            String::from_str(alloc, why.strip_suffix(COMPILE_AGAIN).unwrap_or(why))?
+        }
     };
     let why = format!(in alloc; "{why}, so it is not read: compile the map again")?;
     warn(rt, apart, why.as_str());

@@ -1,4 +1,6 @@
-use Rattle.std.proofs.Common.{◌≡◌, ℕ, ◌+◌, ◌-◌, ◌*◌, ◌/◌, ◌<◌, Bool, true, false, nat_lt, arith}
+use Rattle.std.proofs.lemmas.Nat.{mul-le}
+use Rattle.std.proofs.Common.{◌≡◌, ℕ, ◌+◌, ◌-◌, ◌*◌, ◌/◌, ◌<◌, ◌≤◌, Bool, true, false, nat_lt}
+use Rattle.std.proofs.Common.{arith}
 use Rattle.std.proofs.Common.{refl}
 use Rattle.std.proofs.Common.{ap, ◌∙◌, if◌then◌else◌}
 use Rattle.oxc_sourcemap_lookup.proofs.Halving.{digits-half, digits-below}
@@ -50,6 +52,20 @@ loop-size-preserved c =
       few = h.few;
       bit = bit-next (nat_lt (f at) c.args.limit) self.column.first bit start step self.stride c.step_if_less-start.result c.count_if_less-bit.result h.bit moved bits;
     }
+
+pub value_at-value-requires-clause-there : goal.value_at-value-requires-clause-there
+value_at-value-requires-clause-there c =
+    let row = c.args.self.now in
+    let start = c.loop-size.start in
+    let size = c.loop-size.size in
+    let step = size - size / 2 in
+    let s = row.stride in
+    let some : 0 < step = omega (arith, c.loop-size-test.true) in
+    let at = bit-at row.column.first c.loop-size.bit start step s c.loop-size.invariant.bit some in
+    let last = start + step - 1 in
+    let whole : (last + 1) * s ≡ last * s + s = omega arith in
+    let within : (last + 1) * s ≤ (c.args.first + c.args.count) * s = mul-le (last + 1) s (c.args.first + c.args.count) s (omega (arith, c.loop-size.invariant.halved.within, some)) (omega arith) in
+    omega (arith, at, whole, within, c.requires.row.column.within, c.requires.room)
 
 pub returns-clause-cut : goal.returns-clause-cut
 returns-clause-cut c = λ cut is. halved-all (value_in c.args.bytes.now c.args.self.now c.args.self.now.column) c.args.limit c.args.first c.args.count c.loop-size.start c.loop-size.size cut c.loop-size.invariant.halved (omega (arith, c.loop-size-test.false)) is

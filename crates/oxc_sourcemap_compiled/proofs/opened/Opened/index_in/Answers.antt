@@ -24,12 +24,12 @@ returns-else-end-span-clause-found c = λ order.
     let found = c.end_of_found-end.ensures.index (entry_tokens bytes h k) is in
     last-of-none begin c.span-span.result.start c.end_of_found-end.result c.if-end-span.false ∙ ap (option_map (λ i. begin + i)) found
 
-pub returns-then-end-span-clause-counted : goal.returns-then-end-span-clause-counted
-returns-then-end-span-clause-counted c =
+pub returns-then-end-span-clause-search : goal.returns-then-end-span-clause-search
+returns-then-end-span-clause-search c =
     let size = c.span-span.result.end - c.span-span.result.start in
-    omega (arith, c.end_of_found-end.ensures.counted, fewer-digits size c.args.self.now.header.tokens (omega (arith, c.span-span.ensures.span.there)))
+    record { opened = c.requires.search.opened; few = omega (arith, c.end_of_found-end.ensures.search.few, fewer-digits size c.args.self.now.header.tokens (omega (arith, c.span-span.ensures.span.there))); read = c.end_of_found-end.ensures.search.read }
 
-pub returns-else-end-span-clause-counted : goal.returns-else-end-span-clause-counted
-returns-else-end-span-clause-counted c =
+pub returns-else-end-span-clause-search : goal.returns-else-end-span-clause-search
+returns-else-end-span-clause-search c =
     let size = c.span-span.result.end - c.span-span.result.start in
-    omega (arith, c.end_of_found-end.ensures.counted, fewer-digits size c.args.self.now.header.tokens (omega (arith, c.span-span.ensures.span.there)))
+    record { opened = c.requires.search.opened; few = omega (arith, c.end_of_found-end.ensures.search.few, fewer-digits size c.args.self.now.header.tokens (omega (arith, c.span-span.ensures.span.there))); read = c.end_of_found-end.ensures.search.read }

@@ -32,12 +32,12 @@ returns-else-found-span-clause-found c = λ order.
     let one = sym (ap (λ b. if b then Some (i - c.span-span.result.start) else None) le) ∙ found in
     ap (option_map (λ j. begin + j)) one
 
-pub returns-then-found-span-clause-counted : goal.returns-then-found-span-clause-counted
-returns-then-found-span-clause-counted c =
+pub returns-then-found-span-clause-search : goal.returns-then-found-span-clause-search
+returns-then-found-span-clause-search c =
     let size = c.span-span.result.end - c.span-span.result.start in
-    omega (arith, c.found_after-found.ensures.counted, fewer-digits size c.args.self.now.header.tokens (omega (arith, c.span-span.ensures.span.there)))
+    record { opened = c.requires.search.opened; few = omega (arith, c.found_after-found.ensures.search.few, fewer-digits size c.args.self.now.header.tokens (omega (arith, c.span-span.ensures.span.there))); read = c.found_after-found.ensures.search.read }
 
-pub returns-else-found-span-clause-counted : goal.returns-else-found-span-clause-counted
-returns-else-found-span-clause-counted c =
+pub returns-else-found-span-clause-search : goal.returns-else-found-span-clause-search
+returns-else-found-span-clause-search c =
     let size = c.span-span.result.end - c.span-span.result.start in
-    omega (arith, c.found_after-found.ensures.counted, fewer-digits size c.args.self.now.header.tokens (omega (arith, c.span-span.ensures.span.there)))
+    record { opened = c.requires.search.opened; few = omega (arith, c.found_after-found.ensures.search.few, fewer-digits size c.args.self.now.header.tokens (omega (arith, c.span-span.ensures.span.there))); read = c.found_after-found.ensures.search.read }

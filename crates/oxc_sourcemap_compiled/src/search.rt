@@ -63,9 +63,10 @@ impl Row {
         while size > 0 {
             let half = size / 2;
             let step = size - half;
-            let value = self.value_at(bytes, self.column, bit + (step - 1) * bits);
+            let further = step * bits;
+            let value = self.value_at(bytes, self.column, bit + further - bits);
             start += step_if_less(value, limit, step, steps);
-            bit += count_if_less(value, limit, step * bits);
+            bit += count_if_less(value, limit, further);
             size = half;
         }
         start

@@ -2,19 +2,21 @@ use Rattle.std.proofs.lemmas.Nat.{mul-le}
 use Rattle.std.proofs.Common.{◌≡◌, ℕ, ◌+◌, ◌-◌, ◌*◌, ◌/◌, ◌<◌, ◌≤◌, Bool, true, false, nat_lt}
 use Rattle.std.proofs.Common.{arith}
 use Rattle.std.proofs.Common.{refl}
-use Rattle.std.proofs.Common.{ap, ◌∙◌, if◌then◌else◌}
+use Rattle.std.proofs.Common.{sym, ap, ◌∙◌, if◌then◌else◌}
 use Rattle.oxc_sourcemap_lookup.proofs.Halving.{digits-half, digits-below}
 use Rattle.oxc_sourcemap_compiled.specs.Words.{value_at, value_in}
 use Rattle.oxc_sourcemap_compiled.proofs.Searches.{halved-none, halved-more, halved-all}
 use Rattle.oxc_sourcemap_compiled.proofs.fields.Row.cut.Goals as goal
 
 -- the bit of a token so many steps further, and that of where a search goes on
-bit-at : (first bit start step s : ℕ) → bit ≡ first + start * s → 0 < step → bit + (step - 1) * s ≡ first + (start + step - 1) * s
+bit-at : (first bit start step s : ℕ) → bit ≡ first + start * s → 0 < step → bit + step * s - s ≡ first + (start + step - 1) * s
 bit-at first bit start step s is some = by-one (step - 1) (omega (arith, some)) where
-  by-one : (m : ℕ) → start + step - 1 ≡ start + m → bit + m * s ≡ first + (start + step - 1) * s
+  by-one : (m : ℕ) → step ≡ m + 1 → bit + step * s - s ≡ first + (start + step - 1) * s
   by-one m e =
-      let there : bit + m * s ≡ first + (start + m) * s = omega (arith, is) in
-      omega (arith, there, ap (λ n. n * s) e)
+      let whole : step * s ≡ m * s + s = ap (λ n. n * s) e ∙ omega arith in
+      let far : start + step - 1 ≡ start + m = omega (arith, e) in
+      let there : bit + (m * s + s) - s ≡ first + (start + m) * s = omega (arith, is) in
+      ap (λ n. bit + n - s) whole ∙ there ∙ sym (ap (λ n. first + n * s) far)
 
 bit-next : (less : Bool) (first bit start step s moved bits : ℕ) → bit ≡ first + start * s → moved ≡ (if less then step else 0) → bits ≡ (if less then step * s else 0)
     → bit + bits ≡ first + (start + moved) * s

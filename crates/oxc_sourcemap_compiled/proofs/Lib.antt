@@ -11,6 +11,7 @@ mod LineStarts
 mod Lines
 mod Listings
 mod Means
+mod Packings
 mod Parts
 mod Ranges
 mod ReadNumbers

@@ -1,6 +1,7 @@
 -- The rows of blocks: where each lies, and what is read of it.
 use Rattle.std.proofs.Common.{◌≡◌, ℕ, zero, suc, ◌+◌, ◌-◌, ◌*◌, ◌<◌, ◌≤◌, List, [], ◌∷◌, ◌++◌}
-use Rattle.std.proofs.Common.{length, take, get_or, min, sum, refl, ap, ◌∙◌, arith, subst}
+use Rattle.std.proofs.Common.{nat_lt, if◌then◌else◌, length, take, get_or, min, sum, refl, ap, ◌∙◌}
+use Rattle.std.proofs.Common.{arith, subst}
 use Rattle.std.proofs.Common.{append_assoc, length-append, add_assoc}
 use Rattle.oxc_sourcemap_tokens.specs.Token.{TokenRecord}
 use Rattle.oxc_sourcemap_compiled.specs.Compiled.{table, row_of, rows_of, group_bytes_of, stride_of}
@@ -22,7 +23,11 @@ packing_at (suc (suc zero)) b = b.src_line
 packing_at (suc (suc (suc zero))) b = b.src_col
 packing_at (suc (suc (suc (suc k)))) b = b.name
 
-pub packed-at : (k : ℕ) (ts : List TokenRecord) (b : Block) → k < 5 → ArePacked ts b → IsPacked k ts (packing_at k b)
+-- how many bits it may have to spare
+abbrev pub spare_at : ℕ → ℕ
+spare_at k = if nat_lt k 4 then 0 else 4
+
+pub packed-at : (k : ℕ) (ts : List TokenRecord) (b : Block) → k < 5 → ArePacked ts b → IsPacked k (spare_at k) ts (packing_at k b)
 packed-at zero ts b lt are = are.column
 packed-at (suc zero) ts b lt are = are.source
 packed-at (suc (suc zero)) ts b lt are = are.src_line

@@ -1,8 +1,9 @@
 -- Searches by halving.
 use Rattle.std.proofs.Common.{◌≡◌, ℕ, suc, ◌+◌, ◌-◌, ◌*◌, ◌/◌, ◌<◌, ◌≤◌, Bool, true, false, nat_lt}
 use Rattle.std.proofs.Common.{if◌then◌else◌}
-use Rattle.std.proofs.Common.{arith, refl, ap, zero, min, max, ◌⊎◌, inl, inr}
-use Rattle.oxc_sourcemap_compiled.specs.Cuts.{IsCut}
+use Rattle.std.proofs.Common.{sym, ◌∙◌, arith, refl, ap, zero, min, max, ◌⊎◌, inl, inr}
+use Rattle.oxc_sourcemap_lookup.specs.Digits.{binary_digits}
+use Rattle.oxc_sourcemap_compiled.specs.Cuts.{IsCut, IsCutFound}
 
 -- a number below the limit lies before the cut
 pub below-cut : (f : ℕ → ℕ) (limit first end cut i : ℕ) → IsCut f limit first end cut → i < end → f i < limit → i < cut
@@ -63,6 +64,34 @@ halved-more b f limit first count start size next is some e h =
           let kept = h.cut cut c in
           let more = halved-cut b f limit first (first + count) cut start step (size / 2) is (omega (arith, some)) (omega arith) h.reached (omega (arith, h.within)) c kept.0 (omega (arith, kept.1)) in
           (omega (arith, more.0, e), omega (arith, more.1, e));
+    }
+
+-- the bit of a token so many steps further, and that of where a search goes on
+pub bit-at : (first bit start step s : ℕ) → bit ≡ first + start * s → 0 < step → bit + step * s - s ≡ first + (start + step - 1) * s
+bit-at first bit start step s is some = by-one (step - 1) (omega (arith, some)) where
+  by-one : (m : ℕ) → step ≡ m + 1 → bit + step * s - s ≡ first + (start + step - 1) * s
+  by-one m e =
+      let whole : step * s ≡ m * s + s = ap (λ n. n * s) e ∙ omega arith in
+      let far : start + step - 1 ≡ start + m = omega (arith, e) in
+      let there : bit + (m * s + s) - s ≡ first + (start + m) * s = omega (arith, is) in
+      ap (λ n. bit + n - s) whole ∙ there ∙ sym (ap (λ n. first + n * s) far)
+
+pub bit-next : (less : Bool) (first bit start step s moved bits : ℕ) → bit ≡ first + start * s → moved ≡ (if less then step else 0) → bits ≡ (if less then step * s else 0)
+    → bit + bits ≡ first + (start + moved) * s
+bit-next true first bit start step s moved bits is m b = omega (arith, is, ap (λ n. n * s) m, b)
+bit-next false first bit start step s moved bits is m b = omega (arith, is, ap (λ n. n * s) m, b)
+
+-- what is found when none is left
+pub halved-found : (f : ℕ → ℕ) (limit first count start size before after : ℕ) → IsHalved f limit first count start size → after + binary_digits size ≡ before + binary_digits count
+    → binary_digits count ≤ 15 → size ≡ 0 → IsCutFound f limit first count before start after
+halved-found f limit first count start size before after h counted small none =
+    let last : binary_digits size ≡ 0 = ap binary_digits none in
+    record {
+      counted = omega (arith, counted, last);
+      few = omega (arith, counted, small);
+      reached = h.reached;
+      within = omega (arith, h.within);
+      cut = λ cut is. halved-all f limit first count start size cut h none is;
     }
 
 -- Blocks strictly between those of the first and of the last number, by a number that stands for each: the cut of these.

@@ -32,7 +32,8 @@ use Rattle.oxc_sourcemap_compiled.specs.declared.writing.blocks.Block.{Block}
 use Rattle.oxc_sourcemap_compiled.proofs.Parts.{LiesAt, lies-whole, lies-within}
 use Rattle.oxc_sourcemap_compiled.proofs.Parts.{lies-among}
 use Rattle.oxc_sourcemap_compiled.proofs.Digits.{first-small, token-read}
-use Rattle.oxc_sourcemap_compiled.proofs.Rows.{packing_at, packed-at, rows-lie, field-read}
+use Rattle.oxc_sourcemap_compiled.proofs.Rows.{packing_at, packed-at, spare_at, rows-lie}
+use Rattle.oxc_sourcemap_compiled.proofs.Rows.{field-read}
 use Rattle.oxc_sourcemap_compiled.proofs.Rows.{row-read}
 use Rattle.oxc_sourcemap_compiled.proofs.Blocks.{row-placed, field-placed}
 use Rattle.oxc_sourcemap_compiled.proofs.Groups.{bytes-below, bytes-before, bytes-within}
@@ -68,7 +69,7 @@ field-small (suc (suc (suc (suc k)))) t h = id-small t.name_id h.name_id
 
 -- ---- the values of a field
 -- a token of a block, by its index among all
-module _ (k : ℕ) (tokens : List TokenRecord) (i : ℕ) (p : Packing) (are : IsPacked k (block_tokens tokens (i / block_size (length tokens))) p) where
+module _ (k spare : ℕ) (tokens : List TokenRecord) (i : ℕ) (p : Packing) (are : IsPacked k spare (block_tokens tokens (i / block_size (length tokens))) p) where
   abbrev only : Bool
   only = nat_le (length tokens) 16384
 
@@ -110,8 +111,8 @@ one-fits : (tokens : List TokenRecord) (b : Block) (g n j : ℕ) → n < 8 → j
 one-fits tokens b g n j lt is are =
     let block = g / block_groups (length tokens) in
     let same : block ≡ (8 * g + n) / block_size (length tokens) = group-block (nat_le (length tokens) 16384) g n lt in
-    let packed = subst (λ k. IsPacked j (block_tokens tokens k) (packing_at j b)) same (packed-at j (block_tokens tokens block) b is are) in
-    above-small-by (nat_lt (8 * g + n) (length tokens)) j tokens (packing_at j b) (8 * g) n refl lt (λ less d. above-fits j tokens (8 * g + n) (packing_at j b) packed d less)
+    let packed = subst (λ k. IsPacked j (spare_at j) (block_tokens tokens k) (packing_at j b)) same (packed-at j (block_tokens tokens block) b is are) in
+    above-small-by (nat_lt (8 * g + n) (length tokens)) j tokens (packing_at j b) (8 * g) n refl lt (λ less d. above-fits j (spare_at j) tokens (8 * g + n) (packing_at j b) packed d less)
     (record { dst_line = 0; dst_col = 0; src_line = 0; src_col = 0; source_id = None; name_id = None })
 
 pub group-fits : (tokens : List TokenRecord) (b : Block) (g n : ℕ) → n < 8 → ArePacked (block_tokens tokens (g / block_groups (length tokens))) b → FieldsFit b (slice_get (take 8 (drop (8 * g) tokens)) n)
@@ -300,14 +301,14 @@ module _ (tokens : List TokenRecord) (blocks : List Block) (bytes : List ℕ) (h
     abbrev first : ℕ
     first = sum (take k (widths_of block))
 
-    fields-at : (j : ℕ) → j < 5 → IsPacked j (block_tokens tokens home) (packing_at j block)
+    fields-at : (j : ℕ) → j < 5 → IsPacked j (spare_at j) (block_tokens tokens home) (packing_at j block)
     fields-at j is = packed-at j (block_tokens tokens home) block is (are.each home no_block block-is)
 
-    fields : IsPacked k (block_tokens tokens home) packing
+    fields : IsPacked k (spare_at k) (block_tokens tokens home) packing
     fields = fields-at k is_field
 
     least-reached : packing.least ≤ number
-    least-reached = least-below k tokens i packing fields d there
+    least-reached = least-below k (spare_at k) tokens i packing fields d there
 
     small : number ≤ 4294967295
     small = field-small k (get_or tokens i d) (All-get_or IsInBounds tokens i d there bounds)
@@ -378,7 +379,7 @@ module _ (tokens : List TokenRecord) (blocks : List Block) (bytes : List ℕ) (h
         let s = 8 * (i / 8) in
         let same : home ≡ (s + n) / size one = group-again one i n lt in
         above-small-by (nat_lt (s + n) (length tokens)) j tokens (packing_at j block) s n refl lt
-        (λ less d. above-fits j tokens (s + n) (packing_at j block) (subst (λ b. IsPacked j (block_tokens tokens b) (packing_at j block)) same (fields-at j is)) d less) d
+        (λ less d. above-fits j (spare_at j) tokens (s + n) (packing_at j block) (subst (λ b. IsPacked j (spare_at j) (block_tokens tokens b) (packing_at j block)) same (fields-at j is)) d less) d
 
     values-small : (n : ℕ) → n < 8 → FieldsFit block (slice_get group n)
     values-small n lt = record {

@@ -51,22 +51,22 @@ field_number (suc (suc (suc zero))) t = t.src_col
 field_number (suc (suc (suc (suc k)))) t = id_number t.name_id
 
 -- How a field of these tokens is written: from each value the least one is taken, which one of the tokens has, and what is left
--- fits into the bits of the width, which are no more than one of the tokens needs.
-pub record IsPacked (k : ℕ) (tokens : List TokenRecord) (p : Packing) : Type 0 where
+-- fits into the bits of the width, which are no more than one of the tokens needs, and so many to spare.
+pub record IsPacked (k spare : ℕ) (tokens : List TokenRecord) (p : Packing) : Type 0 where
   pub width : p.width ≤ 32
   pub least : (i : ℕ) (d : TokenRecord) → i < length tokens → p.least ≤ field_number k (get_or tokens i d)
   pub fits : (i : ℕ) (d : TokenRecord) → i < length tokens → field_number k (get_or tokens i d) - p.least < 2 ^ p.width
   pub reached : (d : TokenRecord) → (i : ℕ) × (i < length tokens) × (p.least ≡ field_number k (get_or tokens i d))
-  pub needed : 0 < p.width → (d : TokenRecord)
-      → (i : ℕ) × (i < length tokens) × (2 ^ (p.width - 1) ≤ field_number k (get_or tokens i d) - p.least)
+  pub needed : spare < p.width → (d : TokenRecord)
+      → (i : ℕ) × (i < length tokens) × (2 ^ (p.width - spare - 1) ≤ field_number k (get_or tokens i d) - p.least)
 
--- how all fields of these tokens are written
+-- How all fields of these tokens are written: the last one may have some bits to spare, so that a token has whole bytes.
 pub record ArePacked (tokens : List TokenRecord) (b : Block) : Type 0 where
-  pub column : IsPacked 0 tokens b.column
-  pub source : IsPacked 1 tokens b.source
-  pub src_line : IsPacked 2 tokens b.src_line
-  pub src_col : IsPacked 3 tokens b.src_col
-  pub name : IsPacked 4 tokens b.name
+  pub column : IsPacked 0 0 tokens b.column
+  pub source : IsPacked 1 0 tokens b.source
+  pub src_line : IsPacked 2 0 tokens b.src_line
+  pub src_col : IsPacked 3 0 tokens b.src_col
+  pub name : IsPacked 4 4 tokens b.name
 
 -- the tokens of a block, by its number
 abbrev pub block_tokens : List TokenRecord → ℕ → List TokenRecord

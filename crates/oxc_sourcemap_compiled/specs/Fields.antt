@@ -1,7 +1,7 @@
 -- The values of fields of tokens. Tokens stand in blocks, one after the other, and each field of a token behind that before it, bit by bit:
 -- in as many bits as the width of the field in that block. So eight tokens take a whole number of bytes, the sum of the widths.
 use Rattle.std.specs.Prelude.{ℕ, zero, suc, ◌+◌, ◌*◌, ◌/◌, ◌%◌, ◌^◌, ◌≤◌, List, take, drop, get_or}
-use Rattle.std.specs.Prelude.{Bool, min, sum, nat_le, if◌then◌else◌}
+use Rattle.std.specs.Prelude.{◌≡◌, Bool, min, sum, nat_le, if◌then◌else◌}
 use Rattle.oxc_sourcemap_compiled.specs.Numbers.{number_at}
 use Rattle.oxc_sourcemap_compiled.specs.Layout.{rows_base, groups_base, block_size, groups_in}
 use Rattle.oxc_sourcemap_compiled.specs.declared.fields.Field.{Field}
@@ -13,10 +13,11 @@ pub record IsField (stride : ℕ) (f : Field) : Type 0 where
   pub width : f.width ≤ 32
   pub within : f.first + f.width ≤ stride
 
--- a block that is read: its fields are such, and its places are numbers that a machine can add
+-- a block that is read: its fields are such, columns first, and its places are numbers that a machine can add
 pub record IsRow (row : Row) : Type 0 where
   pub at : row.at ≤ 1099511627776
   pub stride : row.stride ≤ 1275
+  pub front : row.column.first ≡ 0
   pub column : IsField row.stride row.column
   pub source : IsField row.stride row.source
   pub src_line : IsField row.stride row.src_line

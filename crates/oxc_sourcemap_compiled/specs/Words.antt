@@ -14,7 +14,7 @@ pub use Rattle.oxc_sourcemap_compiled.specs.Compiled.{stored_count, text_offset,
 pub use Rattle.oxc_sourcemap_compiled.specs.Compiled.{parts_bytes, header_of_map, AreBytesOf}
 pub use Rattle.oxc_sourcemap_compiled.specs.Compiled.{listed_table, content_at, compiled_length}
 pub use Rattle.oxc_sourcemap_compiled.specs.Stored.{stored_bytes}
-pub use Rattle.oxc_sourcemap_compiled.specs.Cuts.{IsCut, DoNotFall}
+pub use Rattle.oxc_sourcemap_compiled.specs.Cuts.{IsCut, IsCutFound, DoNotFall}
 pub use Rattle.oxc_sourcemap_compiled.specs.Decompiled.{checked_texts, checked_contents}
 pub use Rattle.oxc_sourcemap_compiled.specs.Decompiled.{checked_text, checked_map, is_optional_utf8}
 pub use Rattle.oxc_sourcemap_compiled.specs.Decompiled.{DoLinesFollow, DoTextsFollow, DoesNotGoBack}

@@ -67,7 +67,7 @@ impl Field {
 
     /// The value in a word, from a bit on.
     #[inline(always)]
-    fn value(self, word: u64, from: usize) -> u32
+    pub(crate) fn value(self, word: u64, from: usize) -> u32
         requires from { from ≤ 63 }
         requires field { self.width ≤ 32 }
         ensures { result ≡ (self.least + word / 2 ^ from % 2 ^ self.width) % 2 ^ 32 }

@@ -65,6 +65,7 @@ fn width_before(widths: &[u8], k: usize) -> usize
     requires five { length widths.now ≡ 5 }
     requires few { k < 5 }
     ensures value { result ≡ sum (take k widths.now) }
+    ensures front { k ≡ 0 → result ≡ 0 }
     ensures small { result ≤ 1020 }
 {
     let one = usize::from(widths[0]);
@@ -98,6 +99,7 @@ fn read_field(bytes: &[u8], header: &Header, layout: &Layout, b: usize, k: usize
     requires there { row_base header.now b + 29 ≤ length bytes.now }
     requires few { k < 5 }
     ensures field { IsField (sum (widths_in bytes.now header.now b)) result }
+    ensures front { k ≡ 0 → result.first ≡ 0 }
     ensures value { result ≡ field_in bytes.now header.now b k }
 {
     let row = layout.rows + 29 * b;

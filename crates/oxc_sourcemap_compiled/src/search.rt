@@ -1,8 +1,9 @@
 //! Searches by halving: of a line, of a block, and of a token in a block. `steps` counts the numbers that are compared.
-ghost use Rattle.std.specs.Prelude.{◌≡◌, ◌+◌, ◌*◌, ◌/◌, ◌≤◌, ◌<◌, ℕ, true, nat_lt, if◌then◌else◌};
+ghost use Rattle.std.specs.Prelude.{◌≡◌, ◌+◌, ◌*◌, ◌/◌, ◌%◌, ◌≤◌, ◌<◌, ℕ, true, nat_lt};
+ghost use Rattle.std.specs.Prelude.{if◌then◌else◌};
 ghost use Rattle.std.specs.Prelude.{IfSome, IsNone, ◌≢◌, slice_get, length};
 ghost use Rattle.oxc_sourcemap_compiled.specs.Words.{IsOpened, IsSearchIn, IsRow, HasRoom};
-ghost use Rattle.oxc_sourcemap_compiled.specs.Words.{IsCut, DoNotFall};
+ghost use Rattle.oxc_sourcemap_compiled.specs.Words.{IsCut, IsCutFound, DoNotFall};
 ghost use Rattle.oxc_sourcemap_compiled.specs.Words.{AreRowsExact};
 ghost use Rattle.oxc_sourcemap_compiled.specs.Words.{value_in, column_of, least_column_of};
 ghost use Rattle.oxc_sourcemap_compiled.specs.Words.{block_count};
@@ -12,6 +13,7 @@ ghost use Rattle.oxc_sourcemap_lookup.specs.Words.{binary_digits};
 ghost use Rattle.std.specs.Prelude.{◌-◌};
 
 use crate::fields::Row;
+use crate::numbers::u64_at;
 use crate::opened::{Opened, ReadBlock, Search};
 use oxc_sourcemap_tokens::Token;
 
@@ -41,24 +43,60 @@ fn step_if_less(x: u32, y: u64, count: usize, steps: &mut u64) -> usize
 }
 
 impl Row {
-    /// Where columns stop being below `limit`, among `count` tokens of the block from `first` on.
+    /// As `cut`, where a token has whole bytes.
     #[inline(always)]
-    fn cut(&self, bytes: &[u8], first: usize, count: usize, limit: u64, steps: &mut u64) -> usize
+    fn cut_by_bytes(
+        &self,
+        bytes: &[u8],
+        first: usize,
+        count: usize,
+        limit: u64,
+        steps: &mut u64,
+    ) -> usize
+        requires whole { self.now.stride % 8 ≡ 0 }
         requires row { IsRow self.now }
         requires there { first + count ≤ 16384 }
         requires room { HasRoom (length bytes.now) self.now (first + count) }
         requires few { steps.old ≤ 65535 }
-        ensures counted { steps.new ≡ steps.old + binary_digits count }
-        ensures few { steps.new ≤ steps.old + 15 }
-        ensures reached { first ≤ result }
-        ensures within { result ≤ first + count }
-        ensures cut { (cut : ℕ)
-            → IsCut (value_in bytes.now self.now self.now.column) limit first (first + count) cut
-            → result ≡ cut }
+        ensures { IsCutFound (value_in bytes.now self.now self.now.column) limit first count
+            steps.old result steps.new }
+    {
+        let each = self.stride / 8;
+        let mut start = first;
+        let mut at = self.at + first * each;
+        let mut size = count;
+        while size > 0 {
+            let half = size / 2;
+            let step = size - half;
+            let further = step * each;
+            let value = self.column.value(u64_at(bytes, at + further - each), 0);
+            start += step_if_less(value, limit, step, steps);
+            at += count_if_less(value, limit, further);
+            size = half;
+        }
+        start
+    }
+
+    /// As `cut`, whatever bits a token has.
+    #[inline(always)]
+    fn cut_by_bits(
+        &self,
+        bytes: &[u8],
+        first: usize,
+        count: usize,
+        limit: u64,
+        steps: &mut u64,
+    ) -> usize
+        requires row { IsRow self.now }
+        requires there { first + count ≤ 16384 }
+        requires room { HasRoom (length bytes.now) self.now (first + count) }
+        requires few { steps.old ≤ 65535 }
+        ensures { IsCutFound (value_in bytes.now self.now self.now.column) limit first count
+            steps.old result steps.new }
     {
         let bits = self.stride;
         let mut start = first;
-        let mut bit = self.column.first + first * bits;
+        let mut bit = first * bits;
         let mut size = count;
         while size > 0 {
             let half = size / 2;
@@ -70,6 +108,23 @@ impl Row {
             size = half;
         }
         start
+    }
+
+    /// Where columns stop being below `limit`, among `count` tokens of the block from `first` on.
+    #[inline(always)]
+    fn cut(&self, bytes: &[u8], first: usize, count: usize, limit: u64, steps: &mut u64) -> usize
+        requires row { IsRow self.now }
+        requires there { first + count ≤ 16384 }
+        requires room { HasRoom (length bytes.now) self.now (first + count) }
+        requires few { steps.old ≤ 65535 }
+        ensures { IsCutFound (value_in bytes.now self.now self.now.column) limit first count
+            steps.old result steps.new }
+    {
+        if self.stride % 8 == 0 {
+            self.cut_by_bytes(bytes, first, count, limit, steps)
+        } else {
+            self.cut_by_bits(bytes, first, count, limit, steps)
+        }
     }
 }
 
@@ -179,7 +234,8 @@ impl<'a> Opened<'a> {
         let stop = (base + 64).min(end) - base;
         let row = self.row(block);
         search.read = Some(ReadBlock { row, base });
-        base + row.cut(self.bytes, start, stop - start, limit, &mut search.steps)
+        let count = stop - start;
+        base + row.cut_by_bits(self.bytes, start, count, limit, &mut search.steps)
     }
 
     /// Where the numbers of lines stop being below `line`.

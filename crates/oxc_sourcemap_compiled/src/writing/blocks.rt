@@ -110,7 +110,7 @@ fn width_of(most: u32) -> u8
 fn packing_of(tokens: &[Token], k: usize) -> Packing
     requires field { k < 5 }
     requires some { 0 < length tokens.now }
-    ensures { IsPacked k tokens.now result }
+    ensures { IsPacked k 0 tokens.now result }
 {
     let mut least = field_of(&tokens[0], k);
     let mut most = least;
@@ -128,7 +128,8 @@ fn packing_of(tokens: &[Token], k: usize) -> Packing
 /// How the fields of these tokens are written.
 fn block_of(tokens: &[Token]) -> Block
     requires { 0 < length tokens.now }
-    ensures { ArePacked tokens.now result }
+    ensures packed { ArePacked tokens.now result }
+    ensures name { IsPacked 4 0 tokens.now result.name }
 {
     Block {
         column: packing_of(tokens, 0),
@@ -136,6 +137,38 @@ fn block_of(tokens: &[Token]) -> Block
         src_line: packing_of(tokens, 2),
         src_col: packing_of(tokens, 3),
         name: packing_of(tokens, 4),
+    }
+}
+
+/// A field with some bits more.
+fn widened(packing: Packing, bits: usize) -> Packing
+    requires { packing.width + bits ≤ 32 }
+    ensures least { result.least ≡ packing.least }
+    ensures width { result.width ≡ packing.width + bits }
+{
+    Packing {
+        least: packing.least,
+        width: packing.width + bits as u8,
+    }
+}
+
+/// How the fields of these tokens are written. In the only block of a map names may have up to four bits to spare, so that a token
+/// has whole bytes, which are found in fewer instructions.
+fn block_among(tokens: &[Token], is_only: bool) -> Block
+    requires { 0 < length tokens.now }
+    ensures { ArePacked tokens.now result }
+{
+    let block = block_of(tokens);
+    let spare = 7 - (stride(&block) + 7) % 8;
+    if !is_only || spare > 4 || usize::from(block.name.width) + spare > 32 {
+        return block;
+    }
+    Block {
+        column: block.column,
+        source: block.source,
+        src_line: block.src_line,
+        src_col: block.src_col,
+        name: widened(block.name, spare),
     }
 }
 
@@ -149,7 +182,7 @@ pub(crate) fn blocks_of(alloc: Global, tokens: &[Token]) -> Memory<Vec<Block>>
     let mut blocks = Vec::with_capacity(alloc, count)?;
     for b in 0..count {
         let end = (size * b + size).min(tokens.len());
-        blocks.push(block_of(&tokens[size * b..end]))?;
+        blocks.push(block_among(&tokens[size * b..end], size > 64))?;
     }
     Ok(blocks)
 }

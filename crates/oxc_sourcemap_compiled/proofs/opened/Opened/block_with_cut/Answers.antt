@@ -5,7 +5,9 @@ use Rattle.oxc_sourcemap_compiled.proofs.Comparisons.{two-halvings}
 use Rattle.oxc_sourcemap_compiled.proofs.Searches.{inner-cut, past-cut}
 use Rattle.oxc_sourcemap_compiled.proofs.Sizes.{exact-of-many}
 use Rattle.oxc_sourcemap_compiled.proofs.opened.Opened.block_with_cut.Goals.{}
+use Rattle.oxc_sourcemap_compiled.proofs.opened.Opened.block_with_cut.Goals.{}
 use Rattle.oxc_sourcemap_compiled.proofs.opened.Opened.block_with_cut.Goals.{else-block-last-via-then-block-last+else-from-limit}
+use Rattle.oxc_sourcemap_compiled.proofs.opened.Opened.block_with_cut.Goals.{}
 use Rattle.oxc_sourcemap_compiled.proofs.opened.Opened.block_with_cut.Goals.{}
 use Rattle.oxc_sourcemap_compiled.proofs.opened.Opened.block_with_cut.Goals.{else-block-last-via-else-block-last}
 use Rattle.oxc_sourcemap_compiled.proofs.opened.Opened.block_with_cut.Goals as goal

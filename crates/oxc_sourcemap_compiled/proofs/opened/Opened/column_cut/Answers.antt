@@ -32,4 +32,4 @@ returns-clause-cut c = λ exact rise cut is.
     let made = block-cut f g limit first end cut base is found.0 found.1 (omega (arith, c.block_with_cut-block.ensures.reached)) c.block_with_cut-block.ensures.within same in
     let started = subst (λ m. IsCut g limit (m - base) (m - base + (min (base + 64) end - base - (m - base))) (cut - base)) (sym c.max.ensures) made in
     let stopped = subst (λ m. IsCut g limit (c.max.result - base) (c.max.result - base + (m - base - (c.max.result - base))) (cut - base)) (sym c.min.ensures) started in
-    omega (arith, c.cut-2.ensures.cut (cut - base) stopped, found.0)
+    omega (arith, c.cut_by_bits.ensures.cut (cut - base) stopped, found.0)

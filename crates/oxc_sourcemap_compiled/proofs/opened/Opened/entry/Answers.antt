@@ -4,7 +4,9 @@ use Rattle.oxc_sourcemap_compiled.specs.Words.{number_in_list}
 use Rattle.oxc_sourcemap_compiled.proofs.Searches.{own-cut}
 use Rattle.oxc_sourcemap_compiled.proofs.Blocks.{line_in-listed}
 use Rattle.oxc_sourcemap_compiled.proofs.opened.Opened.entry.Goals.{}
+use Rattle.oxc_sourcemap_compiled.proofs.opened.Opened.entry.Goals.{}
 use Rattle.oxc_sourcemap_compiled.proofs.opened.Opened.entry.Goals.{else-k-lines-2-via-then-k-lines-2+else-line_number-line}
+use Rattle.oxc_sourcemap_compiled.proofs.opened.Opened.entry.Goals.{}
 use Rattle.oxc_sourcemap_compiled.proofs.opened.Opened.entry.Goals.{}
 use Rattle.oxc_sourcemap_compiled.proofs.opened.Opened.entry.Goals.{else-k-lines-2-via-else-k-lines-2}
 use Rattle.oxc_sourcemap_compiled.proofs.opened.Opened.entry.Goals as goal

@@ -11,13 +11,13 @@ loop-b-preserved c =
     let b = c.loop-b.b in
     let h = c.loop-b.invariant in
     let old = c.loop-b.blocks.items in
-    let made = c.block_of.result in
+    let made = c.block_among.result in
     let items = c.push.new.self.items in
     let pushed : items ≡ old ++ made ∷ [] = c.in_ok-push.ensures.items in
     let size = 8 * c.groups_in_block-size.result in
     let size_is : size ≡ block_size (length tokens) = ap (λ n. 8 * n) c.groups_in_block-size.ensures.value in
     let part = part-is tokens (size * b) size c.min-end.result c.min-end.ensures ∙ ap (λ n. take n (drop (n * b) tokens)) size_is in
-    let fits : ArePacked (block_tokens tokens b) made = subst (λ ts. ArePacked ts made) part c.block_of.ensures in
+    let fits : ArePacked (block_tokens tokens b) made = subst (λ ts. ArePacked ts made) part c.block_among.ensures in
     record {
       count = omega (arith, ap length pushed, length-append old (made ∷ []), h.count);
       each = λ k d lt. up-to (λ k. ArePacked (block_tokens tokens k) (get_or items k d)) b k

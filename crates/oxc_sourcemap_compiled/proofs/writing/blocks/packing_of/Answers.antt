@@ -1,4 +1,5 @@
-use Rattle.std.proofs.Common.{◌≡◌, ◌≤◌, length, get_or, nat_lt, refl, ap, ◌∙◌, sym, arith, ⊎_elim}
+use Rattle.std.proofs.Common.{◌-◌, ◌^◌, ◌≡◌, ◌≤◌, length, get_or, nat_lt, refl, ap, ◌∙◌, sym, arith}
+use Rattle.std.proofs.Common.{⊎_elim}
 use Rattle.std.proofs.lemmas.List.{get_or_default}
 use Rattle.oxc_sourcemap_tokens.specs.Token.{TokenRecord}
 use Rattle.oxc_sourcemap_compiled.specs.Words.{field_number}
@@ -42,5 +43,6 @@ returns c =
       reached = h.reached;
       needed = λ some d.
           let top = h.highest d in
-          (top.0, top.1, omega (arith, c.width_of.ensures.needed some, top.2));
+          let none : c.width_of.result - 0 - 1 ≡ c.width_of.result - 1 = omega arith in
+          (top.0, top.1, omega (arith, c.width_of.ensures.needed some, top.2, ap (λ n. 2 ^ n) none));
     }

@@ -5,6 +5,7 @@ use Rattle.std.proofs.lemmas.Grind.{common_steps}
 use Rattle.oxc_sourcemap_tokens.specs.Token.{TokenRecord}
 use Rattle.oxc_sourcemap_compiled.proofs.Listings.{IsListing, listing-push, listing-skip}
 use Rattle.oxc_sourcemap_compiled.proofs.writing.lines.filled_lines.Goals.{}
+use Rattle.oxc_sourcemap_compiled.proofs.writing.lines.filled_lines.Goals.{}
 use Rattle.oxc_sourcemap_compiled.proofs.writing.lines.filled_lines.Goals.{then-from-next+in_ok-push}
 use Rattle.oxc_sourcemap_compiled.proofs.writing.lines.filled_lines.Goals.{else-from-next}
 use Rattle.oxc_sourcemap_compiled.proofs.writing.lines.filled_lines.Goals as goal

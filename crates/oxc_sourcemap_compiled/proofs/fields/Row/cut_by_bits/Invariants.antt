@@ -2,7 +2,7 @@ use Rattle.std.proofs.Common.{◌≡◌, ◌≤◌, ◌+◌, ◌*◌}
 use Rattle.oxc_sourcemap_lookup.specs.Digits.{binary_digits}
 use Rattle.oxc_sourcemap_compiled.specs.Words.{value_in}
 use Rattle.oxc_sourcemap_compiled.proofs.Searches.{IsHalved}
-use Rattle.oxc_sourcemap_compiled.proofs.fields.Row.cut.Given as goal
+use Rattle.oxc_sourcemap_compiled.proofs.fields.Row.cut_by_bits.Given as goal
 
 abbrev pub invariant-loop-size : goal.invariant-loop-size
 invariant-loop-size l = record {

@@ -1,27 +1,13 @@
 use Rattle.std.proofs.lemmas.Nat.{mul-le}
-use Rattle.std.proofs.Common.{◌≡◌, ℕ, ◌+◌, ◌-◌, ◌*◌, ◌/◌, ◌<◌, ◌≤◌, Bool, true, false, nat_lt}
+use Rattle.std.proofs.Common.{◌≡◌, ℕ, ◌+◌, ◌-◌, ◌*◌, ◌/◌, ◌<◌, ◌≤◌, nat_lt}
 use Rattle.std.proofs.Common.{arith}
 use Rattle.std.proofs.Common.{refl}
-use Rattle.std.proofs.Common.{sym, ap, ◌∙◌, if◌then◌else◌}
+use Rattle.std.proofs.Common.{ap, ◌∙◌, if◌then◌else◌}
 use Rattle.oxc_sourcemap_lookup.proofs.Halving.{digits-half, digits-below}
 use Rattle.oxc_sourcemap_compiled.specs.Words.{value_at, value_in}
-use Rattle.oxc_sourcemap_compiled.proofs.Searches.{halved-none, halved-more, halved-all}
-use Rattle.oxc_sourcemap_compiled.proofs.fields.Row.cut.Goals as goal
-
--- the bit of a token so many steps further, and that of where a search goes on
-bit-at : (first bit start step s : ℕ) → bit ≡ first + start * s → 0 < step → bit + step * s - s ≡ first + (start + step - 1) * s
-bit-at first bit start step s is some = by-one (step - 1) (omega (arith, some)) where
-  by-one : (m : ℕ) → step ≡ m + 1 → bit + step * s - s ≡ first + (start + step - 1) * s
-  by-one m e =
-      let whole : step * s ≡ m * s + s = ap (λ n. n * s) e ∙ omega arith in
-      let far : start + step - 1 ≡ start + m = omega (arith, e) in
-      let there : bit + (m * s + s) - s ≡ first + (start + m) * s = omega (arith, is) in
-      ap (λ n. bit + n - s) whole ∙ there ∙ sym (ap (λ n. first + n * s) far)
-
-bit-next : (less : Bool) (first bit start step s moved bits : ℕ) → bit ≡ first + start * s → moved ≡ (if less then step else 0) → bits ≡ (if less then step * s else 0)
-    → bit + bits ≡ first + (start + moved) * s
-bit-next true first bit start step s moved bits is m b = omega (arith, is, ap (λ n. n * s) m, b)
-bit-next false first bit start step s moved bits is m b = omega (arith, is, ap (λ n. n * s) m, b)
+use Rattle.oxc_sourcemap_compiled.proofs.Searches.{halved-none, halved-more, halved-found}
+use Rattle.oxc_sourcemap_compiled.proofs.Searches.{bit-at, bit-next}
+use Rattle.oxc_sourcemap_compiled.proofs.fields.Row.cut_by_bits.Goals as goal
 
 pub loop-size-init : goal.loop-size-init
 loop-size-init c = record {
@@ -29,7 +15,7 @@ loop-size-init c = record {
   counted = refl;
   small = digits-below 15 c.args.count (omega (arith, c.requires.there));
   few = c.requires.few;
-  bit = refl;
+  bit = omega (arith, c.requires.row.front);
 }
 
 pub loop-size-preserved : goal.loop-size-preserved
@@ -69,5 +55,8 @@ value_at-value-requires-clause-there c =
     let within : (last + 1) * s ≤ (c.args.first + c.args.count) * s = mul-le (last + 1) s (c.args.first + c.args.count) s (omega (arith, c.loop-size.invariant.halved.within, some)) (omega arith) in
     omega (arith, at, whole, within, c.requires.row.column.within, c.requires.room)
 
-pub returns-clause-cut : goal.returns-clause-cut
-returns-clause-cut c = λ cut is. halved-all (value_in c.args.bytes.now c.args.self.now c.args.self.now.column) c.args.limit c.args.first c.args.count c.loop-size.start c.loop-size.size cut c.loop-size.invariant.halved (omega (arith, c.loop-size-test.false)) is
+pub returns : goal.returns
+returns c =
+    let h = c.loop-size.invariant in
+    halved-found (value_in c.args.bytes.now c.args.self.now c.args.self.now.column) c.args.limit c.args.first c.args.count c.loop-size.start c.loop-size.size c.args.steps.now c.loop-size.steps h.halved h.counted h.small
+    (omega (arith, c.loop-size-test.false))

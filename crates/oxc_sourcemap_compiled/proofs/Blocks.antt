@@ -1,7 +1,7 @@
 -- Fields and rows of blocks.
 use Rattle.std.proofs.Common.{◌≡◌, ℕ, zero, suc, ◌<◌, ap, ◌∙◌, List, true, false, refl, arith}
 use Rattle.oxc_sourcemap_compiled.specs.Fields.{row_in, is_placed, placed_row, empty_row}
-use Rattle.oxc_sourcemap_compiled.specs.Fields.{field_in, field_of}
+use Rattle.oxc_sourcemap_compiled.specs.Fields.{field_in, row_field}
 use Rattle.oxc_sourcemap_compiled.specs.declared.fields.Row.{Row}
 use Rattle.oxc_sourcemap_compiled.specs.declared.layout.Header.{Header}
 use Rattle.oxc_sourcemap_compiled.specs.CompiledMeaning.{line_in, number_in_list}
@@ -35,7 +35,7 @@ unfolding row_in
 row-empty bytes h b e = rw e refl
 
 -- the fields of a row that is placed, by their numbers
-pub field-placed : (k : ℕ) (bytes : List ℕ) (h : Header) (b : ℕ) → k < 5 → field_of k (placed_row bytes h b) ≡ field_in bytes h b k
+pub field-placed : (k : ℕ) (bytes : List ℕ) (h : Header) (b : ℕ) → k < 5 → row_field k (placed_row bytes h b) ≡ field_in bytes h b k
 field-placed zero bytes h b lt = refl
 field-placed (suc zero) bytes h b lt = refl
 field-placed (suc (suc zero)) bytes h b lt = refl

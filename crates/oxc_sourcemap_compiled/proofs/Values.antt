@@ -22,7 +22,7 @@ use Rattle.oxc_sourcemap_compiled.specs.Numbers.{number_at}
 use Rattle.oxc_sourcemap_compiled.specs.Layout.{rows_base, groups_base, block_groups, block_size}
 use Rattle.oxc_sourcemap_compiled.specs.Layout.{groups_in}
 use Rattle.oxc_sourcemap_compiled.specs.Fields.{value_at, value_in, value_of, field_in, row_in}
-use Rattle.oxc_sourcemap_compiled.specs.Fields.{row_base, field_of, is_placed, placed_row}
+use Rattle.oxc_sourcemap_compiled.specs.Fields.{row_base, row_field, is_placed, placed_row}
 use Rattle.oxc_sourcemap_compiled.specs.Fields.{widths_in}
 use Rattle.oxc_sourcemap_compiled.specs.declared.fields.Field.{Field}
 use Rattle.oxc_sourcemap_compiled.specs.declared.fields.Row.{Row}
@@ -239,7 +239,7 @@ module _ (b : Block) (ts : List TokenRecord) (at : ℕ) (bytes : List ℕ) (fit 
 
 -- the value of a field of a row, by its number
 abbrev value_by : List ℕ → ℕ → Row → ℕ → ℕ
-value_by bytes k row j = value_in bytes row (field_of k row) j
+value_by bytes k row j = value_in bytes row (row_field k row) j
 
 is-within : (a b n : ℕ) → a + b ≤ n → nat_le (a + b) n ≡ true
 is-within a b n le = grind (arith, le)

@@ -79,10 +79,7 @@ pub record AreBlocksOf (tokens : List TokenRecord) (blocks : List Block) : Type 
   pub count : length blocks ≡ blocks_for (length tokens)
   pub each : (b : ℕ) (d : Block) → b < length blocks → ArePacked (block_tokens tokens b) (get_or blocks b d)
 
--- how the fields of a block are written, in the order of their numbers
-abbrev pub packings : Block → List Packing
-packings b = b.column ∷ b.source ∷ b.src_line ∷ b.src_col ∷ b.name ∷ []
-
+-- in how many bits the fields of a block are written, in the order of their numbers
 abbrev pub widths_of : Block → List ℕ
 widths_of b = b.column.width ∷ b.source.width ∷ b.src_line.width ∷ b.src_col.width ∷ b.name.width ∷ []
 

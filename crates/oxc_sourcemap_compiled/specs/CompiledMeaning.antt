@@ -80,7 +80,8 @@ offset_in bytes h t = number_at 4 bytes (offsets_base h + 4 * t)
 unfoldable pub part_between : List ℕ → ℕ → ℕ → Option Text
 part_between all start end = if nat_le start end && nat_le end (length all) then Some (take (end - start) (drop start all)) else None
 
--- a text by its number among all: sources, then contents, names, file, source root and debug id
+-- A text by its number among all: sources, then contents, names, file, source root and debug id. Bytes that `compile` did not make may
+-- have texts that go on into the last sixteen bytes.
 abbrev pub text_in : List ℕ → Header → ℕ → Option Text
 text_in bytes h t = part_between (drop (texts_base h) bytes) (offset_in bytes h t) (offset_in bytes h (t + 1))
 

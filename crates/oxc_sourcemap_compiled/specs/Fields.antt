@@ -24,7 +24,7 @@ pub record IsRow (row : Row) : Type 0 where
   pub src_col : IsField row.stride row.src_col
   pub name : IsField row.stride row.name
 
--- the first tokens of a block, so many, lie within so many bytes, with eight more behind them
+-- the first tokens of a block, so many, lie within so many bytes, with eight more from the byte on in which they end
 abbrev pub HasRoom : ℕ → Row → ℕ → Type 0
 HasRoom size row count = row.at + count * row.stride / 8 + 8 ≤ size
 
@@ -54,11 +54,11 @@ field_in bytes h b k =
       width = min (get_or widths k 0) 32;
     }
 
--- whether the groups of a block lie among those of all blocks
+-- whether the groups of a block lie within the bytes of all groups
 abbrev pub is_placed : List ℕ → Header → ℕ → Bool
 is_placed bytes h b = nat_le (number_at 4 bytes (row_base h b) + groups_in h b * sum (widths_in bytes h b)) h.group_bytes
 
--- how such a block is read: where it lies, how many bits a token has, and its five fields
+-- how a block is read that does: where it lies, how many bits a token has, and its five fields
 abbrev pub placed_row : List ℕ → Header → ℕ → Row
 placed_row bytes h b = record {
   at = groups_base h + number_at 4 bytes (row_base h b);
@@ -70,27 +70,27 @@ placed_row bytes h b = record {
   name = field_in bytes h b 4;
 }
 
--- that of tokens without bits, whose fields are all 0
+-- how a block is read whose tokens have no bits, so that all their fields are 0
 abbrev pub empty_field : Field
 empty_field = record { least = 0; first = 0; width = 0 }
 
 abbrev pub empty_row : Row
 empty_row = record { at = 0; stride = 0; column = empty_field; source = empty_field; src_line = empty_field; src_col = empty_field; name = empty_field }
 
--- how a block is read; if its groups do not lie among those of all, all fields of its tokens are 0
+-- how a block is read: one whose groups do not lie within the bytes of all groups as one whose fields are all 0
 unfoldable pub row_in : List ℕ → Header → ℕ → Row
 row_in bytes h b = if is_placed bytes h b then placed_row bytes h b else empty_row
 
 -- the field of this number in a row
-abbrev pub field_of : ℕ → Row → Field
-field_of zero row = row.column
-field_of (suc zero) row = row.source
-field_of (suc (suc zero)) row = row.src_line
-field_of (suc (suc (suc zero))) row = row.src_col
-field_of (suc (suc (suc (suc k)))) row = row.name
+abbrev pub row_field : ℕ → Row → Field
+row_field zero row = row.column
+row_field (suc zero) row = row.source
+row_field (suc (suc zero)) row = row.src_line
+row_field (suc (suc (suc zero))) row = row.src_col
+row_field (suc (suc (suc (suc k)))) row = row.name
 
 -- the value of a field of a token, by the number of the field and the index of the token
 abbrev pub value_of : List ℕ → Header → ℕ → ℕ → ℕ
 value_of bytes h k i =
     let row = row_in bytes h (i / block_size h.tokens) in
-    value_in bytes row (field_of k row) (i % block_size h.tokens)
+    value_in bytes row (row_field k row) (i % block_size h.tokens)

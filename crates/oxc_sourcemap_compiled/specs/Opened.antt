@@ -7,8 +7,8 @@ use Rattle.oxc_sourcemap_compiled.specs.declared.opened.Search.{Search}
 use Rattle.oxc_sourcemap_compiled.specs.Layout.{header_in, HasParts, layout_in, groups_in}
 use Rattle.oxc_sourcemap_compiled.specs.Fields.{row_in, IsRow, HasRoom}
 
--- The layout is that of the header, the parts lie within the bytes, and the row is that of the first block, if there is one, whose
--- tokens are there.
+-- The layout is that of the header, the parts lie within the bytes, and the row is that of the first block, whose tokens are there. (If
+-- there are no tokens, it is that of what lies in its place.)
 pub record IsOpened (o : Opened) : Type 0 where
   pub header : o.header ≡ header_in o.bytes.now
   pub layout : o.layout ≡ layout_in o.header
@@ -26,7 +26,7 @@ pub record IsReadBlock (bytes : List ℕ) (h : Header) (block : ReadBlock) : Typ
   pub fields : IsRow block.row
   pub room : HasRoom (length bytes) block.row (8 * groups_in h number)
 
--- what a search in bytes that are opened has kept: it compared at most so many numbers, and a block that it read, if any, is one of these
+-- A search in bytes that are opened: it has compared at most so many numbers, and the block that it keeps, if any, is one of theirs.
 pub record IsSearchIn (o : Opened) (most : ℕ) (search : Search) : Type 0 where
   pub opened : IsOpened o
   pub few : search.steps ≤ most

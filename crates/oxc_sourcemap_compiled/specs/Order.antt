@@ -24,7 +24,7 @@ column_of bytes h i = value_of bytes h 0 i
 abbrev pub columns_in : List ℕ → Header → ℕ → ℕ → List ℕ
 columns_in bytes h first count = map (column_of bytes h) (range_with_len first count)
 
--- the least column that the row of a block has
+-- the least column that the bytes of a block's row have, whether its groups lie within those of all or not
 abbrev pub least_column_of : List ℕ → Header → ℕ → ℕ
 least_column_of bytes h b = number_at 4 bytes (row_base h b + 4)
 
@@ -34,8 +34,9 @@ AreRowsExact bytes h = (b : ℕ) → b < block_count h
     → ((i : ℕ) → i < h.tokens → i / block_size h.tokens ≡ b → column_of bytes h (block_size h.tokens * b) ≤ column_of bytes h i)
     → least_column_of bytes h b ≡ column_of bytes h (block_size h.tokens * b)
 
--- Lines begin where those before them end, their numbers rise, no column goes back on a line, and rows are exact. All of it can be
--- computed from the bytes; it holds of what `compile` makes.
+-- The first line begins at the first token, none begins before the one in front of it, and the last ends with the last token; their
+-- numbers rise, no column goes back on a line, and rows are exact. All of it can be computed from the bytes; it holds of what
+-- `compile` makes.
 pub record AreInOrder (bytes : List ℕ) (h : Header) : Type 0 where
   pub first : start_in bytes 0 ≡ 0
   pub last : start_in bytes h.lines ≡ h.tokens

@@ -35,7 +35,7 @@ pub(crate) struct Layout {
     pub(crate) texts: usize,
 }
 
-/// How many groups of eight tokens a block has, of a map with this many tokens.
+/// How many groups of eight tokens a block has at most, of a map with this many tokens.
 pub(crate) fn groups_in_block(tokens: usize) -> usize
     ensures value { result ≡ block_groups tokens }
     ensures some { 8 ≤ result }
@@ -44,7 +44,7 @@ pub(crate) fn groups_in_block(tokens: usize) -> usize
     if tokens <= 16384 { 2048 } else { 8 }
 }
 
-/// How many groups of eight tokens a block has.
+/// How many groups of eight tokens this block has.
 #[inline(always)]
 pub(crate) fn count_groups(header: &Header, b: usize) -> usize
     requires counts { AreCounts header.now }
@@ -56,7 +56,7 @@ pub(crate) fn count_groups(header: &Header, b: usize) -> usize
     ((header.tokens + 7) / 8).saturating_sub(each * b).min(each)
 }
 
-/// The block of a group of this many tokens.
+/// The block that has this group of eight tokens, of a map with this many tokens.
 #[inline(always)]
 pub(crate) fn block_with(tokens: usize, group: usize) -> usize
     requires { group < (tokens + 7) / 8 }

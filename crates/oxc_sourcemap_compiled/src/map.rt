@@ -78,8 +78,8 @@ fn utf8_of(bytes: Option<&[u8]>) -> Option<&str>
 }
 
 impl<'a> CompiledMap<'a> {
-    /// Opens the bytes of a compiled map, in constant time: only the header is read. Fails with the first `CompiledError`
-    /// that holds.
+    /// Opens the bytes of a compiled map, in constant time: only the header and the row of the first block are read. Fails with the
+    /// first `CompiledError` that holds.
     pub fn open(bytes: &'a [u8]) -> Result<CompiledMap<'a>, CompiledError>
         ensures meaning { Gives compiled_in result (compiled_meaning bytes.now) }
         ensures bytes { IfOk result (λ map. map ≡ bytes.now) }
@@ -287,8 +287,8 @@ impl<'a> CompiledMap<'a> {
         }
     }
 
-    /// A source by its id, lent from the bytes; None past the last one, or where its bytes are not UTF-8; empty where its offsets
-    /// are damaged.
+    /// A source by its id, lent from the bytes; None past the last one, or where its bytes are not UTF-8; empty where its offsets go back, or
+    /// past the end.
     pub fn get_source(&self, id: u32) -> Option<&'a str>
         ensures { lent_item result ≡ listed_text (compiled_in self.now).content.sources id }
     {
@@ -318,8 +318,8 @@ impl<'a> CompiledMap<'a> {
         }
     }
 
-    /// A name by its id, lent from the bytes; None past the last one, or where its bytes are not UTF-8; empty where its offsets are
-    /// damaged.
+    /// A name by its id, lent from the bytes; None past the last one, or where its bytes are not UTF-8; empty where its offsets go back, or
+    /// past the end.
     pub fn get_name(&self, id: u32) -> Option<&'a str>
         ensures { lent_item result ≡ listed_text (compiled_in self.now).content.names id }
     {

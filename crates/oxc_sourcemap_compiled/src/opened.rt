@@ -38,7 +38,7 @@ pub(crate) struct ReadBlock {
     pub(crate) base: usize,
 }
 
-/// What a search keeps: how many numbers of lines and columns it compared, and the block in which it compared columns, in a map of
+/// What a search keeps: how many numbers of lines and columns it compared, and the last block that it searched, in a map of
 /// many blocks.
 #[derive(Clone, Copy)]
 pub(crate) struct Search {
@@ -60,7 +60,7 @@ impl Search {
     }
 }
 
-/// The sum of the first of five widths.
+/// The sum of the first k of five widths.
 fn width_before(widths: &[u8], k: usize) -> usize
     requires five { length widths.now ≡ 5 }
     requires few { k < 5 }

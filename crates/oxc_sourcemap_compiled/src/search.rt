@@ -198,7 +198,7 @@ impl<'a> Opened<'a> {
     }
 
     /// Where the columns of tokens stop being below `limit`, among the tokens from `first` to before `end`. In a map of many blocks
-    /// the one in which tokens are compared is kept.
+    /// the one that is searched is kept.
     #[inline(always)]
     pub(crate) fn column_cut(
         &self,
@@ -266,7 +266,7 @@ impl<'a> Opened<'a> {
         start
     }
 
-    /// The entry of a line; None if there is none, or where numbers of lines are not in order. `steps` is set.
+    /// The entry of a line; None if there is none. Where numbers of lines are not in order, it may be None too. `steps` is set.
     #[inline(always)]
     pub(crate) fn entry(&self, line: u32, steps: &mut u64) -> Option<usize>
         requires opened { IsOpened self.now }

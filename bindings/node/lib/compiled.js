@@ -83,6 +83,23 @@ class CompiledMap {
     return this.#text(Which.CONTENT, word(id, 'The id'));
   }
 
+  /** So many texts of a list, by their ids. */
+  #texts(which, count) {
+    return Array.from({ length: count }, (_, id) => this.#text(which, id));
+  }
+
+  get names() {
+    return this.#texts(Which.NAME, this.counts.names);
+  }
+
+  get sources() {
+    return this.#texts(Which.SOURCE, this.counts.sources);
+  }
+
+  get sourcesContent() {
+    return this.#texts(Which.CONTENT, this.counts.sources);
+  }
+
   get file() {
     return this.#text(Which.FILE, 0);
   }

@@ -642,6 +642,10 @@ export class CompiledMap {
   getName(id: number): string | null;
   getSource(id: number): string | null;
   getSourceContent(id: number): string | null;
+  /** All names, sources and contents, by their ids. Each array is made by each call: `getName` and its sisters have one text. */
+  readonly names: string[];
+  readonly sources: string[];
+  readonly sourcesContent: (string | null)[];
   readonly file: string | null;
   readonly sourceRoot: string | null;
   readonly debugId: string | null;

@@ -58,6 +58,8 @@ function sameHoldings(compiled, map) {
   assert.deepEqual(compiled.counts, { tokens, names, sources, ignoreList });
   for (const member of ['file', 'sourceRoot', 'debugId']) assert.equal(compiled[member], map[member], member);
   for (const id of idsBeside(names)) assert.equal(compiled.getName(id), map.getName(id));
+  assert.deepEqual([compiled.names, compiled.sources], [[...map.names], [...map.sources]]);
+  assert.deepEqual(compiled.sourcesContent, Array.from(map.sources, (_, id) => map.getSourceContent(id)));
   for (const id of idsBeside(sources)) {
     assert.equal(compiled.getSource(id), map.getSource(id));
     assert.equal(compiled.getSourceContent(id), id < sources ? map.getSourceContent(id) : null);

@@ -272,6 +272,31 @@ impl<'a> CompiledMap<'a> {
         self.text(sys::SMAP_TEXT_SOURCE_CONTENT, id)
     }
 
+    /// All names, by their ids; None for one that is not UTF-8.
+    pub fn get_names(&self) -> impl ExactSizeIterator<Item = Option<&'a str>> + '_ {
+        (0..self.counts().names as u32).map(|id| self.get_name(id))
+    }
+
+    /// All sources, by their ids; None for one that is not UTF-8.
+    pub fn get_sources(&self) -> impl ExactSizeIterator<Item = Option<&'a str>> + '_ {
+        (0..self.counts().sources as u32).map(|id| self.get_source(id))
+    }
+
+    /// The contents of all sources, by their ids; None for one that is not known, or not UTF-8.
+    ///
+    /// ```
+    /// use oxc_sourcemap::{CompiledMap, SourceMap};
+    /// let text = r#"{"version":3,"names":[],"sources":["a","b"],"sourcesContent":["x",null],"mappings":"AAAA"}"#;
+    /// let bytes = SourceMap::from_json_string(text)?.compile(0, &[0; 32])?;
+    /// let map = CompiledMap::open(&bytes)?;
+    /// assert!(map.get_sources().eq([Some("a"), Some("b")]));
+    /// assert!(map.get_source_contents().eq([Some("x"), None]));
+    /// # Ok::<(), oxc_sourcemap::Error>(())
+    /// ```
+    pub fn get_source_contents(&self) -> impl ExactSizeIterator<Item = Option<&'a str>> + '_ {
+        (0..self.counts().sources as u32).map(|id| self.get_source_content(id))
+    }
+
     /// The name of the generated file.
     pub fn get_file(&self) -> Option<&'a str> {
         self.text(sys::SMAP_TEXT_FILE, 0)

@@ -97,7 +97,7 @@ async function main() {
   const { loadSync } = await import(join(folder, 'load.mjs'));
   const library = loadSync(readFileSync(join(folder, 'oxc_sourcemap.wasm')));
   assert.deepEqual(said.maps, maps.map((it) => JSON.parse(JSON.stringify(asks(library, readFileSync(it))))));
-  assert.deepEqual(said.page, ['a.ts, line 2, column 4, f', 'No token answers for this position.', 'JSON parsing error: the text is not JSON line 0, column 1 (byte 1)']);
+  assert.deepEqual(said.page, ['a.ts, line 2, column 4, f', 'No token answers for this position.', 'JSON parsing error: the text is not JSON, at line 0, column 1 (byte 1)']);
   assert.deepEqual(said.violations, []);
   assert.equal(said.built, '{"version":3,"names":[],"sources":["größe.ts"],"mappings":"AAAA"}');
   assert.equal(said.kept, true);

@@ -112,6 +112,14 @@ column-of-one bytes h j le lt =
     let number : j ≡ j % 16384 = omega (arith, lt) in
     ap (λ b. column_by bytes (row_in bytes h b) j) home ∙ ap (column_by bytes (row_in bytes h (j / 16384))) number ∙ ap (λ s. column_by bytes (row_in bytes h (j / s)) (j % s)) (sym (one-size h.tokens le))
 
+pub token-of-one : (bytes : List ℕ) (h : Header) (line j : ℕ) → h.tokens ≤ 16384 → j < 16384 → token_at bytes (row_in bytes h 0) line j ≡ token_in bytes h line j
+unfolding token_in
+token-of-one bytes h line j le lt =
+    let home : 0 ≡ j / 16384 = omega (arith, lt) in
+    let number : j ≡ j % 16384 = omega (arith, lt) in
+    ap (λ b. token_at bytes (row_in bytes h b) line j) home ∙ ap (token_at bytes (row_in bytes h (j / 16384)) line) number
+    ∙ ap (λ s. token_at bytes (row_in bytes h (j / s)) line (j % s)) (sym (one-size h.tokens le))
+
 -- what is read of a token of one of many blocks
 of-many : {A : Type 0} (f : ℕ → ℕ → A) (n b j : ℕ) → 16384 < n → j < 64 → f b j ≡ f ((64 * b + j) / block_size n) ((64 * b + j) % block_size n)
 of-many f n b j lt low =

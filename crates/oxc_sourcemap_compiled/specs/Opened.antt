@@ -1,9 +1,12 @@
 -- What is opened.
-use Rattle.std.specs.Prelude.{ℕ, List, IfSome, ◌<◌, ◌≡◌, ◌+◌, ◌*◌, ◌/◌, ◌≤◌, length}
+use Rattle.std.specs.Prelude.{ℕ, List, IfSome, ◌<◌, ◌≡◌, ◌+◌, ◌*◌, ◌-◌, ◌/◌, ◌≤◌, length}
 use Rattle.oxc_sourcemap_compiled.specs.declared.layout.Header.{Header}
 use Rattle.oxc_sourcemap_compiled.specs.declared.opened.Opened.{Opened}
 use Rattle.oxc_sourcemap_compiled.specs.declared.opened.ReadBlock.{ReadBlock}
 use Rattle.oxc_sourcemap_compiled.specs.declared.opened.Search.{Search}
+use Rattle.oxc_sourcemap_lookup.specs.Digits.{binary_digits}
+use Rattle.oxc_sourcemap_compiled.specs.Cuts.{IsCut, DoNotFall}
+use Rattle.oxc_sourcemap_compiled.specs.Order.{AreRowsExact, column_of}
 use Rattle.oxc_sourcemap_compiled.specs.Layout.{header_in, HasParts, layout_in, groups_in}
 use Rattle.oxc_sourcemap_compiled.specs.Fields.{row_in, IsRow, HasRoom}
 
@@ -31,3 +34,13 @@ pub record IsSearchIn (o : Opened) (most : ℕ) (search : Search) : Type 0 where
   pub opened : IsOpened o
   pub few : search.steps ≤ most
   pub read : IfSome search.read (IsReadBlock o.bytes.now o.header)
+
+-- What a search among the columns of the tokens from one index to before another finds, and what it keeps: where they stop being
+-- below a limit, if they are in order.
+pub record IsColumnCut (o : Opened) (first end limit : ℕ) (old : Search) (found : ℕ) (new : Search) : Type 0 where
+  pub search : IsSearchIn o (old.steps + binary_digits (end - first) + 2) new
+  pub few : new.steps ≤ old.steps + 48
+  pub reached : first ≤ found
+  pub within : found ≤ end
+  pub cut : AreRowsExact o.bytes.now o.header → DoNotFall (column_of o.bytes.now o.header) first end → (cut : ℕ)
+      → IsCut (column_of o.bytes.now o.header) limit first end cut → found ≡ cut

@@ -43,7 +43,7 @@ pub use Rattle.oxc_sourcemap_compiled.specs.Means.{CompiledLooksUp, StoredMeansM
 pub use Rattle.oxc_sourcemap_compiled.specs.Means.{CompiledIsTakenApart}
 pub use Rattle.oxc_sourcemap_compiled.specs.CompiledMessages.{compiled_error_text}
 pub use Rattle.oxc_sourcemap_compiled.specs.Numbers.{number_at}
-pub use Rattle.oxc_sourcemap_compiled.specs.Opened.{IsOpened, IsReadBlock, IsSearchIn}
+pub use Rattle.oxc_sourcemap_compiled.specs.Opened.{IsOpened, IsReadBlock, IsSearchIn, IsColumnCut}
 pub use Rattle.oxc_sourcemap_compiled.specs.Order.{columns_in, column_of, least_column_of}
 pub use Rattle.oxc_sourcemap_compiled.specs.Order.{AreRowsExact}
 pub use Rattle.oxc_sourcemap_compiled.specs.Order.{IsInEntry, IsSpan, IsUpToEnd, AreColumnsOf}

@@ -246,9 +246,8 @@ impl<'a> Opened<'a> {
         }
     }
 
-    /// As `column`, by a block that was read, if it has the token.
-    #[inline(always)]
-    pub(crate) fn column_near(&self, i: usize, search: &Search) -> u32
+    /// As `column`, in a map of many blocks, by the block that was read, if it has the token.
+    fn column_in_blocks(&self, i: usize, search: &Search) -> u32
         requires opened { IsOpened self.now }
         requires there { i < self.now.header.tokens }
         requires read { IfSome search.now.read
@@ -264,9 +263,25 @@ impl<'a> Opened<'a> {
         }
     }
 
-    /// As `token_on`, by a block that was read, if it has the token.
+    /// As `column`, by the block that was read, if it has the token.
+    // What a map with one block needs is inlined, and all else stands apart.
     #[inline(always)]
-    pub(crate) fn token_near(&self, line: u32, i: usize, search: &Search) -> Token
+    pub(crate) fn column_near(&self, i: usize, search: &Search) -> u32
+        requires opened { IsOpened self.now }
+        requires there { i < self.now.header.tokens }
+        requires read { IfSome search.now.read
+            (IsReadBlock self.now.bytes.now self.now.header) }
+        ensures { result ≡ column_of self.now.bytes.now self.now.header i }
+    {
+        if self.is_one_block() {
+            self.front.value(self.bytes, self.front.column, i)
+        } else {
+            self.column_in_blocks(i, search)
+        }
+    }
+
+    /// As `token_on`, in a map of many blocks, by the block that was read, if it has the token.
+    fn token_in_blocks(&self, line: u32, i: usize, search: &Search) -> Token
         requires opened { IsOpened self.now }
         requires there { i < self.now.header.tokens }
         requires read { IfSome search.now.read
@@ -278,6 +293,22 @@ impl<'a> Opened<'a> {
                 block.row.token(self.bytes, line, i - block.base)
             }
             _ => self.token_on(line, i),
+        }
+    }
+
+    /// As `token_on`, by the block that was read, if it has the token.
+    #[inline(always)]
+    pub(crate) fn token_near(&self, line: u32, i: usize, search: &Search) -> Token
+        requires opened { IsOpened self.now }
+        requires there { i < self.now.header.tokens }
+        requires read { IfSome search.now.read
+            (IsReadBlock self.now.bytes.now self.now.header) }
+        ensures { result ≡ token_in self.now.bytes.now self.now.header line i }
+    {
+        if self.is_one_block() {
+            self.front.token(self.bytes, line, i)
+        } else {
+            self.token_in_blocks(line, i, search)
         }
     }
 

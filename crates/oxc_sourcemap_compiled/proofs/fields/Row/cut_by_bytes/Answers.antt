@@ -80,5 +80,5 @@ u64_at-requires c =
 pub returns : goal.returns
 returns c =
     let h = c.loop-size.invariant in
-    halved-found (value_in c.args.bytes.now c.args.self.now c.args.self.now.column) c.args.limit c.args.first c.args.count c.loop-size.start c.loop-size.size c.args.steps.now c.loop-size.steps h.halved h.counted h.small
+    halved-found (value_in c.args.bytes.now c.args.self.now c.args.self.now.column) c.args.limit c.args.first c.args.count c.loop-size.start c.loop-size.size c.args.steps.now c.loop-size.compared h.halved h.counted h.small
     (omega (arith, c.loop-size-test.false))

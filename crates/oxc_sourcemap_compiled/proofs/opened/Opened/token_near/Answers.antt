@@ -1,15 +1,10 @@
-use Rattle.std.proofs.Common.{◌≡◌, ◌+◌, ◌-◌, ◌*◌, ◌<◌, IfSome, ap, ◌∙◌, arith, subst}
-use Rattle.oxc_sourcemap_compiled.specs.Words.{token_at, token_in, IsReadBlock}
-use Rattle.oxc_sourcemap_compiled.proofs.Sizes.{token-of-many}
+use Rattle.std.proofs.Common.{◌≡◌, ◌≤◌, ◌<◌, ap, ◌∙◌, arith}
+use Rattle.oxc_sourcemap_compiled.specs.Words.{token_at}
+use Rattle.oxc_sourcemap_compiled.proofs.Sizes.{token-of-one}
 use Rattle.oxc_sourcemap_compiled.proofs.opened.Opened.token_near.Goals as goal
 
-pub returns-in-Some : goal.returns-in-Some
-returns-in-Some c =
+pub returns-then-is_one_block : goal.returns-then-is_one_block
+returns-then-is_one_block c =
     let bytes = c.args.self.now.bytes.now in
-    let h = c.args.self.now.header in
-    let block = c.in-Some.block in
-    let line = c.args.line in
-    let j = c.args.i - block.base in
-    let is : IsReadBlock bytes h block = subst (λ read. IfSome read (IsReadBlock bytes h)) c.in-Some.is c.requires.read in
-    let there : 64 * is.number + j ≡ c.args.i = omega (arith, is.base, c.if-block-i.true) in
-    c.token.ensures ∙ ap (λ row. token_at bytes row line j) is.row ∙ token-of-many bytes h line is.number j is.many c.if-i-block-lt64.true ∙ ap (token_in bytes h line) there
+    let few = c.is_one_block.ensures.few c.if-is_one_block.true in
+    c.token.ensures ∙ ap (λ row. token_at bytes row c.args.line c.args.i) c.requires.opened.front ∙ token-of-one bytes c.args.self.now.header c.args.line c.args.i few (omega (arith, c.requires.there, few))

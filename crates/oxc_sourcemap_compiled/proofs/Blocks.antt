@@ -1,16 +1,15 @@
 -- Fields and rows of blocks.
 use Rattle.std.proofs.Common.{◌≡◌, ℕ, zero, suc, ◌<◌, ap, ◌∙◌, List, true, false, refl, arith}
 use Rattle.oxc_sourcemap_compiled.specs.Fields.{row_in, is_placed, placed_row, empty_row}
-use Rattle.oxc_sourcemap_compiled.specs.Fields.{field_in, row_field}
+use Rattle.oxc_sourcemap_compiled.specs.Fields.{field_in, field_of, row_field}
 use Rattle.oxc_sourcemap_compiled.specs.declared.fields.Row.{Row}
 use Rattle.oxc_sourcemap_compiled.specs.declared.layout.Header.{Header}
 use Rattle.oxc_sourcemap_compiled.specs.CompiledMeaning.{line_in, number_in_list}
 use Rattle.oxc_sourcemap_compiled.specs.declared.fields.Field.{Field}
 
 -- fields with the same numbers
-pub same-field : {l l' f f' w w' : ℕ} → l ≡ l' → f ≡ f' → w ≡ w' → ◌≡◌ {A = Field} (record { least = l; first = f; width = w }) (record { least = l'; first = f'; width = w' })
-same-field {l} {l'} {f} {f'} {w} {w'} p o t =
-    ap (λ x. record { least = x; first = f; width = w }) p ∙ ap (λ x. record { least = l'; first = x; width = w }) o ∙ ap (λ x. record { least = l'; first = f'; width = x }) t
+pub same-field : {l l' f f' w w' : ℕ} → l ≡ l' → f ≡ f' → w ≡ w' → field_of l f w ≡ field_of l' f' w'
+same-field {l} {l'} {f} {f'} {w} {w'} p o t = ap (λ x. field_of x f w) p ∙ ap (λ x. field_of l' x w) o ∙ ap (field_of l' f') t
 
 -- rows with the same place, stride and fields
 pub same-row : {a a' s s' : ℕ} {c c' i i' l l' o o' n n' : Field} → a ≡ a' → s ≡ s' → c ≡ c' → i ≡ i' → l ≡ l' → o ≡ o' → n ≡ n'

@@ -7,7 +7,7 @@ use Rattle.oxc_sourcemap_tokens.specs.Token.{TokenRecord}
 use Rattle.oxc_sourcemap_compiled.specs.Compiled.{table, row_of, rows_of, group_bytes_of, stride_of}
 use Rattle.oxc_sourcemap_compiled.specs.Compiled.{widths_of, no_block, IsPacked, ArePacked}
 use Rattle.oxc_sourcemap_compiled.specs.Numbers.{number_at}
-use Rattle.oxc_sourcemap_compiled.specs.Fields.{field_in, widths_in, row_base}
+use Rattle.oxc_sourcemap_compiled.specs.Fields.{field_in, field_of, widths_in, row_base}
 use Rattle.oxc_sourcemap_compiled.specs.declared.layout.Header.{Header}
 use Rattle.oxc_sourcemap_compiled.specs.declared.writing.blocks.Packing.{Packing}
 use Rattle.oxc_sourcemap_compiled.specs.declared.writing.blocks.Block.{Block}
@@ -114,7 +114,7 @@ widths-read i place b all h row = lies-take (row_base h i + 24) 5 (widths_of b) 
 
 -- the field of a block, by its row
 pub field-read : (k i place : ℕ) (b : Block) (all : List ℕ) (h : Header) → k < 5 → LiesAt (row_base h i) (row_of place b) all → (packing_at k b).least ≤ 4294967295 → (packing_at k b).width ≤ 32
-    → field_in all h i k ≡ record { least = (packing_at k b).least; first = sum (take k (widths_of b)); width = (packing_at k b).width }
+    → field_in all h i k ≡ field_of (packing_at k b).least (sum (take k (widths_of b))) (packing_at k b).width
 unfolding field_in
 field-read k i place b all h lt row small narrow =
     let widths : widths_in all h i ≡ widths_of b = widths-read i place b all h row in

@@ -66,15 +66,19 @@ halved-more b f limit first count start size next is some e h =
           (omega (arith, more.0, e), omega (arith, more.1, e));
     }
 
+-- the bits of some tokens are those of all but the last, and of this one
+pub but-one : (step s : ℕ) → 0 < step → (step - 1) * s + s ≡ step * s
+but-one step s some =
+    let whole : step - 1 + 1 ≡ step = omega (arith, some) in
+    let more : (step - 1) * s + s ≡ (step - 1 + 1) * s = omega arith in
+    more ∙ ap (λ n. n * s) whole
+
 -- the bit of a token so many steps further, and that of where a search goes on
-pub bit-at : (first bit start step s : ℕ) → bit ≡ first + start * s → 0 < step → bit + step * s - s ≡ first + (start + step - 1) * s
-bit-at first bit start step s is some = by-one (step - 1) (omega (arith, some)) where
-  by-one : (m : ℕ) → step ≡ m + 1 → bit + step * s - s ≡ first + (start + step - 1) * s
-  by-one m e =
-      let whole : step * s ≡ m * s + s = ap (λ n. n * s) e ∙ omega arith in
-      let far : start + step - 1 ≡ start + m = omega (arith, e) in
-      let there : bit + (m * s + s) - s ≡ first + (start + m) * s = omega (arith, is) in
-      ap (λ n. bit + n - s) whole ∙ there ∙ sym (ap (λ n. first + n * s) far)
+pub bit-at : (first bit start step s : ℕ) → bit ≡ first + start * s → 0 < step → bit + (step - 1) * s ≡ first + (start + step - 1) * s
+bit-at first bit start step s is some =
+    let far : start + step - 1 ≡ start + (step - 1) = omega (arith, some) in
+    let there : bit + (step - 1) * s ≡ first + (start + (step - 1)) * s = omega (arith, is) in
+    there ∙ sym (ap (λ n. first + n * s) far)
 
 pub bit-next : (less : Bool) (first bit start step s moved bits : ℕ) → bit ≡ first + start * s → moved ≡ (if less then step else 0) → bits ≡ (if less then step * s else 0)
     → bit + bits ≡ first + (start + moved) * s

@@ -122,10 +122,6 @@ of-many f n b j lt low =
 pub column-of-many : (bytes : List ℕ) (h : Header) (b j : ℕ) → 16384 < h.tokens → j < 64 → value_in bytes (row_in bytes h b) (row_in bytes h b).column j ≡ column_of bytes h (64 * b + j)
 column-of-many bytes h b j lt low = of-many (λ b. column_by bytes (row_in bytes h b)) h.tokens b j lt low
 
-pub token-of-many : (bytes : List ℕ) (h : Header) (line b j : ℕ) → 16384 < h.tokens → j < 64 → token_at bytes (row_in bytes h b) line j ≡ token_in bytes h line (64 * b + j)
-unfolding token_in
-token-of-many bytes h line b j lt low = of-many (λ b. token_at bytes (row_in bytes h b) line) h.tokens b j lt low
-
 pub exact-of-many : (bytes : List ℕ) (h : Header) → 16384 < h.tokens → AreRowsExact bytes h → (b : ℕ) → b < (h.tokens + 63) / 64
     → ((i : ℕ) → i < h.tokens → i / 64 ≡ b → column_of bytes h (64 * b) ≤ column_of bytes h i) → least_column_of bytes h b ≡ column_of bytes h (64 * b)
 exact-of-many bytes h lt exact =

@@ -23,7 +23,7 @@ use Rattle.oxc_sourcemap_compiled.specs.Layout.{rows_base, groups_base, block_gr
 use Rattle.oxc_sourcemap_compiled.specs.Layout.{groups_in}
 use Rattle.oxc_sourcemap_compiled.specs.Fields.{value_at, value_in, value_of, field_in, row_in}
 use Rattle.oxc_sourcemap_compiled.specs.Fields.{row_base, row_field, is_placed, placed_row}
-use Rattle.oxc_sourcemap_compiled.specs.Fields.{widths_in}
+use Rattle.oxc_sourcemap_compiled.specs.Fields.{widths_in, field_of}
 use Rattle.oxc_sourcemap_compiled.specs.declared.fields.Field.{Field}
 use Rattle.oxc_sourcemap_compiled.specs.declared.fields.Row.{Row}
 use Rattle.oxc_sourcemap_compiled.specs.declared.layout.Header.{Header}
@@ -281,7 +281,7 @@ module _ (tokens : List TokenRecord) (blocks : List Block) (bytes : List ℕ) (h
     before = length (flat_map (group_at (each one) blocks tokens) (range_with_len 0 (i / 8)))
 
     abbrev field : Field
-    field = record { least = packing.least; first = sum (take k (widths_of block)); width = packing.width }
+    field = field_of packing.least (sum (take k (widths_of block))) packing.width
 
     abbrev bit : ℕ
     bit = in_block % 8 * stride_of block + sum (take k (widths_of block))

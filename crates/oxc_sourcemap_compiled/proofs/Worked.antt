@@ -12,7 +12,7 @@ use Rattle.oxc_sourcemap_compiled.specs.declared.fields.Field.{Field}
 use Rattle.oxc_sourcemap_compiled.specs.declared.writing.blocks.Packing.{Packing}
 use Rattle.oxc_sourcemap_compiled.specs.Numbers.{number_at}
 use Rattle.oxc_sourcemap_compiled.specs.Layout.{header_in, compiled_fault}
-use Rattle.oxc_sourcemap_compiled.specs.Fields.{value_at, value_in, field_in, row_in}
+use Rattle.oxc_sourcemap_compiled.specs.Fields.{value_at, value_in, field_in, field_of, row_in}
 use Rattle.oxc_sourcemap_compiled.specs.CompiledMeaning.{compiled_in, compiled_meaning, token_in}
 use Rattle.oxc_sourcemap_compiled.specs.CompiledMeaning.{part_between}
 use Rattle.oxc_sourcemap_compiled.specs.declared.errors.CompiledError.TheVariants.{NotCompiled}
@@ -27,7 +27,7 @@ number-means = refl
 
 -- Eight values of three bits take three bytes: 1 to 7 and 0 are 1 + 2 * 8 + 3 * 8^2 + 4 * 8^3 + 5 * 8^4 + 6 * 8^5 + 7 * 8^6, and 10 is added.
 abbrev threes : Field
-threes = record { least = 10; first = 0; width = 3 }
+threes = field_of 10 0 3
 
 values-mean : value_in (209 ∷ 88 ∷ 31 ∷ 0 ∷ 0 ∷ 0 ∷ 0 ∷ 0 ∷ 0 ∷ 0 ∷ 0 ∷ 0 ∷ 0 ∷ 0 ∷ 0 ∷ 0 ∷ 0 ∷ []) (record { at = 0; stride = 3; column = threes; source = threes; src_line = threes; src_col = threes; name = threes }) threes 6 ≡ 17
 unfolding value_at number_at

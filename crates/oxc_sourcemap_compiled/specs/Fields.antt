@@ -1,16 +1,18 @@
 -- The values of fields of tokens. Tokens stand in blocks, one after the other, and each field of a token behind that before it, bit by bit:
 -- in as many bits as the width of the field in that block. So eight tokens take a whole number of bytes, the sum of the widths.
-use Rattle.std.specs.Prelude.{ℕ, zero, suc, ◌+◌, ◌*◌, ◌/◌, ◌%◌, ◌^◌, ◌≤◌, List, take, drop, get_or}
-use Rattle.std.specs.Prelude.{◌≡◌, Bool, min, sum, nat_le, if◌then◌else◌}
+use Rattle.std.specs.Prelude.{ℕ, zero, suc, ◌+◌, ◌-◌, ◌*◌, ◌/◌, ◌%◌, ◌^◌, ◌≤◌, ◌≡◌}
+use Rattle.std.specs.Prelude.{List, take, drop, get_or, Bool, min, sum, nat_le, if◌then◌else◌}
 use Rattle.oxc_sourcemap_compiled.specs.Numbers.{number_at}
 use Rattle.oxc_sourcemap_compiled.specs.Layout.{rows_base, groups_base, block_size, groups_in}
 use Rattle.oxc_sourcemap_compiled.specs.declared.fields.Field.{Field}
 use Rattle.oxc_sourcemap_compiled.specs.declared.fields.Row.{Row}
 use Rattle.oxc_sourcemap_compiled.specs.declared.layout.Header.{Header}
 
--- a field that is read, of tokens with so many bits: its values have at most 32 bits, which are among those of the token
+-- a field that is read, of tokens with so many bits: it has at most 32 bits, which are among those of the token, and its mask is the
+-- greatest number of so many bits
 pub record IsField (stride : ℕ) (f : Field) : Type 0 where
   pub width : f.width ≤ 32
+  pub mask : f.mask ≡ 2 ^ f.width - 1
   pub within : f.first + f.width ≤ stride
 
 -- a block that is read: its fields are such, columns first, and its places are numbers that a machine can add
@@ -44,15 +46,15 @@ row_base h b = rows_base h + 29 * b
 abbrev pub widths_in : List ℕ → Header → ℕ → List ℕ
 widths_in bytes h b = take 5 (drop (row_base h b + 24) bytes)
 
+-- a field with this least value, which begins at this bit of a token and has this many bits
+abbrev pub field_of : ℕ → ℕ → ℕ → Field
+field_of least first width = record { least = least; first = first; width = width; mask = 2 ^ width - 1 }
+
 -- the field of this number in a block: 0 for columns, then sources, source lines, source columns and names
 unfoldable pub field_in : List ℕ → Header → ℕ → ℕ → Field
 field_in bytes h b k =
     let widths = widths_in bytes h b in
-    record {
-      least = number_at 4 bytes (row_base h b + 4 + 4 * k);
-      first = sum (take k widths);
-      width = min (get_or widths k 0) 32;
-    }
+    field_of (number_at 4 bytes (row_base h b + 4 + 4 * k)) (sum (take k widths)) (min (get_or widths k 0) 32)
 
 -- whether the groups of a block lie within the bytes of all groups
 abbrev pub is_placed : List ℕ → Header → ℕ → Bool
@@ -72,7 +74,7 @@ placed_row bytes h b = record {
 
 -- how a block is read whose tokens have no bits, so that all their fields are 0
 abbrev pub empty_field : Field
-empty_field = record { least = 0; first = 0; width = 0 }
+empty_field = field_of 0 0 0
 
 abbrev pub empty_row : Row
 empty_row = record { at = 0; stride = 0; column = empty_field; source = empty_field; src_line = empty_field; src_col = empty_field; name = empty_field }

@@ -1,5 +1,6 @@
 -- Compiled maps in which lookups by halving are exact: the lines and columns in their bytes are in order.
 use Rattle.std.specs.Prelude.{◌≡◌, ℕ, ◌+◌, ◌-◌, ◌*◌, ◌/◌, ◌<◌, ◌≤◌, true, List, map, Option, IfSome}
+use Rattle.std.specs.Prelude.{option_map}
 use Rattle.std.specs.List.{range_with_len}
 use Rattle.oxc_sourcemap_tokens.specs.Token.{TokenRecord}
 use Rattle.oxc_sourcemap_parts.specs.Sorted.{token_column}
@@ -11,7 +12,7 @@ use Rattle.oxc_sourcemap_compiled.specs.Numbers.{number_at}
 use Rattle.oxc_sourcemap_compiled.specs.Layout.{header_in, block_count, block_size}
 use Rattle.oxc_sourcemap_compiled.specs.Fields.{value_of, row_base}
 use Rattle.oxc_sourcemap_compiled.specs.CompiledMeaning.{token_in, start_in, line_in, entry_tokens}
-use Rattle.oxc_sourcemap_compiled.specs.CompiledMeaning.{entry_begin, entry_end, compiled_in}
+use Rattle.oxc_sourcemap_compiled.specs.CompiledMeaning.{entry_begin, entry_end, tokens_in}
 use Rattle.oxc_sourcemap_compiled.specs.Decompiled.{DoLinesFollow}
 use Rattle.oxc_sourcemap_compiled.specs.declared.layout.Header.{Header}
 use Rattle.oxc_sourcemap_compiled.specs.declared.lookup.Span.{Span}
@@ -90,6 +91,15 @@ IsTokenOn bytes h line t = (i : ℕ) × IsOnLine bytes h line i × (t ≡ token_
 
 -- What is found at a position: in bytes that are in order the index of the token that answers; in any bytes that of some token of the
 -- line, or none.
-pub record IsIndexFor (bias : Bias) (bytes : List ℕ) (at : Position) (found : Option ℕ) : Type 0 where
-  pub is : IsInOrder bytes → found ≡ index_by bias (compiled_in bytes).content.tokens at.line at.column
-  pub among : IfSome found (IsOnLine bytes (header_in bytes) at.line)
+pub record IsIndexIn (bytes : List ℕ) (h : Header) (bias : Bias) (at : Position) (found : Option ℕ) : Type 0 where
+  pub is : AreInOrder bytes h → found ≡ index_by bias (tokens_in bytes h) at.line at.column
+  pub among : IfSome found (IsOnLine bytes h at.line)
+
+-- the same with the token of that index
+pub record IsFoundIn (bytes : List ℕ) (h : Header) (bias : Bias) (at : Position) (found : Option (ℕ × TokenRecord)) : Type 0 where
+  pub index : IsIndexIn bytes h bias at (option_map (λ f. f.0) found)
+  pub token : IfSome found (λ f. f.1 ≡ token_in bytes h at.line f.0)
+
+-- the index that is found, by the header that the bytes have
+abbrev pub IsIndexFor : Bias → List ℕ → Position → Option ℕ → Type 0
+IsIndexFor bias bytes at found = IsIndexIn bytes (header_in bytes) bias at found

@@ -43,9 +43,10 @@ pub use Rattle.oxc_sourcemap_compiled.specs.Means.{CompiledLooksUp, StoredMeansM
 pub use Rattle.oxc_sourcemap_compiled.specs.Means.{CompiledIsTakenApart}
 pub use Rattle.oxc_sourcemap_compiled.specs.CompiledMessages.{compiled_error_text}
 pub use Rattle.oxc_sourcemap_compiled.specs.Numbers.{number_at}
-pub use Rattle.oxc_sourcemap_compiled.specs.Opened.{IsOpened, IsReadBlock, IsSearchIn}
+pub use Rattle.oxc_sourcemap_compiled.specs.Opened.{IsOpened, IsSearchIn, IsColumnCut}
 pub use Rattle.oxc_sourcemap_compiled.specs.Order.{columns_in, column_of, least_column_of}
 pub use Rattle.oxc_sourcemap_compiled.specs.Order.{AreRowsExact}
 pub use Rattle.oxc_sourcemap_compiled.specs.Order.{IsInEntry, IsSpan, IsUpToEnd, AreColumnsOf}
 pub use Rattle.oxc_sourcemap_compiled.specs.Order.{AreInOrder, IsInOrder, IsOn, IsOnLine}
+pub use Rattle.oxc_sourcemap_compiled.specs.Order.{IsIndexIn, IsFoundIn}
 pub use Rattle.oxc_sourcemap_compiled.specs.Order.{IsIndexFor, IsTokenAt, IsTokenOn}

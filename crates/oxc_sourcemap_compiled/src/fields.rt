@@ -6,12 +6,14 @@ ghost use Rattle.oxc_sourcemap_compiled.specs.Words.{stored_id, token_at, empty_
 use crate::numbers::u64_at;
 use oxc_sourcemap_tokens::Token;
 
-/// One field of the tokens of a block: at which bit of a token it begins, how many bits it has, and what is added to each value.
+/// One field of the tokens of a block: at which bit of a token it begins, how many bits it has, the greatest number of so many
+/// bits, and what is added to each value.
 #[derive(Clone, Copy)]
 pub(crate) struct Field {
     pub(crate) least: u32,
     pub(crate) first: usize,
     pub(crate) width: usize,
+    pub(crate) mask: u64,
 }
 
 /// How a block is read: where it lies, how many bits a token has, and its fields.
@@ -28,21 +30,11 @@ pub(crate) struct Row {
 
 /// The greatest number of this many bits.
 #[inline(always)]
-fn mask_of(bits: usize) -> u64
+pub(crate) fn mask_of(bits: usize) -> u64
     requires { bits ≤ 32 }
     ensures { result ≡ 2 ^ bits - 1 }
 {
     (1 << bits) - 1
-}
-
-/// The number of this many bits from a bit on.
-#[inline(always)]
-fn bits_from(word: u64, from: usize, bits: usize) -> u32
-    requires from { from ≤ 63 }
-    requires bits { bits ≤ 32 }
-    ensures { result ≡ word / 2 ^ from % 2 ^ bits }
-{
-    ((word >> from) & mask_of(bits)) as u32
 }
 
 /// The id that a stored number stands for: it is one more, and 0 for none.
@@ -62,6 +54,7 @@ impl Field {
             least: 0,
             first: 0,
             width: 0,
+            mask: 0,
         }
     }
 
@@ -69,10 +62,11 @@ impl Field {
     #[inline(always)]
     pub(crate) fn value(self, word: u64, from: usize) -> u32
         requires from { from ≤ 63 }
-        requires field { self.width ≤ 32 }
+        requires width { self.width ≤ 32 }
+        requires mask { self.mask ≡ 2 ^ self.width - 1 }
         ensures { result ≡ (self.least + word / 2 ^ from % 2 ^ self.width) % 2 ^ 32 }
     {
-        self.least.wrapping_add(bits_from(word, from, self.width))
+        self.least.wrapping_add(((word >> from) & self.mask) as u32)
     }
 }
 
@@ -100,7 +94,8 @@ impl Row {
     pub(crate) fn value_at(&self, bytes: &[u8], field: Field, bit: usize) -> u32
         requires at { self.now.at ≤ 1099511627776 }
         requires small { bit ≤ 4294967295 }
-        requires field { field.width ≤ 32 }
+        requires width { field.width ≤ 32 }
+        requires mask { field.mask ≡ 2 ^ field.width - 1 }
         requires there { self.now.at + bit / 8 + 8 ≤ length bytes.now }
         ensures { result ≡ value_at bytes.now self.now field bit }
     {

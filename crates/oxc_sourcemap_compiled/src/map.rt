@@ -19,7 +19,7 @@ ghost use Rattle.oxc_sourcemap_parts.specs.Words.{record_of_parts};
 
 use crate::errors::CompiledError;
 use crate::numbers::u64_at;
-use crate::opened::{Opened, Search};
+use crate::opened::Opened;
 use oxc_sourcemap_lookup::Bias;
 use oxc_sourcemap_parts::SourceMapParts;
 use oxc_sourcemap_tokens::{Memory, Position, Token};
@@ -99,8 +99,7 @@ impl<'a> CompiledMap<'a> {
         ensures among { IfSome result (IsOnLine self.now (header_in self.now) line) }
     {
         let at = Position { line, column: col };
-        self.opened
-            .lookup_index(at, Bias::Before, &mut Search::new())
+        self.opened.find_index(at, Bias::Before)
     }
 
     /// As `lookup_token_index`, which compares the same: `steps` is set to how many columns and numbers of lines were compared (that
@@ -113,11 +112,9 @@ impl<'a> CompiledMap<'a> {
         ensures counted { steps.new ≤ binary_digits (header_in self.now).lines
             + binary_digits (header_in self.now).tokens + 4 }
     {
-        let mut search = Search::new();
+        *steps = 0;
         let at = Position { line, column: col };
-        let found = self.opened.lookup_index(at, Bias::Before, &mut search);
-        *steps = search.steps;
-        found
+        self.opened.lookup_index(at, Bias::Before, steps)
     }
 
     /// As `lookup_token_index`, but a position before the first token of its line gives that token.
@@ -127,8 +124,7 @@ impl<'a> CompiledMap<'a> {
         ensures among { IfSome result (IsOnLine self.now (header_in self.now) line) }
     {
         let at = Position { line, column: col };
-        self.opened
-            .lookup_index(at, Bias::Clamped, &mut Search::new())
+        self.opened.find_index(at, Bias::Clamped)
     }
 
     /// The index of the first token of the least column from `col` on, of several at `col` of the last; None if the line has
@@ -139,8 +135,7 @@ impl<'a> CompiledMap<'a> {
         ensures among { IfSome result (IsOnLine self.now (header_in self.now) line) }
     {
         let at = Position { line, column: col };
-        self.opened
-            .lookup_index(at, Bias::After, &mut Search::new())
+        self.opened.find_index(at, Bias::After)
     }
 
     /// The token of the index that `lookup_token_index` finds. Where bytes are not in order, it is some token of the line, or None.
@@ -184,10 +179,7 @@ impl<'a> CompiledMap<'a> {
         ensures among { IfSome result (λ found. IsOnLine self.now (header_in self.now) at.line
             found.0 × (found.1 ≡ token_in self.now (header_in self.now) at.line found.0)) }
     {
-        let mut search = Search::new();
-        let index = self.opened.lookup_index(at, bias, &mut search)?;
-        let token = self.opened.token_near(at.line, index, &search);
-        Some((index, token))
+        self.opened.find(at, bias)
     }
 
     /// The index of the token that answers for a generated position by this bias. Where bytes are not in order, it is that of some
@@ -198,7 +190,7 @@ impl<'a> CompiledMap<'a> {
             → result ≡ index_by bias (compiled_in self.now).content.tokens at.line at.column }
         ensures among { IfSome result (IsOnLine self.now (header_in self.now) at.line) }
     {
-        self.opened.lookup_index(at, bias, &mut Search::new())
+        self.opened.find_index(at, bias)
     }
 
     /// The indices of the tokens that answer for generated positions by this bias, each at the index of its position, as far as there

@@ -1,9 +1,9 @@
 //! What is opened: bytes, and where the parts of the map lie in them.
 ghost use Rattle.std.specs.Prelude.{◌≡◌, ◌+◌, ◌*◌, ◌≤◌, ◌<◌, length, sum, take, IfOk, IfErr, None};
 ghost use Rattle.std.specs.Prelude.{true, false};
-ghost use Rattle.std.specs.Prelude.{Some, IfSome};
+ghost use Rattle.std.specs.Prelude.{Some};
 ghost use Rattle.oxc_sourcemap_tokens.specs.Results.{lent_item};
-ghost use Rattle.oxc_sourcemap_compiled.specs.Words.{IsOpened, IsReadBlock, IsField};
+ghost use Rattle.oxc_sourcemap_compiled.specs.Words.{IsOpened, IsField};
 ghost use Rattle.oxc_sourcemap_compiled.specs.Words.{block_count, text_count};
 ghost use Rattle.oxc_sourcemap_compiled.specs.Words.{IsRow, HasParts, layout_in, row_base};
 ghost use Rattle.oxc_sourcemap_compiled.specs.Words.{HasRoom, groups_in, widths_in};
@@ -16,7 +16,7 @@ ghost use Rattle.std.specs.List.{range_with_len, Contains};
 ghost use Rattle.std.specs.Prelude.{map, IsTrue, ◌↔◌};
 
 use crate::errors::CompiledError;
-use crate::fields::{Field, Row};
+use crate::fields::{Field, Row, mask_of};
 use crate::layout::{Header, Layout, checked_header, count_groups, layout_of};
 use crate::numbers::u32_at;
 use oxc_sourcemap_tokens::Token;
@@ -29,35 +29,6 @@ pub(crate) struct Opened<'a> {
     pub(crate) layout: Layout,
     /// The first block, which is the only one of a map of at most 16384 tokens.
     pub(crate) front: Row,
-}
-
-/// A block of a map with more than 16384 tokens, whose row was read, and the index of its first token.
-#[derive(Clone, Copy)]
-pub(crate) struct ReadBlock {
-    pub(crate) row: Row,
-    pub(crate) base: usize,
-}
-
-/// What a search keeps: how many numbers of lines and columns it compared, and the last block that it searched, in a map of
-/// many blocks.
-#[derive(Clone, Copy)]
-pub(crate) struct Search {
-    pub(crate) steps: u64,
-    pub(crate) read: Option<ReadBlock>,
-}
-
-impl Search {
-    /// A search that has compared nothing.
-    #[inline(always)]
-    pub(crate) fn new() -> Search
-        ensures steps { result.steps ≡ 0 }
-        ensures read { result.read ≡ None }
-    {
-        Search {
-            steps: 0,
-            read: None,
-        }
-    }
 }
 
 /// The sum of the first k of five widths.
@@ -104,10 +75,12 @@ fn read_field(bytes: &[u8], header: &Header, layout: &Layout, b: usize, k: usize
 {
     let row = layout.rows + 29 * b;
     let widths = &bytes[row + 24..row + 29];
+    let width = usize::from(widths[k]).min(32);
     Field {
         least: u32_at(bytes, row + 4 + 4 * k),
         first: width_before(widths, k),
-        width: usize::from(widths[k]).min(32),
+        width,
+        mask: mask_of(width),
     }
 }
 
@@ -217,7 +190,19 @@ impl<'a> Opened<'a> {
         read_row(self.bytes, &self.header, &self.layout, b)
     }
 
+    /// As `column`, in a map of many blocks.
+    fn column_in_blocks(&self, i: usize) -> u32
+        requires opened { IsOpened self.now }
+        requires many { 16384 < self.now.header.tokens }
+        requires there { i < self.now.header.tokens }
+        ensures { result ≡ column_of self.now.bytes.now self.now.header i }
+    {
+        let row = self.row(i / 64);
+        row.value(self.bytes, row.column, i % 64)
+    }
+
     /// The column of a token.
+    // Inlined for a map of one block; a call for one of many.
     #[inline(always)]
     pub(crate) fn column(&self, i: usize) -> u32
         requires opened { IsOpened self.now }
@@ -227,12 +212,23 @@ impl<'a> Opened<'a> {
         if self.is_one_block() {
             self.front.value(self.bytes, self.front.column, i)
         } else {
-            let row = self.row(i / 64);
-            row.value(self.bytes, row.column, i % 64)
+            self.column_in_blocks(i)
         }
     }
 
+    /// As `token_on`, in a map of many blocks.
+    #[tactic(auto, unfolding(crate::specs::CompiledMeaning::token_in))]
+    fn token_in_blocks(&self, line: u32, i: usize) -> Token
+        requires opened { IsOpened self.now }
+        requires many { 16384 < self.now.header.tokens }
+        requires there { i < self.now.header.tokens }
+        ensures { result ≡ token_in self.now.bytes.now self.now.header line i }
+    {
+        self.row(i / 64).token(self.bytes, line, i % 64)
+    }
+
     /// The token at an index, on this line.
+    #[inline(always)]
     #[tactic(auto, unfolding(crate::specs::CompiledMeaning::token_in))]
     pub(crate) fn token_on(&self, line: u32, i: usize) -> Token
         requires opened { IsOpened self.now }
@@ -242,42 +238,7 @@ impl<'a> Opened<'a> {
         if self.is_one_block() {
             self.front.token(self.bytes, line, i)
         } else {
-            self.row(i / 64).token(self.bytes, line, i % 64)
-        }
-    }
-
-    /// As `column`, by a block that was read, if it has the token.
-    #[inline(always)]
-    pub(crate) fn column_near(&self, i: usize, search: &Search) -> u32
-        requires opened { IsOpened self.now }
-        requires there { i < self.now.header.tokens }
-        requires read { IfSome search.now.read
-            (IsReadBlock self.now.bytes.now self.now.header) }
-        ensures { result ≡ column_of self.now.bytes.now self.now.header i }
-    {
-        match &search.read {
-            Some(block) if block.base <= i && i - block.base < 64 => {
-                let row = &block.row;
-                row.value(self.bytes, row.column, i - block.base)
-            }
-            _ => self.column(i),
-        }
-    }
-
-    /// As `token_on`, by a block that was read, if it has the token.
-    #[inline(always)]
-    pub(crate) fn token_near(&self, line: u32, i: usize, search: &Search) -> Token
-        requires opened { IsOpened self.now }
-        requires there { i < self.now.header.tokens }
-        requires read { IfSome search.now.read
-            (IsReadBlock self.now.bytes.now self.now.header) }
-        ensures { result ≡ token_in self.now.bytes.now self.now.header line i }
-    {
-        match &search.read {
-            Some(block) if block.base <= i && i - block.base < 64 => {
-                block.row.token(self.bytes, line, i - block.base)
-            }
-            _ => self.token_on(line, i),
+            self.token_in_blocks(line, i)
         }
     }
 

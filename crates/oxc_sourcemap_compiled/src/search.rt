@@ -1,8 +1,10 @@
-//! Searches by halving: of a line, of a block, and of a token in a block. `steps` counts the numbers that are compared.
+//! Searches by halving: of a line, of a block, and of a token in a block. `steps` counts the numbers that are compared; a loop counts
+//! them in `compared`, since through `steps` each step would write to memory.
 ghost use Rattle.std.specs.Prelude.{◌≡◌, ◌+◌, ◌*◌, ◌/◌, ◌%◌, ◌≤◌, ◌<◌, ℕ, true, nat_lt};
 ghost use Rattle.std.specs.Prelude.{if◌then◌else◌};
 ghost use Rattle.std.specs.Prelude.{IfSome, IsNone, ◌≢◌, slice_get, length};
 ghost use Rattle.oxc_sourcemap_compiled.specs.Words.{IsOpened, IsSearchIn, IsRow, HasRoom};
+ghost use Rattle.oxc_sourcemap_compiled.specs.Words.{IsColumnCut};
 ghost use Rattle.oxc_sourcemap_compiled.specs.Words.{IsCut, IsCutFound, DoNotFall};
 ghost use Rattle.oxc_sourcemap_compiled.specs.Words.{AreRowsExact};
 ghost use Rattle.oxc_sourcemap_compiled.specs.Words.{value_in, column_of, least_column_of};
@@ -14,7 +16,7 @@ ghost use Rattle.std.specs.Prelude.{◌-◌};
 
 use crate::fields::Row;
 use crate::numbers::u64_at;
-use crate::opened::{Opened, ReadBlock, Search};
+use crate::opened::Opened;
 use oxc_sourcemap_tokens::Token;
 
 /// All binary digits set if x is less than y, else 0.
@@ -62,18 +64,20 @@ impl Row {
             steps.old result steps.new }
     {
         let each = self.stride / 8;
+        let mut compared = *steps;
         let mut start = first;
         let mut at = self.at + first * each;
         let mut size = count;
         while size > 0 {
             let half = size / 2;
             let step = size - half;
-            let further = step * each;
-            let value = self.column.value(u64_at(bytes, at + further - each), 0);
-            start += step_if_less(value, limit, step, steps);
-            at += count_if_less(value, limit, further);
+            let skip = (step - 1) * each;
+            let value = self.column.value(u64_at(bytes, at + skip), 0);
+            start += step_if_less(value, limit, step, &mut compared);
+            at += count_if_less(value, limit, skip + each);
             size = half;
         }
+        *steps = compared;
         start
     }
 
@@ -95,18 +99,20 @@ impl Row {
             steps.old result steps.new }
     {
         let bits = self.stride;
+        let mut compared = *steps;
         let mut start = first;
         let mut bit = first * bits;
         let mut size = count;
         while size > 0 {
             let half = size / 2;
             let step = size - half;
-            let further = step * bits;
-            let value = self.value_at(bytes, self.column, bit + further - bits);
-            start += step_if_less(value, limit, step, steps);
-            bit += count_if_less(value, limit, further);
+            let skip = (step - 1) * bits;
+            let value = self.value_at(bytes, self.column, bit + skip);
+            start += step_if_less(value, limit, step, &mut compared);
+            bit += count_if_less(value, limit, skip + bits);
             size = half;
         }
+        *steps = compared;
         start
     }
 
@@ -152,14 +158,21 @@ impl<'a> Opened<'a> {
         ensures cut { (cut : ℕ) → IsCut (least_column_of self.now.bytes.now self.now.header)
             limit first (first + count) cut → result ≡ cut }
     {
+        let mut compared = *steps;
         let mut start = first;
         let mut size = count;
         while size > 0 {
             let half = size / 2;
             let step = size - half;
-            start += step_if_less(self.least_column(start + step - 1), limit, step, steps);
+            start += step_if_less(
+                self.least_column(start + step - 1),
+                limit,
+                step,
+                &mut compared,
+            );
             size = half;
         }
+        *steps = compared;
         start
     }
 
@@ -197,45 +210,37 @@ impl<'a> Opened<'a> {
         }
     }
 
-    /// Where the columns of tokens stop being below `limit`, among the tokens from `first` to before `end`. In a map of many blocks
-    /// the one that is searched is kept.
-    #[inline(always)]
-    pub(crate) fn column_cut(
-        &self,
-        first: usize,
-        end: usize,
-        limit: u64,
-        search: &mut Search,
-    ) -> usize
-        requires order { first ≤ end }
+    /// As `column_cut`, in a map of many blocks.
+    fn cut_in_blocks(&self, first: usize, end: usize, limit: u64, steps: &mut u64) -> usize
+        requires many { 16384 < self.now.header.tokens }
+        requires some { first < end }
         requires there { end ≤ self.now.header.tokens }
-        requires search { IsSearchIn self.now 256 search.old }
-        ensures search { IsSearchIn self.now (search.old.steps + binary_digits (end - first) + 2)
-            search.new }
-        ensures few { search.new.steps ≤ search.old.steps + 48 }
-        ensures reached { first ≤ result }
-        ensures within { result ≤ end }
-        ensures cut { AreRowsExact self.now.bytes.now self.now.header
-            → DoNotFall (column_of self.now.bytes.now self.now.header) first end → (cut : ℕ)
-            → IsCut (column_of self.now.bytes.now self.now.header) limit first end cut
-            → result ≡ cut }
+        requires search { IsSearchIn self.now 256 steps.old }
+        ensures { IsColumnCut self.now first end limit steps.old result steps.new }
     {
-        if first == end {
-            return first;
-        }
-        if self.is_one_block() {
-            return self
-                .front
-                .cut(self.bytes, first, end - first, limit, &mut search.steps);
-        }
-        let block = self.block_with_cut(first, end, limit, &mut search.steps);
+        let block = self.block_with_cut(first, end, limit, steps);
         let base = 64 * block;
         let start = base.max(first) - base;
         let stop = (base + 64).min(end) - base;
         let row = self.row(block);
-        search.read = Some(ReadBlock { row, base });
-        let count = stop - start;
-        base + row.cut_by_bits(self.bytes, start, count, limit, &mut search.steps)
+        base + row.cut_by_bits(self.bytes, start, stop - start, limit, steps)
+    }
+
+    /// Where the columns of tokens stop being below `limit`, among the tokens from `first` to before `end`.
+    #[inline(always)]
+    pub(crate) fn column_cut(&self, first: usize, end: usize, limit: u64, steps: &mut u64) -> usize
+        requires order { first ≤ end }
+        requires there { end ≤ self.now.header.tokens }
+        requires search { IsSearchIn self.now 256 steps.old }
+        ensures { IsColumnCut self.now first end limit steps.old result steps.new }
+    {
+        if first == end {
+            return first;
+        }
+        if !self.is_one_block() {
+            return self.cut_in_blocks(first, end, limit, steps);
+        }
+        self.front.cut(self.bytes, first, end - first, limit, steps)
     }
 
     /// Where the numbers of lines stop being below `line`.
@@ -250,6 +255,7 @@ impl<'a> Opened<'a> {
         ensures cut { (cut : ℕ) → IsCut (number_in_list self.now.bytes.now self.now.header) line 0
             self.now.header.lines cut → result ≡ cut }
     {
+        let mut compared = *steps;
         let mut start = 0;
         let mut size = self.header.lines;
         while size > 0 {
@@ -259,10 +265,11 @@ impl<'a> Opened<'a> {
                 self.line_number(start + step - 1),
                 u64::from(line),
                 step,
-                steps,
+                &mut compared,
             );
             size = half;
         }
+        *steps = compared;
         start
     }
 

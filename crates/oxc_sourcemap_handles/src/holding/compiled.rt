@@ -1,8 +1,9 @@
 //! What compiled maps in handles say of generated positions, and how they come into handles.
-ghost use Rattle.std.specs.Prelude.{◌≡◌, ◌≢◌, Some, Err, length, IfErr, MatchResult};
+ghost use Rattle.std.specs.Prelude.{◌≡◌, ◌≢◌, Some, Err, length, IfOk, IfErr, MatchResult};
 ghost use Rattle.std.specs.List.{AllZip};
 ghost use Rattle.oxc_sourcemap_handles.specs.Words.{IsCompiledTrace, IsCompiledIndex, held_text};
-ghost use Rattle.oxc_sourcemap_handles.specs.Words.{held_compiled, no_fault, code_of, IsErrorAs};
+ghost use Rattle.oxc_sourcemap_handles.specs.Words.{held_compiled, no_fault, out_of_memory};
+ghost use Rattle.oxc_sourcemap_handles.specs.Words.{code_of, IsErrorAs};
 
 use crate::holding::handle::Handle;
 use crate::holding::held::Held;
@@ -85,6 +86,14 @@ pub fn put_bytes(
     put(alloc, held, handle, fault)
 }
 
+/// A compiled map in a box for a handle.
+fn box_compiled(alloc: Global, map: CompiledMap<'static>) -> Result<Box<Held>, CallError>
+    ensures map { IfOk result (λ held. held_compiled (Some held.value) ≡ Some map.entry) }
+    ensures error { IfErr result (λ r. r ≡ out_of_memory) }
+{
+    Ok(Box::new(alloc, Held::Compiled(map))?)
+}
+
 /// Puts a compiled map that was opened into a handle, whose old one is then dropped, and returns the code.
 pub fn put_compiled(
     alloc: Global,
@@ -99,10 +108,7 @@ pub fn put_compiled(
     ensures told { IfErr opened.entry (λ r. result ≡ code_of r) }
 {
     let held = match opened {
-        Ok(map) => match Box::new(alloc, Held::Compiled(map)) {
-            Ok(held) => Ok(held),
-            Err(_) => Err(CallError::memory()),
-        },
+        Ok(map) => box_compiled(alloc, map),
         Err(error) => Err(error),
     };
     put(alloc, held, handle, fault)

@@ -6,7 +6,7 @@ use Rattle.std.proofs.Common.{ap, ◌∙◌, if◌then◌else◌}
 use Rattle.oxc_sourcemap_lookup.proofs.Halving.{digits-half, digits-below}
 use Rattle.oxc_sourcemap_compiled.specs.Words.{value_at, value_in}
 use Rattle.oxc_sourcemap_compiled.proofs.Searches.{halved-none, halved-more, halved-found}
-use Rattle.oxc_sourcemap_compiled.proofs.Searches.{bit-at, bit-next}
+use Rattle.oxc_sourcemap_compiled.proofs.Searches.{bit-at, bit-next, but-one}
 use Rattle.oxc_sourcemap_compiled.proofs.fields.Row.cut_by_bits.Goals as goal
 
 pub loop-size-init : goal.loop-size-init
@@ -31,7 +31,7 @@ loop-size-preserved c =
     let some : 0 < step = omega (arith, c.loop-size-test.true) in
     let read = c.value_at-value.ensures ∙ ap (value_at c.args.bytes.now self self.column) (bit-at self.column.first bit start step self.stride h.bit some) in
     let moved = c.step_if_less-start.ensures.value ∙ ap (λ v. if nat_lt v c.args.limit then step else 0) read in
-    let bits = c.count_if_less-bit.ensures ∙ ap (λ v. if nat_lt v c.args.limit then step * self.stride else 0) read in
+    let bits = c.count_if_less-bit.ensures ∙ ap (λ n. if nat_lt c.value_at-value.result c.args.limit then n else 0) (but-one step self.stride some) ∙ ap (λ v. if nat_lt v c.args.limit then step * self.stride else 0) read in
     let value = ap (λ n. start + n) moved in
     record {
       halved = halved-more (nat_lt (f at) c.args.limit) f c.args.limit c.args.first c.args.count start size (start + c.step_if_less-start.result) refl c.loop-size-test.true value h.halved;
@@ -58,5 +58,5 @@ value_at-value-requires-clause-there c =
 pub returns : goal.returns
 returns c =
     let h = c.loop-size.invariant in
-    halved-found (value_in c.args.bytes.now c.args.self.now c.args.self.now.column) c.args.limit c.args.first c.args.count c.loop-size.start c.loop-size.size c.args.steps.now c.loop-size.steps h.halved h.counted h.small
+    halved-found (value_in c.args.bytes.now c.args.self.now c.args.self.now.column) c.args.limit c.args.first c.args.count c.loop-size.start c.loop-size.size c.args.steps.now c.loop-size.compared h.halved h.counted h.small
     (omega (arith, c.loop-size-test.false))

@@ -8,7 +8,7 @@ use Rattle.oxc_sourcemap_compiled.specs.declared.fields.Row.{Row}
 use Rattle.oxc_sourcemap_lookup.proofs.Halving.{digits-half, digits-below}
 use Rattle.oxc_sourcemap_compiled.specs.Fields.{value_at, value_in}
 use Rattle.oxc_sourcemap_compiled.proofs.Searches.{halved-none, halved-more, halved-found}
-use Rattle.oxc_sourcemap_compiled.proofs.Searches.{bit-at, bit-next}
+use Rattle.oxc_sourcemap_compiled.proofs.Searches.{bit-at, bit-next, but-one}
 use Rattle.oxc_sourcemap_compiled.proofs.fields.Row.cut_by_bytes.Goals as goal
 
 pub loop-size-init : goal.loop-size-init
@@ -22,7 +22,7 @@ loop-size-init c = record {
 
 -- the column of a token, where each has whole bytes
 column-read : (bytes : List ℕ) (row : Row) (at start step word value : ℕ) → row.stride % 8 ≡ 0 → row.column.first ≡ 0 → 0 < step → at ≡ row.at + start * (row.stride / 8)
-    → word ≡ number_at 8 bytes (at + step * (row.stride / 8) - row.stride / 8) → value ≡ (row.column.least + word / 2 ^ 0 % 2 ^ row.column.width) % 2 ^ 32
+    → word ≡ number_at 8 bytes (at + (step - 1) * (row.stride / 8)) → value ≡ (row.column.least + word / 2 ^ 0 % 2 ^ row.column.width) % 2 ^ 32
     → value ≡ value_in bytes row row.column (start + step - 1)
 unfolding value_at
 column-read bytes row at start step word value whole front some is read e =
@@ -32,7 +32,7 @@ column-read bytes row at start step word value whole front some is read e =
     let j = start + step - 1 in
     let eight : s ≡ 8 * each = omega (arith, whole) in
     let bits : j * s ≡ 8 * (j * each) = ap (λ n. j * n) eight ∙ omega arith in
-    let place : at + step * each - each ≡ row.at + (f.first + j * s) / 8 = omega (arith, bit-at row.at at start step each is some, bits, front) in
+    let place : at + (step - 1) * each ≡ row.at + (f.first + j * s) / 8 = omega (arith, bit-at row.at at start step each is some, bits, front) in
     let turn : (f.first + j * s) % 8 ≡ 0 = omega (arith, bits, front) in
     e ∙ ap (λ n. (f.least + n / 2 ^ 0 % 2 ^ f.width) % 2 ^ 32) (read ∙ ap (number_at 8 bytes) place)
     ∙ sym (ap (λ r. (f.least + number_at 8 bytes (row.at + (f.first + j * s) / 8) / 2 ^ r % 2 ^ f.width) % 2 ^ 32) turn)
@@ -51,7 +51,7 @@ loop-size-preserved c =
     let some : 0 < step = omega (arith, c.loop-size-test.true) in
     let read = column-read bytes self place start step c.u64_at.result c.value-value.result c.requires.whole c.requires.row.front some h.at c.u64_at.ensures c.value-value.ensures in
     let moved = c.step_if_less-start.ensures.value ∙ ap (λ v. if nat_lt v c.args.limit then step else 0) read in
-    let further = c.count_if_less-at.ensures ∙ ap (λ v. if nat_lt v c.args.limit then step * each else 0) read in
+    let further = c.count_if_less-at.ensures ∙ ap (λ n. if nat_lt c.value-value.result c.args.limit then n else 0) (but-one step each some) ∙ ap (λ v. if nat_lt v c.args.limit then step * each else 0) read in
     let value = ap (λ n. start + n) moved in
     record {
       halved = halved-more (nat_lt (f (start + step - 1)) c.args.limit) f c.args.limit c.args.first c.args.count start size (start + c.step_if_less-start.result) refl c.loop-size-test.true value h.halved;
@@ -80,5 +80,5 @@ u64_at-requires c =
 pub returns : goal.returns
 returns c =
     let h = c.loop-size.invariant in
-    halved-found (value_in c.args.bytes.now c.args.self.now c.args.self.now.column) c.args.limit c.args.first c.args.count c.loop-size.start c.loop-size.size c.args.steps.now c.loop-size.steps h.halved h.counted h.small
+    halved-found (value_in c.args.bytes.now c.args.self.now c.args.self.now.column) c.args.limit c.args.first c.args.count c.loop-size.start c.loop-size.size c.args.steps.now c.loop-size.compared h.halved h.counted h.small
     (omega (arith, c.loop-size-test.false))

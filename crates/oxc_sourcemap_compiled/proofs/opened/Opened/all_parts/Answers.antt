@@ -1,12 +1,12 @@
 use Rattle.std.proofs.Common.{◌≡◌, ◌+◌, ◌*◌, map, option_map, Some, None, sym, ap, ◌∙◌}
-use Rattle.std.proofs.Common.{if◌then◌else◌}
+use Rattle.std.proofs.Common.{if◌then◌else◌, ◌&&◌}
 use Rattle.std.proofs.Math.Nat.{zero-add}
 use Rattle.std.specs.List.{range_with_len, list_all}
 use Rattle.std.specs.Str.{is_utf8}
 use Rattle.oxc_sourcemap_parts.specs.Views.{text_of, texts_of, contents_of}
 use Rattle.oxc_sourcemap_compiled.specs.Decompiled.{is_optional_utf8, checked_texts}
 use Rattle.oxc_sourcemap_compiled.specs.Words.{listed_in, map_in}
-use Rattle.oxc_sourcemap_compiled.proofs.Taken.{checked-some, same-map, all-checked}
+use Rattle.oxc_sourcemap_compiled.proofs.Taken.{checked-some, checked-none, same-map, all-checked}
 use Rattle.oxc_sourcemap_compiled.proofs.opened.Opened.all_parts.Goals as goal
 
 pub returns : goal.returns
@@ -27,3 +27,13 @@ returns c =
     (is_optional_utf8 r.debug_id) sources.0 names.0 contents.0 file.0 root.0 debug_id.0 in
     ap Some (same-map file.1 names.1 root.1 sources.1 contents.1 (c.into_boxed_slice.ensures.items ∙ c.in_ok-all_tokens.ensures) c.in_ok-ignore_list.ensures debug_id.1)
     ∙ sym (ap (λ b. if b then Some r else None) all)
+
+pub returns-in_default : goal.returns-in_default
+returns-in_default c =
+    let bytes = c.args.self.now.bytes.now in
+    let h = c.args.self.now.header in
+    let r = map_in bytes h in
+    let first : map (λ i. listed_in bytes h (0 + i)) (range_with_len 0 h.sources) ≡ r.sources = simp zero-add in
+    let sources = checked-none (list_all is_utf8 r.sources) r.sources (ap (option_map texts_of) (sym c.in_default.is) ∙ c.in_ok-sources.ensures ∙ ap checked_texts first) in
+    let others = list_all is_utf8 r.names && (list_all is_optional_utf8 r.source_contents && (is_optional_utf8 r.file && (is_optional_utf8 r.source_root && is_optional_utf8 r.debug_id))) in
+    sym (ap (λ b. if b && others then Some r else None) sources)

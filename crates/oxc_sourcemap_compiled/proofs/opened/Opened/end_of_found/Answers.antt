@@ -39,7 +39,7 @@ returns-clause-index c = λ line of_line.
     let n = before col front in
     let found : c.column_cut-before.result ≡ start + n = cut ∙ ap (λ k. start + before k front) c.from.ensures in
     let within : n < length line = omega (arith, before-all col front, short, size, c.if-span.false, c.requires.span.order) in
-    let read : get_or cs n 0 ≡ c.column_near.result = get_or-map-range_with_len f start (end - start) n (start + n) 0 (omega (arith, within, size)) refl ∙ ap f (sym found) ∙ sym c.column_near.ensures in
+    let read : get_or cs n 0 ≡ c.column.result = get_or-map-range_with_len f start (end - start) n (start + n) 0 (omega (arith, within, size)) refl ∙ ap f (sym found) ∙ sym c.column.ensures in
     let more : c.from-2.result ≡ (if nat_lt (get_or cs n 0) (col + 1) then 1 else 0) = grind (arith, common_steps, read) in
     let counted : c.column_cut-before.result + c.from-2.result - start ≡ n + c.from-2.result = omega (arith, found) in
     ap index_before counted ∙ ap (λ k. index_before (n + k)) more ∙ index-through col n cs line is g within refl
@@ -48,4 +48,4 @@ pub returns-clause-search : goal.returns-clause-search
 returns-clause-search c =
     let start = c.args.span.start in
     let end = c.args.span.end in
-    record { opened = c.requires.search.opened; few = omega (arith, c.column_cut-before.ensures.search.few, fewer-digits (end - 1 - start) (end - start) (omega arith)); read = c.column_cut-before.ensures.search.read }
+    record { opened = c.requires.search.opened; few = omega (arith, c.column_cut-before.ensures.search.few, fewer-digits (end - 1 - start) (end - start) (omega arith)) }

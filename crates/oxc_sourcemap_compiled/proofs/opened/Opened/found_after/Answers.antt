@@ -39,7 +39,7 @@ returns-clause-index c = λ line of_line.
     let found : c.column_cut-last.result ≡ start + 1 + n = cut ∙ ap (λ k. start + 1 + before (k + 1) rest) c.from.ensures in
     let at : c.column_cut-last.result - 1 ≡ start + n = omega (arith, found) in
     let within : n < length line = omega (arith, before-all (c.args.col + 1) rest, short, size, c.if-span.false, c.requires.span.order) in
-    let read : get_or cs n 0 ≡ c.column_near.result = get_or-map-range_with_len f start (end - start) n (start + n) 0 (omega (arith, within, size)) refl ∙ ap f (sym at) ∙ sym c.column_near.ensures in
+    let read : get_or cs n 0 ≡ c.column.result = get_or-map-range_with_len f start (end - start) n (start + n) 0 (omega (arith, within, size)) refl ∙ ap f (sym at) ∙ sym c.column.ensures in
     let k = c.from-2.result in
     let more : k ≡ (if nat_lt (get_or cs n 0) c.args.col then 1 else 0) = grind (arith, common_steps, read) in
     let counted : c.column_cut-last.result - 1 + k ≡ start + (n + k) = omega (arith, at) in
@@ -50,4 +50,4 @@ pub returns-clause-search : goal.returns-clause-search
 returns-clause-search c =
     let start = c.args.span.start in
     let end = c.args.span.end in
-    record { opened = c.requires.search.opened; few = omega (arith, c.column_cut-last.ensures.search.few, fewer-digits (end - (start + 1)) (end - start) (omega arith)); read = c.column_cut-last.ensures.search.read }
+    record { opened = c.requires.search.opened; few = omega (arith, c.column_cut-last.ensures.search.few, fewer-digits (end - (start + 1)) (end - start) (omega arith)) }

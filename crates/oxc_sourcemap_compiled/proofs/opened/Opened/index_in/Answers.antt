@@ -27,9 +27,9 @@ returns-else-end-span-clause-found c = λ order.
 pub returns-then-end-span-clause-search : goal.returns-then-end-span-clause-search
 returns-then-end-span-clause-search c =
     let size = c.span-span.result.end - c.span-span.result.start in
-    record { opened = c.requires.search.opened; few = omega (arith, c.end_of_found-end.ensures.search.few, fewer-digits size c.args.self.now.header.tokens (omega (arith, c.span-span.ensures.span.there))); read = c.end_of_found-end.ensures.search.read }
+    record { opened = c.requires.search.opened; few = omega (arith, c.end_of_found-end.ensures.search.few, fewer-digits size c.args.self.now.header.tokens (omega (arith, c.span-span.ensures.span.there))) }
 
 pub returns-else-end-span-clause-search : goal.returns-else-end-span-clause-search
 returns-else-end-span-clause-search c =
     let size = c.span-span.result.end - c.span-span.result.start in
-    record { opened = c.requires.search.opened; few = omega (arith, c.end_of_found-end.ensures.search.few, fewer-digits size c.args.self.now.header.tokens (omega (arith, c.span-span.ensures.span.there))); read = c.end_of_found-end.ensures.search.read }
+    record { opened = c.requires.search.opened; few = omega (arith, c.end_of_found-end.ensures.search.few, fewer-digits size c.args.self.now.header.tokens (omega (arith, c.span-span.ensures.span.there))) }

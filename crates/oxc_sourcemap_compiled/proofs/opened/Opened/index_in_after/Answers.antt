@@ -35,9 +35,9 @@ returns-else-found-span-clause-found c = λ order.
 pub returns-then-found-span-clause-search : goal.returns-then-found-span-clause-search
 returns-then-found-span-clause-search c =
     let size = c.span-span.result.end - c.span-span.result.start in
-    record { opened = c.requires.search.opened; few = omega (arith, c.found_after-found.ensures.search.few, fewer-digits size c.args.self.now.header.tokens (omega (arith, c.span-span.ensures.span.there))); read = c.found_after-found.ensures.search.read }
+    record { opened = c.requires.search.opened; few = omega (arith, c.found_after-found.ensures.search.few, fewer-digits size c.args.self.now.header.tokens (omega (arith, c.span-span.ensures.span.there))) }
 
 pub returns-else-found-span-clause-search : goal.returns-else-found-span-clause-search
 returns-else-found-span-clause-search c =
     let size = c.span-span.result.end - c.span-span.result.start in
-    record { opened = c.requires.search.opened; few = omega (arith, c.found_after-found.ensures.search.few, fewer-digits size c.args.self.now.header.tokens (omega (arith, c.span-span.ensures.span.there))); read = c.found_after-found.ensures.search.read }
+    record { opened = c.requires.search.opened; few = omega (arith, c.found_after-found.ensures.search.few, fewer-digits size c.args.self.now.header.tokens (omega (arith, c.span-span.ensures.span.there))) }

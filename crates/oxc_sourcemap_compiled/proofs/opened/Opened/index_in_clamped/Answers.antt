@@ -33,4 +33,4 @@ returns-clause-found c = λ order.
 pub returns-clause-search : goal.returns-clause-search
 returns-clause-search c =
     let size = c.span-span.result.end - c.span-span.result.start in
-    record { opened = c.requires.search.opened; few = omega (arith, c.end_of_found-end.ensures.search.few, fewer-digits size c.args.self.now.header.tokens (omega (arith, c.span-span.ensures.span.there))); read = c.end_of_found-end.ensures.search.read }
+    record { opened = c.requires.search.opened; few = omega (arith, c.end_of_found-end.ensures.search.few, fewer-digits size c.args.self.now.header.tokens (omega (arith, c.span-span.ensures.span.there))) }

@@ -7,7 +7,7 @@ use Rattle.oxc_sourcemap_compiled.proofs.opened.Opened.line_cut.Given as goal
 abbrev pub invariant-loop-size : goal.invariant-loop-size
 invariant-loop-size l = record {
   halved : IsHalved (number_in_list l.self.bytes.now l.self.header) l.line 0 l.self.header.lines l.start l.size;
-  counted : l.steps + binary_digits l.size ≡ l.fn.steps + binary_digits l.self.header.lines;
+  counted : l.compared + binary_digits l.size ≡ l.fn.steps + binary_digits l.self.header.lines;
   small : binary_digits l.self.header.lines ≤ 32;
   few : l.fn.steps ≤ 65535;
 }

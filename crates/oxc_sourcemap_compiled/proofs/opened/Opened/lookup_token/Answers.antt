@@ -9,10 +9,11 @@ pub returns-in-Some-clause-found : goal.returns-in-Some-clause-found
 returns-in-Some-clause-found c = λ order.
     let o = c.args.self.now in
     let ts = tokens_in o.bytes.now o.header in
-    let stands = stands-on o.bytes.now o.header order c.args.at.line c.in-Some.i c.in-Some.ensures.among in
-    ap Some c.token_near.ensures ∙ sym stands ∙ ap (option_and_then (slice_get ts)) (c.in-Some.ensures.found order) ∙ sym (found-token-by c.args.bias ts c.args.at.line c.args.at.column)
+    let found = c.in-Some.ensures in
+    let stands = stands-on o.bytes.now o.header order c.args.at.line c.in-Some.found.0 found.index.among in
+    ap Some found.token ∙ sym stands ∙ ap (option_and_then (slice_get ts)) (found.index.is order) ∙ sym (found-token-by c.args.bias ts c.args.at.line c.args.at.column)
 
 pub returns-in-None-clause-found : goal.returns-in-None-clause-found
 returns-in-None-clause-found c = λ order.
     let ts = tokens_in c.args.self.now.bytes.now c.args.self.now.header in
-    ap (option_and_then (slice_get ts)) (c.in-None.ensures.found order) ∙ sym (found-token-by c.args.bias ts c.args.at.line c.args.at.column)
+    ap (option_and_then (slice_get ts)) (c.in-None.ensures.index.is order) ∙ sym (found-token-by c.args.bias ts c.args.at.line c.args.at.column)

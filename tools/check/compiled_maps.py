@@ -99,6 +99,14 @@ def contents_apart(run, check, text):
         status, out, err = run(traced, folder)
         told = "dist/app.js.map.contents.smc: leads out of its folder, so it is not read\n"
         check("no content" in out and err.endswith(told), f"contents by a link out of the folder: {status}, {out}, {err}")
+        status, _, err = run(["compile", "--contents-apart", "dist/app.js.map"], folder)
+        told = "dist/app.js.map.contents.smc: leads out of its folder, so no command would read it\n"
+        check(status == 2 and told in err, f"contents written by a link out of the folder: {status}, {err}")
+        apart.unlink()
+        apart.symlink_to("../far/none")
+        status, _, err = run(["compile", "--contents-apart", "dist/app.js.map"], folder)
+        check(status == 2 and told in err, f"contents written by a link to nothing: {status}, {err}")
+        check(not Path(folder, "far/none").exists(), "contents are written by a link to nothing")
         apart.unlink()
         for data, why in (
             (b"", "not a compiled source map"),
@@ -109,6 +117,11 @@ def contents_apart(run, check, text):
             told = f"sourcemap: dist/app.js.map.contents.smc: {why}, so it is not read: compile the map again\n"
             found = run(traced, folder)
             check("no content" in found[1] and found[2] == told, f"contents that are not taken: {found}, not {told}")
+        Path(folder, "page.html").write_text("{{data}}")
+        Path(folder, "dist/app.js").write_text("let a\n")
+        found = run(["page", "dist/app.js", "dist/app.js.map.smc", "--template", "page.html", "-o", "shown.html"], folder)
+        check(found == (0, "", told), f"a page of contents that are not taken: {found}, not {told} once")
+        Path(folder, "dist/app.js").unlink()
         Path(folder, "far/contents").rename(compiled)
         told = run(["check", "dist/app.js.map.smc"], folder)
         check(told[0] == 1 and "differs from dist/app.js.map" in told[1], f"contents named as a compiled map: {told}")

@@ -3,10 +3,12 @@ use crate::bundle::refuse_overwriting;
 use oxc_sourcemap_parts::SourceMapParts;
 use sourcemap_files::{
     Asked, COMPILED_END, CONTENTS_END, MapText, Progress, Status, Written, compiled_of, file_name,
-    map_of_file, place_of, print, read_map, take_contents, tell, usage, with_slash, write_files,
+    folder_of, is_inside, is_regular, map_of_file, place_of, print, read_map, take_contents, tell,
+    usage, warn, with_slash, write_files,
 };
 use sourcemap_run::{push_number_member, push_object, push_text_member};
 use sourcemap_words::{Failure, Outcome, failure_of};
+use std::fs;
 
 /// A compiled map, or the contents that lie apart from it, and the file that it is written to.
 #[derive(Drop)]
@@ -62,6 +64,19 @@ fn made_with(
     })
 }
 
+/// Refuses to write contents where no command reads them: by a link out of the folder of the compiled map.
+fn refuse_leaving(asked: &Asked<'_, '_>, output: &str) -> Outcome<()> {
+    let is_there = fs::symlink_metadata(asked.rt, output).is_ok();
+    if is_there && !is_inside(asked.rt, output, folder_of(output)) {
+        return Err(failure_of(
+            asked.alloc(),
+            output,
+            "leads out of its folder, so no command would read it",
+        ));
+    }
+    Ok(())
+}
+
 /// Reads the map of a file, and compiles it: to one file, or to another one with the contents too.
 fn made_of(asked: &Asked<'_, '_>, file: &str) -> Outcome<Vec<Made>> {
     let (rt, alloc) = (asked.rt, asked.alloc());
@@ -88,7 +103,9 @@ fn made_of(asked: &Asked<'_, '_>, file: &str) -> Outcome<Vec<Made>> {
     let mut all = Vec::new(alloc);
     if asked.has("contents-apart") {
         let apart = take_contents(alloc, &mut parts)?;
-        all.push(made_with(asked, of, &apart, CONTENTS_END)?)?;
+        let apart = made_with(asked, of, &apart, CONTENTS_END)?;
+        refuse_leaving(asked, apart.output.as_str())?;
+        all.push(apart)?;
     } else if asked.has("no-contents") {
         take_contents(alloc, &mut parts)?;
     }
@@ -117,6 +134,23 @@ fn write(asked: &Asked<'_, '_>, all: &[Made]) -> Outcome<()> {
         files.push((made.output.as_str(), made.bytes.as_slice()))?;
     }
     write_files(asked.rt, files.as_slice())
+}
+
+/// Warns of contents that lie beside compiled maps which are written without them.
+fn tell_left(asked: &Asked<'_, '_>, all: &[Made]) -> Outcome<()> {
+    if asked.has("contents-apart") {
+        return Ok(());
+    }
+    for made in all {
+        let output = made.output.as_str();
+        let name = output.strip_suffix(COMPILED_END).unwrap_or(output);
+        let left = format!(in asked.alloc(); "{name}{CONTENTS_END}")?;
+        if is_regular(asked.rt, left.as_str()) {
+            let why = "is left as it was: remove it, or compile with --contents-apart";
+            warn(asked.rt, left.as_str(), why);
+        }
+    }
+    Ok(())
 }
 
 /// The objects of `--json`, one a line.
@@ -161,6 +195,7 @@ pub fn run(asked: &Asked<'_, '_>) -> Outcome<Status> {
     }
     progress.clear(asked.rt);
     write(asked, all.as_slice())?;
+    tell_left(asked, all.as_slice())?;
     if asked.has("json") {
         print(asked.rt, objects_of(asked, all.as_slice())?.as_str())?;
     }

@@ -382,7 +382,7 @@ fn tell_stale(rt: &HostRuntime, file: &str, bytes: &[u8], report: &mut Report) -
     if !is_stale(bytes, text.as_str()) {
         return tell_different(report, bytes, name, text.as_str(), is_apart);
     }
-    let told = format!(in report.alloc; "out of date: {name} has changed since: compile it again")?;
+    let told = format!(in report.alloc; "out of date: {name} has another text: compile it again")?;
     report.tell(Kind::Wrong, told.as_str())
 }
 

@@ -57,6 +57,17 @@ fn map_text(asked: &Asked<'_, '_>, code: &str, text: &str) -> Outcome<MapText> {
     }
 }
 
+/// A map as its text. That of a compiled one is made once, so that what is told of its files is told once; the page's report is on it.
+fn as_text(rt: &HostRuntime, map: MapText) -> Outcome<MapText> {
+    if let Written::Text(_) = &map.written {
+        return Ok(map);
+    }
+    let text = text_of_map(rt, &map)?;
+    let mut map = map;
+    map.written = Written::Text(text);
+    Ok(map)
+}
+
 /// Appends an object of a name and a text.
 fn push_named(alloc: Global, name: &str, text: &str, out: &mut String) -> Outcome<()> {
     let mut members = String::new(alloc);
@@ -185,7 +196,7 @@ pub fn run(asked: &Asked<'_, '_>) -> Outcome<Status> {
     check_words(asked)?;
     let code = asked.word("CODE");
     let text = read_code(asked)?;
-    let map = map_text(asked, code, text.as_str())?;
+    let map = as_text(asked.rt, map_text(asked, code, text.as_str())?)?;
     read_map(asked.rt, &map)?;
     check_output(asked, &map)?;
     write(asked, text.as_str(), &map)?;

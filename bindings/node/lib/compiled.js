@@ -3,7 +3,7 @@
 
 const native = require('./native.js');
 const { Bias, Code, Kind, Slot, Which } = require('./constants.js');
-const { check, made, madeOrNull, long } = require('./errors.js');
+const { check, damaged, made, madeOrNull, long } = require('./errors.js');
 const { bytesOf, word, checkWords } = require('./arguments.js');
 const { tokenAt } = require('./iteration.js');
 const { mapOf } = require('./map.js');
@@ -22,6 +22,7 @@ let isGone;
 
 class CompiledMap {
   #handle;
+  #length; // how many bytes there are
   #number = -1; // by which the library tells that this is the map that it asks
   #sources = new Map(); // those that lookups found, by their ids
   #names = new Map();
@@ -31,7 +32,9 @@ class CompiledMap {
   }
 
   constructor(bytes) {
-    this.#handle = made(native.openCompiled(bytesOf(bytes, 'The bytes')));
+    const given = bytesOf(bytes, 'The bytes');
+    this.#handle = made(native.openCompiled(given));
+    this.#length = given.byteLength;
   }
 
   free() {
@@ -41,7 +44,9 @@ class CompiledMap {
   }
 
   decompile() {
-    return mapOf(native.decompile(this.#handle));
+    const answer = native.decompile(this.#handle);
+    if (answer === Code.NO_ENTRY) throw damaged();
+    return mapOf(answer);
   }
 
   // ---- what a map holds ----
@@ -83,9 +88,15 @@ class CompiledMap {
     return this.#text(Which.CONTENT, word(id, 'The id'));
   }
 
-  /** So many texts of a list, by their ids. */
+  /** So many texts of a list, by their ids. They are no longer than the bytes, but where these are damaged so that texts overlap. */
   #texts(which, count) {
-    return Array.from({ length: count }, (_, id) => this.#text(which, id));
+    let left = this.#length;
+    return Array.from({ length: count }, (_, id) => {
+      const text = this.#text(which, id);
+      left -= text === null ? 0 : text.length;
+      if (left < 0) throw damaged();
+      return text;
+    });
   }
 
   get names() {

@@ -43,8 +43,8 @@ function placeOf(words) {
   };
 }
 
-/** An error whose code is none of the library's. */
-function errorOfThreads(code, message) {
+/** An error with no more than a code and a message. */
+function errorOfMap(code, message) {
   return new SourceMapError(message, { code, detail: 0, field: null, place: null, placeMessage: '' });
 }
 
@@ -55,11 +55,18 @@ function placeMessageOf(words, text) {
   return reason ? `${place}: ${reason}` : place;
 }
 
+/** Whether what was read are the bytes of a compiled map, in whose eighth byte no text of a map has a NUL. */
+function isCompiled(it) {
+  return ArrayBuffer.isView(it) && [...'smap'].every((letter, at) => it[at] === letter.charCodeAt(0)) && it[7] === 0;
+}
+
 /** The error of a fault, if need be of reading this text. */
 function errorOf(words, text) {
   const [number, field] = words;
-  if (number === Code.SHARED) return errorOfThreads('SMAP_SHARED', 'The map is shared with other threads, and takes no change');
-  if (number === Code.NO_THREADS) return errorOfThreads('SMAP_NO_THREADS', 'The WebAssembly module shares no map with other threads');
+  if (number === Code.NULL_HANDLE) return errorOfMap('SMAP_NULL_HANDLE', 'It was freed, or its buffer was transferred');
+  if (isCompiled(text)) return errorOfMap(native.codeName(number), 'This is a compiled map: open it by CompiledMap');
+  if (number === Code.SHARED) return errorOfMap('SMAP_SHARED', 'The map is shared with other threads, and takes no change');
+  if (number === Code.NO_THREADS) return errorOfMap('SMAP_NO_THREADS', 'The WebAssembly module shares no map with other threads');
   const code = native.codeName(number);
   return new SourceMapError(native.message(words) || code, {
     code,
@@ -75,6 +82,11 @@ function refusal(code) {
   const words = new Uint32Array(native.fault.length);
   words[0] = code;
   return errorOf(words);
+}
+
+/** The error of a compiled map whose lists cannot be had. */
+function damaged() {
+  return errorOfMap('SMAP_NO_ENTRY', 'The compiled map is damaged');
 }
 
 /** Throws what a call has refused that answers a code, if need be of reading this text. */
@@ -93,4 +105,4 @@ function madeOrNull(answer) {
   return answer === Code.NO_ENTRY ? null : made(answer);
 }
 
-module.exports = { SourceMapError, errorOf, refusal, check, made, madeOrNull, long, longOrNull };
+module.exports = { SourceMapError, errorOf, refusal, damaged, check, made, madeOrNull, long, longOrNull };

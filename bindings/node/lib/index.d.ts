@@ -585,13 +585,20 @@ export class SourceMap {
   /** The JSON text as a data URL, of at most `limit` bytes. */
   toDataURL(options?: { readonly limit?: number | undefined }): string;
   /**
-   * The bytes of a compiled map, which CompiledMap opens in constant time and looks up where they lie; in Node a Buffer. A content past
-   * the last source is dropped. `textLength` is the number of bytes of the map's text, and `stamp` 32 bytes that are kept as they are, as
-   * the SHA-256 of that text; 0 and zero bytes if they are not said. Throws SourceMapError of SMAP_UNSORTED or SMAP_TOO_LARGE.
+   * The bytes of a compiled map, which CompiledMap opens in constant time and looks up where they lie; in Node a Buffer. They have a
+   * content for each source, null if it is not known, and none past the last. `textLength` is the number of bytes of the map's text, and
+   * `stamp` 32 bytes that are kept as they are, as the SHA-256 of that text; 0 and zero bytes if they are not given. Throws
+   * SourceMapError of SMAP_UNSORTED or SMAP_TOO_LARGE.
    *
    * Contents are left out if they are taken away before: `const bare = map.clone(); bare.setSourcesContent([])`. A map of the same
    * sources, with contents and no tokens, has them apart, by the same ids:
    * `SourceMap.fromTokens([], { sources: map.sources, sourcesContent: map.sourcesContent })`.
+   *
+   * @example
+   * // The file that `sourcemap compile` writes, and that `sourcemap resolve` reads instead of app.js.map until this has another text:
+   * const text = fs.readFileSync("app.js.map");
+   * const stamp = crypto.createHash("sha256").update(text).digest();
+   * fs.writeFileSync("app.js.map.smc", new SourceMap(text).compile({ textLength: text.length, stamp }));
    */
   compile(options?: { readonly textLength?: number | undefined; readonly stamp?: Uint8Array | undefined }): Uint8Array;
   /** The mappings text alone. Throws as `toString` does. */
@@ -611,7 +618,8 @@ export interface CompiledCounts {
 }
 
 /**
- * A compiled map, open in bytes of `SourceMap.compile`, a file or any other, whose members are as those of SourceMap.
+ * A compiled map, open in bytes of `SourceMap.compile`, a file or any other. Its members do what those of SourceMap do; `decompile`
+ * gives a SourceMap, which has the others too.
  *
  * The bytes are kept, and nobody may change them before `free`: what is then answered is not said. In Node by the addon they are not
  * copied, so that workers share those in a SharedArrayBuffer. If their buffer is transferred, or made shorter, all calls fail with
@@ -620,7 +628,7 @@ export interface CompiledCounts {
  * Of bytes that `compile` did not make, lookups answer some token of the line, or none, and texts that are not UTF-8 have U+FFFD.
  *
  * @example
- * const map = new CompiledMap(fs.readFileSync("app.js.smap"));
+ * const map = new CompiledMap(fs.readFileSync("app.js.map.smc"));
  * map.trace(0, 5); // { source: "a.ts", line: 2, column: 4, name: "f", index: 1 }
  */
 export class CompiledMap {
@@ -642,7 +650,8 @@ export class CompiledMap {
   getName(id: number): string | null;
   getSource(id: number): string | null;
   getSourceContent(id: number): string | null;
-  /** All names, sources and contents, by their ids. Each array is made by each call: `getName` and its sisters have one text. */
+  /** All names, sources and contents, by their ids. Each array is made by each call: `getName` and its sisters have one text. Throws
+   *  SourceMapError of SMAP_NO_ENTRY if they are longer than the bytes, as only those of damaged bytes are. */
   readonly names: string[];
   readonly sources: string[];
   readonly sourcesContent: (string | null)[];
@@ -652,7 +661,7 @@ export class CompiledMap {
   readonly hasIgnoreList: boolean;
   /** Whether the ignore list has the id of a source. */
   isIgnored(id: number): boolean;
-  /** The token at an index, for which the lines are halved; null past the last one. */
+  /** The token at an index, whose line is found by binary search; null past the last one. */
   token(index: number): FoundToken | null;
 
   trace(line: number, column: number, bias?: Bias): Original | null;

@@ -257,12 +257,25 @@ test('the errors of bytes', () => {
   fails({ code: 'SMAP_COMPILED_VERSION', detail: 2, message: 'unsupported version of a compiled source map: 2' }, () => new CompiledMap(changed(4, 2)));
   fails({ code: 'SMAP_COMPILED_LENGTH', message: 'a compiled source map has another length than it says' }, () => new CompiledMap(bytes.subarray(0, -1)));
   fails({ code: 'SMAP_COMPILED_SIZES', message: 'the sizes in a compiled source map do not add up' }, () => new CompiledMap(changed(59, 255)));
+  fails({ message: 'This is a compiled map: open it by CompiledMap' }, () => new SourceMap(bytes));
   const latin = Uint8Array.from(new SourceMap({ ...MAP, file: 'qqqq' }).compile());
   const broken = new CompiledMap(latin.with(Buffer.from(latin).indexOf('qqqq') + 1, 0xff));
   assert.equal(broken.file, 'q\ufffdqq');
-  fails({ code: 'SMAP_NO_ENTRY' }, () => broken.decompile());
+  fails({ code: 'SMAP_NO_ENTRY', message: 'The compiled map is damaged' }, () => broken.decompile());
   // The first line begins behind the second, or the last one ends before it begins.
   for (const turned of [changed(88, TOKENS.length), changed(96, 2)]) fails({ code: 'SMAP_NO_ENTRY' }, () => new CompiledMap(turned).decompile());
+});
+
+test('texts that overlap', () => {
+  const names = Array.from({ length: 40 }, (_, id) => String(id).padStart(100, '.'));
+  const bytes = Buffer.from(SourceMap.fromTokens([], { names }).compile());
+  assert.deepEqual(new CompiledMap(bytes).names, names);
+  // Behind the header and where the first line begins: each other name has all bytes of the texts.
+  const damaged = Buffer.from(bytes);
+  names.forEach((_, id) => damaged.writeUInt32LE(4000 * (id % 2), 92 + 4 * id));
+  const map = new CompiledMap(damaged);
+  assert.equal(map.getName(38).length, 4000);
+  fails({ code: 'SMAP_NO_ENTRY', message: 'The compiled map is damaged' }, () => map.names);
 });
 
 test('bytes that are cut, changed or random', () => {

@@ -218,7 +218,7 @@ test('what was freed', () => {
     visualizerURL: [''],
     eachMapping: [() => {}],
   };
-  for (const [name, given] of Object.entries(calls)) fails({ code: 'SMAP_NULL_HANDLE', message: 'The handle is null' }, () => map[name](...given));
+  for (const [name, given] of Object.entries(calls)) fails({ code: 'SMAP_NULL_HANDLE', message: 'It was freed, or its buffer was transferred' }, () => map[name](...given));
   const methods = Object.getOwnPropertyNames(SourceMap.prototype).filter((it) => typeof Object.getOwnPropertyDescriptor(SourceMap.prototype, it).value === 'function');
   assert.deepEqual(methods.filter((it) => !Object.hasOwn(calls, it)).sort(), ['constructor', 'free']);
   for (const it of [new SourceMapBuilder(), new ConcatSourceMapBuilder()]) {

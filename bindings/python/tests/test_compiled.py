@@ -7,6 +7,7 @@ import mmap
 import os
 import pickle
 import random
+import struct
 import subprocess
 import sys
 import tempfile
@@ -249,6 +250,16 @@ class Hostile(CompiledCase):
                 said = tokens, map.names, map.sources, map.source_contents, map.file, map.source_root, map.debug_id, map.decompile()
                 opened += len(said) == 8
         self.assertGreater(opened, len(DATA))
+
+    def test_texts_that_overlap(self):
+        data = bytearray(SourceMap.from_tokens([], names=[f"{id:04}" * 25 for id in range(40)]).compile())
+        self.assertEqual(CompiledMap(bytes(data)).names[39], "0039" * 25)
+        # Behind the header and where the first line begins: each other name has all bytes of the texts.
+        struct.pack_into("<40I", data, 92, *(4000 * (id % 2) for id in range(40)))
+        map = CompiledMap(data)
+        self.assertEqual(len(map.get_name(38)), 4000)
+        with self.assertRaisesRegex(ValueError, "its texts overlap"):
+            map.names
 
     def test_texts_that_are_not_utf8(self):
         def with_text(old: bytes, new: bytes) -> CompiledMap:

@@ -75,8 +75,8 @@ class CompiledMap(Handle):
     Until it is closed (by `close`, a `with` or the collector) the buffer cannot be resized or closed; its bytes must not be changed.
 
     Any bytes may be opened. Of such that `SourceMap.compile` did not make, a lookup finds some token of the line, or none, and a text
-    that is not UTF-8 counts as None: a token whose source is none has no source. `sources` and the like of such bytes may take memory
-    of the square of their length.
+    that is not UTF-8 counts as None: a token whose source is none has no source. `names`, `sources` and `source_contents` raise ValueError
+    where texts overlap, and so are longer than the bytes.
 
     Raises SourceMapError of NOT_COMPILED, COMPILED_VERSION, COMPILED_LENGTH or COMPILED_SIZES, and ValueError if the buffer is not
     contiguous.
@@ -110,7 +110,7 @@ class CompiledMap(Handle):
 
         >>> import os, tempfile
         >>> with tempfile.TemporaryDirectory() as folder:
-        ...     path = os.path.join(folder, "a.smap")
+        ...     path = os.path.join(folder, "a.js.map.smc")
         ...     with open(path, "wb") as file:
         ...         size = file.write(SourceMap.from_tokens([], sources=["a.ts"]).compile())
         ...     with CompiledMap.open_file(path) as map:
@@ -328,7 +328,14 @@ class CompiledMap(Handle):
     def _texts(self, kind: TextKind) -> list[Optional[str]]:
         def copied(at: int) -> list[Optional[str]]:
             counts = _counts_in(at)
-            return [_text_in(at, kind, id) for id in range(counts.names if kind == TextKind.NAME else counts.sources)]
+            texts: list[Optional[str]] = []
+            left = self._view.nbytes
+            for id in range(counts.names if kind == TextKind.NAME else counts.sources):
+                texts.append(_text_in(at, kind, id))
+                left -= len(texts[-1] or "")
+                if left < 0:
+                    raise ValueError("the compiled map is damaged: its texts overlap")
+            return texts
 
         return self._read(copied)
 

@@ -367,8 +367,9 @@ class SourceMap(Contents, Lookups):
         return self._written_within(lib.smap_get_mappings, lib.smap_get_mappings_within, limit)
 
     def compile(self, text_length: int = 0, stamp: Buffer = bytes(32)) -> bytes:
-        """The bytes of the compiled map, which `CompiledMap` opens. They mean the map, but that a content past the last source is dropped.
-        `text_length` is the number of bytes of the map's text, and the stamp 32 bytes that are kept, as the SHA-256 of that text.
+        """The bytes of the compiled map, which `CompiledMap` opens. They mean the map, with a content for each source, known or not, and
+        none past the last. `text_length` is the number of bytes of the map's text, and the stamp 32 bytes that are kept, as the SHA-256
+        of that text: with both, a file X.map.smc beside X.map is as `sourcemap compile` writes it, and `sourcemap resolve` reads it.
 
         Raises SourceMapError of UNSORTED or TOO_LARGE.
 

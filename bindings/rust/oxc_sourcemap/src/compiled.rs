@@ -41,9 +41,9 @@ pub fn compile(parts: &SourceMapParts<'_>, text_length: u64, stamp: &[u8; 32]) -
 }
 
 impl SourceMap<'_> {
-    /// Compiles this map: makes the bytes that [`CompiledMap::open`] opens. They mean the map, but that a content past the last source
-    /// is dropped. `text_length` is the number of bytes of the map's text, 0 if there is none; the stamp is kept as it is, as the SHA-256
-    /// of that text.
+    /// Compiles this map: makes the bytes that [`CompiledMap::open`] opens. They mean the map, with a content for each source, known or
+    /// not, and none past the last. `text_length` is the number of bytes of the map's text, 0 if there is none; the stamp is kept as it
+    /// is, as the SHA-256 of that text.
     ///
     /// Fails with `Unsorted`, `TooLarge` or `OutOfMemory`.
     ///
@@ -398,7 +398,7 @@ mod file {
     ///
     /// ```
     /// use oxc_sourcemap::{CompiledFile, SourceMap};
-    /// let path = std::env::temp_dir().join(format!("{}.smap", std::process::id()));
+    /// let path = std::env::temp_dir().join(format!("{}.map.smc", std::process::id()));
     /// let map = SourceMap::from_json_string(r#"{"version":3,"sources":["a.ts"],"mappings":"AAAA"}"#)?;
     /// std::fs::write(&path, map.compile(0, &[0; 32])?).unwrap();
     /// // SAFETY: nobody changes the file.

@@ -33,7 +33,7 @@ macro_rules! owner {
         "let owner = other.compile(0, &[0; 32]).unwrap();\n"
     };
     (file) => {
-        r##"# let path = std::env::temp_dir().join(format!("{}-{:?}.smap", std::process::id(), std::thread::current().id()));
+        r##"# let path = std::env::temp_dir().join(format!("{}-{:?}.map.smc", std::process::id(), std::thread::current().id()));
 # std::fs::write(&path, other.compile(0, &[0; 32]).unwrap()).unwrap();
 let owner = unsafe { CompiledFile::open(&path) }.unwrap();
 # std::fs::remove_file(&path).unwrap();

@@ -76,7 +76,7 @@ class CompiledMap(Handle):
 
     Any bytes may be opened. Of such that `SourceMap.compile` did not make, a lookup finds some token of the line, or none, and a text
     that is not UTF-8 counts as None: a token whose source is none has no source. `names`, `sources` and `source_contents` raise ValueError
-    where texts overlap, and so are longer than the bytes.
+    if texts overlap so far that all are longer than the bytes.
 
     Raises SourceMapError of NOT_COMPILED, COMPILED_VERSION, COMPILED_LENGTH or COMPILED_SIZES, and ValueError if the buffer is not
     contiguous.

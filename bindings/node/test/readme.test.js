@@ -1,5 +1,5 @@
 'use strict';
-// The three jobs that README.md shows, and that of the package, as they are written there.
+// The three jobs that README.md of the package shows, as they are written there, and what the documents of the repository show.
 
 const test = require('node:test');
 const assert = require('node:assert/strict');
@@ -10,27 +10,27 @@ const { tmpdir } = require('node:os');
 
 const { REPOSITORY } = require('./support.js');
 
-const readme = join(REPOSITORY, 'README.md');
-const needsReadme = { skip: !fs.existsSync(readme) && 'the repository is not here' };
+const documents = ['README.md', 'docs/javascript.md'].map((it) => join(REPOSITORY, it));
+const needsDocuments = { skip: !documents.every((it) => fs.existsSync(it)) && 'the repository is not here' };
 
-const jobsOf = (path) => [...fs.readFileSync(path, 'utf8').matchAll(/```js\n([^]*?)```/g)].map((it) => it[1]).filter((it) => it.includes("require('node:fs')"));
+const isJob = (text) => text.includes("require('node:fs')");
+const blocksOf = (path) => [...fs.readFileSync(path, 'utf8').matchAll(/```js\n([^]*?)```/g)].map((it) => it[1]);
+const jobs = blocksOf(join(__dirname, '../README.md')).filter(isJob);
+assert.equal(jobs.length, 3);
 
-/** Runs the block of this number, as a file, in a folder with these files and the package; what it prints, and reads of the folder. */
-function run(number, files) {
-  const blocks = jobsOf(readme);
-  assert.equal(blocks.length, 3);
-  assert.deepEqual(jobsOf(join(__dirname, '../README.md')), blocks);
+/** Runs a block, as a file, in a folder with these files and the package; what it prints, and reads of the folder. */
+function run(block, files) {
   const room = fs.mkdtempSync(join(tmpdir(), 'junketscarp-'));
   process.once('exit', () => fs.rmSync(room, { recursive: true }));
   fs.mkdirSync(join(room, 'node_modules'));
   fs.symlinkSync(join(__dirname, '..'), join(room, 'node_modules/junketscarp'));
-  for (const [name, text] of Object.entries({ ...files, 'example.js': blocks[number] })) fs.writeFileSync(join(room, name), text);
+  for (const [name, text] of Object.entries({ ...files, 'example.js': block })) fs.writeFileSync(join(room, name), text);
   const said = execFileSync(process.execPath, ['example.js'], { cwd: room, encoding: 'utf8' });
   return { said, read: (path) => fs.readFileSync(join(room, path), 'utf8') };
 }
 
-test('a bundler', needsReadme, () => {
-  const { read } = run(0, {
+test('a bundler', () => {
+  const { read } = run(jobs[0], {
     'a.js.map': '{"version":3,"sources":["a.js"],"mappings":"AAAA,IAAI"}',
     'b.js.map': '{"version":3,"sources":["b.js"],"mappings":"AAAA"}',
     'a.ts.map': '{"version":3,"sources":["a.ts"],"mappings":"AAEA,IAAI"}',
@@ -41,12 +41,20 @@ test('a bundler', needsReadme, () => {
   assert.equal(written.mappings, 'AAEA,IAAI;ACFJ');
 });
 
-test('a resolver of stack traces', needsReadme, () => {
-  const { said } = run(1, { 'app.js.map': '{"version":3,"sources":["a.ts"],"mappings":"AAEA,IAAI"}' });
+test('a resolver of stack traces', () => {
+  const { said } = run(jobs[1], { 'app.js.map': '{"version":3,"sources":["a.ts"],"mappings":"AAEA,IAAI"}' });
   assert.equal(said, 'a.ts:3:5\n');
 });
 
-test('a coverage tool', needsReadme, () => {
-  const { said } = run(2, { 'app.js.map': '{"version":3,"sources":["a.ts","b.ts"],"mappings":"AAEA,I,EACA,ECDA,KAEA"}' });
+test('a coverage tool', () => {
+  const { said } = run(jobs[2], { 'app.js.map': '{"version":3,"sources":["a.ts","b.ts"],"mappings":"AAEA,I,EACA,ECDA,KAEA"}' });
   assert.equal(said, 'a.ts:3 a.ts:4 b.ts:3\n');
+});
+
+test('the documents of the repository', needsDocuments, () => {
+  const blocks = documents.flatMap(blocksOf);
+  assert.deepEqual(blocks.filter(isJob).sort(), [...jobs].sort());
+  const others = blocks.filter((it) => !isJob(it));
+  assert.equal(others.length, 1);
+  assert.equal(run(others[0], {}).said, "{ source: 'a.ts', line: 2, column: 4, name: 'f', index: 1 }\n4\n{ line: 0, column: 4 }\n");
 });

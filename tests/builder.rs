@@ -152,7 +152,7 @@ fn is_read_back(rt: &impl Abort, alloc: Global, text: &Result<String>, wanted: &
     is_text(rt, "read back", &rewritten(alloc, wanted), Ok(wanted));
 }
 
-/// The example of the README.
+/// The example of docs/CALLING.md.
 fn bundle_map(alloc: Global) -> Result<String> {
     let mut builder = SourceMapBuilder::empty(alloc);
     builder.set_file("file");

@@ -4,7 +4,7 @@
 const native = require('./native.js');
 const { NO_ID, Language } = require('./constants.js');
 const { made, madeOrNull } = require('./errors.js');
-const { text, word, limitOf, tokens, texts } = require('./arguments.js');
+const { text, word, option, limitOf, tokens, texts } = require('./arguments.js');
 const { decodedShort, isDecoded, readDecoded, toText } = require('./decoded.js');
 const { SourceMap, mapOf } = require('./map.js');
 
@@ -32,7 +32,7 @@ function decodeMappings(mappings, limits = {}) {
 }
 
 function sourceMappingURL(code, language = Language.JAVASCRIPT) {
-  return madeOrNull(native.sourceMappingURL(text(code, 'The code'), word(language, 'The language')));
+  return madeOrNull(native.sourceMappingURL(text(code, 'The code'), option(language, 'The language', 'Language')));
 }
 
 function decodeDataURL(url) {

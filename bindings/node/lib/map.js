@@ -4,7 +4,7 @@
 const native = require('./native.js');
 const { NO_ID, Bias, Direction, Kind, Code, Which, Form, Slot, MENDS } = require('./constants.js');
 const { errorOf, refusal, check, made, madeOrNull, long, longOrNull } = require('./errors.js');
-const { text, word, longWords, limitOf, fixedBytes, idOf, list, checkWords, words, tokens, texts, contents } = require('./arguments.js');
+const { text, word, option, optionsOf, longWords, limitOf, fixedBytes, idOf, list, checkWords, words, tokens, texts, contents } = require('./arguments.js');
 const { Columns } = require('./columns.js');
 const { toDecoded } = require('./decoded.js');
 const { sourceText, encodedMappings } = require('./inputs.js');
@@ -280,7 +280,7 @@ class SourceMap {
     if (line >>> 0 !== line || column >>> 0 !== column || bias >>> 0 !== bias) {
       word(line, 'The line');
       word(column, 'The column');
-      word(bias, 'The bias');
+      option(bias, 'The bias', 'Bias');
     }
     if (this.#columns === null && ++this.#asked >= this.#due) this.#copyColumns();
     if (this.#columns !== null && bias <= Bias.AFTER) {
@@ -354,13 +354,13 @@ class SourceMap {
 
   traceAll(positions, bias = Bias.BEFORE, out = undefined) {
     const all = out === undefined ? new Uint32Array(4 * checkWords(positions, 'positions').length) : out;
-    check(native.traceAll(this.#handle, checkWords(positions, 'positions'), word(bias, 'The bias'), checkWords(all, 'out')));
+    check(native.traceAll(this.#handle, checkWords(positions, 'positions'), option(bias, 'The bias', 'Bias'), checkWords(all, 'out')));
     return all;
   }
 
   findAll(positions, bias = Bias.BEFORE, out = undefined) {
     const all = out === undefined ? new Uint32Array(checkWords(positions, 'positions').length / 2) : out;
-    check(native.findAll(this.#handle, checkWords(positions, 'positions'), word(bias, 'The bias'), checkWords(all, 'out')));
+    check(native.findAll(this.#handle, checkWords(positions, 'positions'), option(bias, 'The bias', 'Bias'), checkWords(all, 'out')));
     return all;
   }
 
@@ -390,7 +390,7 @@ class SourceMap {
       word(id ?? (typeof source === 'string' ? 0 : id), 'The id of the source'),
       word(line, 'The line'),
       word(column, 'The column'),
-      word(direction, 'The direction'),
+      option(direction, 'The direction', 'Direction'),
     ];
     return id === undefined ? null : asked;
   }
@@ -513,7 +513,8 @@ class SourceMap {
     return this.#members === null ? url : dataURLOf(this.toString(), url, limit);
   }
 
-  compile({ textLength = 0, stamp } = {}) {
+  compile(options) {
+    const { textLength = 0, stamp } = optionsOf(options, ['textLength', 'stamp'], 'compile');
     const given = stamp === undefined ? NO_STAMP : fixedBytes(stamp, STAMP, 'The stamp');
     return made(native.compile(this.#handle, ...longWords(textLength, 'textLength'), given));
   }

@@ -5,7 +5,7 @@
 const { NO_ID, SourceMap, SourceMapBuilder } = require('../lib/index.js');
 const { lineStarts, findBefore, findAfter } = require('../lib/columns.js');
 const { MENDS } = require('../lib/constants.js');
-const { WORDS, decodedShort, readDecoded, segmentAt, toDecoded, toText } = require('../lib/decoded.js');
+const { WORDS, decodedShort, decodedLines, lineCount, readDecoded, segmentAt, toDecoded, toText } = require('../lib/decoded.js');
 const native = require('../lib/native.js');
 
 const NOTHING_MENDED = Object.freeze([]);
@@ -14,13 +14,6 @@ const NOTHING_MENDED = Object.freeze([]);
 function mend(kind, section = null, number = 0) {
   const words = Uint32Array.of(MENDS.indexOf(kind), 0, section ?? NO_ID, section === null ? NO_ID : 0, number, 0);
   return { kind, section, number, message: native.mendMessage(words) };
-}
-
-/** The number of lines of a mappings text: those at its end count, too. */
-function lineCount(text) {
-  let lines = 1;
-  for (let at = text.indexOf(';'); at >= 0; at = text.indexOf(';', at + 1)) lines++;
-  return lines;
 }
 
 // ---- from a text ----
@@ -104,6 +97,7 @@ module.exports = {
   lineCount,
   readText,
   shortTokens,
+  decodedLines,
   readDecoded,
   mended,
   areIdsWithin,

@@ -3,9 +3,9 @@
 
 const native = require('./native.js');
 const { NO_ID, Language } = require('./constants.js');
-const { made, madeOrNull } = require('./errors.js');
+const { madeOrNull } = require('./errors.js');
 const { text, word, option, limitOf, tokens, texts } = require('./arguments.js');
-const { decodedShort, isDecoded, readDecoded, toText } = require('./decoded.js');
+const { decodedShort, encoded, isDecoded, readDecoded, toText } = require('./decoded.js');
 const { SourceMap, mapOf } = require('./map.js');
 
 function evaluate(words, given) {
@@ -16,7 +16,7 @@ function evaluate(words, given) {
 
 function encodeMappings(all, options) {
   if (isDecoded(all)) return toText(readDecoded(all), all.length, limitOf(options));
-  return made(native.encodeMappings(tokens(all), limitOf(options)));
+  return encoded(tokens(all), limitOf(options));
 }
 
 function decodeMappings(mappings, limits = {}) {

@@ -35,6 +35,13 @@ function mapOf(answer, text, members = null) {
 /** The handle of a map. */
 let handleOf;
 
+// So many texts of a map are kept before its counts are asked for, which have these at these places.
+const FEW = 8;
+const NAMES = 1;
+const SOURCES = 2;
+
+const WORDS = 6;
+
 // A map is asked so often before its tokens are copied, or at least by an eighth of them; one that has more of them is not copied.
 const FIRST_ASKED = 8;
 const MOST_COPIED = 1 << 17;
@@ -275,18 +282,19 @@ class SourceMap {
 
   // ---- lookups ----
 
-  /** Asks for a generated position, and says of what kind the answer is. */
-  #ask(line, column, bias) {
+  /** Refuses what is no position, and copies the tokens, once there were enough lookups. Says whether the copy answers. */
+  #isCopied(line, column, bias) {
     if (line >>> 0 !== line || column >>> 0 !== column || bias >>> 0 !== bias) {
       word(line, 'The line');
       word(column, 'The column');
       option(bias, 'The bias', 'Bias');
     }
     if (this.#columns === null && ++this.#asked >= this.#due) this.#copyColumns();
-    if (this.#columns !== null && bias <= Bias.AFTER) {
-      this.#columns.trace(line, column, bias, answers);
-      return answers[0];
-    }
+    return this.#columns !== null && bias <= Bias.AFTER;
+  }
+
+  /** Asks the library, and says of what kind the answer is. */
+  #ask(line, column, bias) {
     if (answers[SELECTED] !== this.#number) {
       native.select(this.#handle);
       this.#number = answers[SELECTED] || -1;
@@ -310,46 +318,58 @@ class SourceMap {
 
   trace(line, column, bias = Bias.BEFORE) {
     if (isPlace(line)) return this.trace(line.line, line.column, line.bias);
+    if (this.#isCopied(line, column, bias)) {
+      const { tokens } = this.#columns;
+      const index = this.#columns.find(line, column, bias);
+      const at = WORDS * index;
+      if (index < 0 || tokens[at + 4] === NO_ID) return null;
+      return this.#originalAt(tokens, at, index, tokens[at + 5] !== NO_ID);
+    }
     const kind = this.#ask(line, column, bias);
-    if (kind < Kind.MAPPED) return null;
-    const index = answers[1];
-    const originalLine = answers[4];
-    const originalColumn = answers[5];
-    const sourceId = answers[6];
-    const nameId = answers[7];
-    return {
-      source: this.#sourceCache?.[sourceId] ?? this.#keptSource(sourceId),
-      line: originalLine,
-      column: originalColumn,
-      name: kind === Kind.NAMED ? (this.#nameCache?.[nameId] ?? this.#keptName(nameId)) : null,
-      index,
-    };
+    return kind < Kind.MAPPED ? null : this.#originalAt(answers, 2, answers[1], kind === Kind.NAMED);
+  }
+
+  /** What the token at these words says. All of them are read first, as reading a text writes others in their place. */
+  #originalAt(words, at, index, isNamed) {
+    const line = words[at + 2];
+    const column = words[at + 3];
+    const sourceId = words[at + 4];
+    const nameId = words[at + 5];
+    const source = this.#sourceCache?.[sourceId] ?? this.#keptSource(sourceId);
+    const name = isNamed ? (this.#nameCache?.[nameId] ?? this.#keptName(nameId)) : null;
+    return { source, line, column, name, index };
   }
 
   traceToken(line, column, bias = Bias.BEFORE) {
     if (isPlace(line)) return this.traceToken(line.line, line.column, line.bias);
+    if (this.#isCopied(line, column, bias)) return this.#columns.traceToken(line, column, bias);
     return this.#ask(line, column, bias) === Kind.NOTHING ? null : tokenAt(answers, 2, answers[1]);
   }
 
-  /** A text that a lookup found: read once, and kept. The lists have room for all entries from the start, so that they stay fast. */
+  /** A text that a lookup found: read once, and kept. */
   #keptSource(id) {
     const source = made(native.text(this.#handle, Which.SOURCE, id));
-    if (this.#sourceCache === null) {
-      check(native.getCounts(this.#handle));
-      this.#sourceCache = new Array(answers[2]);
-    }
+    this.#sourceCache = this.#withRoom(this.#sourceCache, id, SOURCES);
     this.#sourceCache[id] = source;
     return source;
   }
 
   #keptName(id) {
     const name = made(native.text(this.#handle, Which.NAME, id));
-    if (this.#nameCache === null) {
-      check(native.getCounts(this.#handle));
-      this.#nameCache = new Array(answers[1]);
-    }
+    this.#nameCache = this.#withRoom(this.#nameCache, id, NAMES);
     this.#nameCache[id] = name;
     return name;
+  }
+
+  /** A list that has room for an entry: at first for a few, so that small maps are not asked for their counts, and then for all, so that it
+   *  stays fast. `count` is where the counts have that of the list. */
+  #withRoom(list, id, count) {
+    if (list !== null && id < list.length) return list;
+    if (id < FEW) return new Array(FEW);
+    check(native.getCounts(this.#handle));
+    const all = new Array(answers[count]);
+    list?.forEach((it, at) => (all[at] = it));
+    return all;
   }
 
   traceAll(positions, bias = Bias.BEFORE, out = undefined) {

@@ -282,19 +282,15 @@ class SourceMap {
 
   // ---- lookups ----
 
-  /** Refuses what is no position, and copies the tokens, once there were enough lookups. Says whether the copy answers. */
-  #isCopied(line, column, bias) {
+  /** Asks the library, and says of what kind the answer is. Refuses what is no position, and copies the tokens for later, once there were
+   *  enough lookups. */
+  #ask(line, column, bias) {
     if (line >>> 0 !== line || column >>> 0 !== column || bias >>> 0 !== bias) {
       word(line, 'The line');
       word(column, 'The column');
       option(bias, 'The bias', 'Bias');
     }
     if (this.#columns === null && ++this.#asked >= this.#due) this.#copyColumns();
-    return this.#columns !== null && bias <= Bias.AFTER;
-  }
-
-  /** Asks the library, and says of what kind the answer is. */
-  #ask(line, column, bias) {
     if (answers[SELECTED] !== this.#number) {
       native.select(this.#handle);
       this.#number = answers[SELECTED] || -1;
@@ -317,14 +313,15 @@ class SourceMap {
   }
 
   trace(line, column, bias = Bias.BEFORE) {
-    if (isPlace(line)) return this.trace(line.line, line.column, line.bias);
-    if (this.#isCopied(line, column, bias)) {
-      const { tokens } = this.#columns;
-      const index = this.#columns.find(line, column, bias);
+    const columns = this.#columns;
+    if (columns !== null && isQuestion(line, column, bias)) {
+      const { tokens } = columns;
+      const index = columns.find(line, column, bias);
       const at = WORDS * index;
       if (index < 0 || tokens[at + 4] === NO_ID) return null;
       return this.#originalAt(tokens, at, index, tokens[at + 5] !== NO_ID);
     }
+    if (isPlace(line)) return this.trace(line.line, line.column, line.bias);
     const kind = this.#ask(line, column, bias);
     return kind < Kind.MAPPED ? null : this.#originalAt(answers, 2, answers[1], kind === Kind.NAMED);
   }
@@ -341,8 +338,8 @@ class SourceMap {
   }
 
   traceToken(line, column, bias = Bias.BEFORE) {
+    if (this.#columns !== null && isQuestion(line, column, bias)) return this.#columns.traceToken(line, column, bias);
     if (isPlace(line)) return this.traceToken(line.line, line.column, line.bias);
-    if (this.#isCopied(line, column, bias)) return this.#columns.traceToken(line, column, bias);
     return this.#ask(line, column, bias) === Kind.NOTHING ? null : tokenAt(answers, 2, answers[1]);
   }
 
@@ -558,6 +555,11 @@ function pieceAt(out, at) {
     end: { line: out[at + 2], column: out[at + 3] },
     index: idOf(out[at + 4]),
   };
+}
+
+/** Whether a copy of the tokens answers: of positions and a bias as they are to be. */
+function isQuestion(line, column, bias) {
+  return line >>> 0 === line && column >>> 0 === column && bias >>> 0 === bias && bias <= Bias.AFTER;
 }
 
 /** Whether the first argument of a lookup is an object that has all of them. */

@@ -5,7 +5,7 @@
 const { NO_ID, SourceMap, SourceMapBuilder } = require('../lib/index.js');
 const { lineStarts, findBefore, findAfter } = require('../lib/columns.js');
 const { MENDS } = require('../lib/constants.js');
-const { WORDS, decodedShort, decodedLines, lineCount, readDecoded, segmentAt, toDecoded, toText } = require('../lib/decoded.js');
+const { WORDS, shortTokens, decodedLines, lineCount, readDecoded, segmentAt, toDecoded, toText } = require('../lib/decoded.js');
 const native = require('../lib/native.js');
 
 const NOTHING_MENDED = Object.freeze([]);
@@ -17,12 +17,6 @@ function mend(kind, section = null, number = 0) {
 }
 
 // ---- from a text ----
-
-/** The tokens of a short text, if they are sorted; else null. Throws as the library does. */
-function shortTokens(text, sources = NO_ID, names = NO_ID) {
-  const tokens = decodedShort(text, sources, names);
-  return tokens !== null && native.words[1] === 1 ? tokens : null;
-}
 
 /**
  * The sorted tokens of a mappings text, its lines, and what was mended. Throws a SourceMapError of the first fault that is not mended.

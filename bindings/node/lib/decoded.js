@@ -29,6 +29,33 @@ function decodedShort(text, sources, names) {
   return length < 0 ? null : ROOM.slice(0, length);
 }
 
+// Arrays of a few tokens are cut from one that is larger: for each of its own, memory is taken outside of the heap, which costs as much as
+// reading the text.
+const POOL_WORDS = 1024;
+const MOST_POOLED = 40 * WORDS;
+const ON_HEAP = 2 * WORDS;
+let pool = null;
+let pooled = POOL_WORDS;
+
+/** The first words of the room, in memory that others may share. */
+function pooledCopy(length) {
+  if (length <= ON_HEAP || length > MOST_POOLED) return ROOM.slice(0, length);
+  if (pooled + length > POOL_WORDS) {
+    pool = new Uint32Array(POOL_WORDS);
+    pooled = 0;
+  }
+  const out = pool.subarray(pooled, pooled + length);
+  pooled += length;
+  for (let i = 0; i < length; i++) out[i] = ROOM[i];
+  return out;
+}
+
+/** The tokens of a mappings text, if it is short, and they are sorted; else null. Nobody may give their memory away. */
+function shortTokens(text, sources, names) {
+  const length = readShort(text, sources, names);
+  return length < 0 || native.words[1] !== 1 ? null : pooledCopy(length);
+}
+
 /** Decoded mappings of a text, if it is short, and its tokens are sorted; else null. They are made from the room: a copy of the tokens, for
  *  which memory is taken outside of the heap, would cost as much as the rest. */
 function decodedLines(text) {
@@ -171,4 +198,4 @@ function toText(tokens, lines, limit) {
   return encoded(tokens, limit === undefined ? undefined : limit - empty) + ';'.repeat(empty);
 }
 
-module.exports = { WORDS, decodedShort, decodedLines, lineCount, isDecoded, readDecoded, segmentAt, toDecoded, encoded, toText };
+module.exports = { WORDS, decodedShort, shortTokens, decodedLines, lineCount, isDecoded, readDecoded, segmentAt, toDecoded, encoded, toText };

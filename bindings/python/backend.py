@@ -2,7 +2,9 @@
 
 The wheel carries the shared library that OXC_SOURCEMAP_LIB names, or `./build c` leaves in target/, or pkg-config finds, and _fast.c
 compiled by one call of a C compiler, $CC or cc. Without a compiler, or with OXC_SOURCEMAP_CC set to nothing, it has no _fast and looks up
-by ctypes alone. OXC_SOURCEMAP_PLATFORM is the platform of its tag, if that is not this machine; SOURCE_DATE_EPOCH the time of all files.
+by ctypes alone. OXC_SOURCEMAP_PROGRAM names the program `sourcemap`, if the wheel is to have it, as a script of that name, and
+OXC_SOURCEMAP_PAGE the template of its pages. OXC_SOURCEMAP_PLATFORM is the platform of its tag, if that is not this machine;
+SOURCE_DATE_EPOCH the time of all files.
 
 `backend.py needs FOLDER` leaves in the folder what the wheel loads, and prints its names; `backend.py sdist FOLDER` makes the source.
 """
@@ -30,6 +32,10 @@ from pathlib import Path
 HERE = Path(__file__).resolve().parent
 SOURCE = HERE / "src" / "oxc_sourcemap"
 LIBRARY = "liboxc_sourcemap.so"
+PROGRAM = "sourcemap"
+PAGE = "page.html"
+# (`pipx run oxc_sourcemap` takes the second one)
+SCRIPTS = "[console_scripts]\nsourcemap = oxc_sourcemap.__main__:main\n\n[pipx.run]\noxc_sourcemap = oxc_sourcemap.__main__:main\n"
 EPOCH = int(os.environ.get("SOURCE_DATE_EPOCH", 1577836800))
 
 
@@ -91,6 +97,13 @@ def compiled() -> bytes | None:
         return out.read_bytes()
 
 
+def with_program() -> dict[str, bytes]:
+    """The program, and the template of its pages, if they are named."""
+    program, page = (os.environ.get(f"OXC_SOURCEMAP_{it}") for it in ("PROGRAM", "PAGE"))
+    named = {PROGRAM: program} | ({PAGE: page} if page else {})
+    return {name: Path(it).read_bytes() for name, it in named.items() if it} if program else {}
+
+
 def members() -> dict[str, bytes]:
     """The files of the wheel, without its record."""
     files = {it.name: it.read_bytes() for it in sorted(SOURCE.iterdir()) if it.suffix in (".py", ".pyi", ".typed")}
@@ -98,11 +111,14 @@ def members() -> dict[str, bytes]:
     fast = compiled()
     if fast is not None:
         files["_fast.abi3.so"] = fast
+    files |= with_program()
     platform = os.environ.get("OXC_SOURCEMAP_PLATFORM") or sysconfig.get_platform().replace("-", "_").replace(".", "_")
     tag = f"py3-none-{platform}" if fast is None else f"cp310-abi3-{platform}"
     about = f"Wheel-Version: 1.0\nGenerator: oxc_sourcemap\nRoot-Is-Purelib: false\nTag: {tag}\n"
     info = f"oxc_sourcemap-{version()}.dist-info"
     packed = {f"oxc_sourcemap/{name}": content for name, content in files.items()}
+    if PROGRAM in files:
+        packed[f"{info}/entry_points.txt"] = SCRIPTS.encode()
     return packed | {f"{info}/METADATA": metadata().encode(), f"{info}/WHEEL": about.encode(), f"{info}/LICENSE": license_text()}
 
 
@@ -125,7 +141,7 @@ def build_wheel(wheel_directory: str, config_settings: object = None, metadata_d
     with zipfile.ZipFile(Path(wheel_directory, name), "w", zipfile.ZIP_DEFLATED) as wheel:
         for path, content in files.items():
             member = zipfile.ZipInfo(path, time.gmtime(EPOCH)[:6])
-            member.external_attr = 0o100644 << 16
+            member.external_attr = (0o100755 if path == f"oxc_sourcemap/{PROGRAM}" else 0o100644) << 16
             wheel.writestr(member, content, zipfile.ZIP_DEFLATED)
     return name
 
@@ -148,7 +164,7 @@ def build_sdist(sdist_directory: str, config_settings: object = None) -> str:
 
 def leave_needs(folder: str) -> str:
     """Leaves what the wheel loads, for who tells its platform."""
-    loaded = {Path(name).name: content for name, content in members().items() if name.endswith(".so")}
+    loaded = {Path(name).name: content for name, content in members().items() if name.endswith((".so", f"/{PROGRAM}"))}
     for name, content in loaded.items():
         Path(folder, name).write_bytes(content)
     return "\n".join(loaded)

@@ -9,6 +9,9 @@ from pathlib import Path
 from tools.pack import tree
 from tools.pack.products import PROCESSORS, TOP, VERSION, glibc, run
 
+# The program that packages of Python and JavaScript have for x86-64.
+PROGRAM = "sourcemap"
+
 MADE = shutil.ignore_patterns("target", "node_modules", "prebuilds", "__pycache__", "Cargo.lock", "*.whl", "*.tgz")
 
 
@@ -28,7 +31,7 @@ def write_licence(package):
 
 
 def python(products, processors):
-    """A wheel for each processor, tagged for the oldest glibc that its symbols need, and the source."""
+    """A wheel for each processor, tagged for the oldest glibc that its symbols need, that for x86-64 with the program; and the source."""
     with tempfile.TemporaryDirectory() as room:
         package = copied("python", room, products.pep440)
         copied("c", room, VERSION)
@@ -45,7 +48,13 @@ def wheel(products, processor, package):
     library = room / f"liboxc_sourcemap-{processor}.so"
     library.write_bytes(products.shared(processor))
     environment = {**os.environ, "SOURCE_DATE_EPOCH": str(products.epoch), "OXC_SOURCEMAP_LIB": str(library)}
-    if processor != "x64":  # (there are no headers of Python for another processor)
+    if processor == "x64":
+        program = room / PROGRAM
+        program.write_bytes(products.program(PROGRAM))
+        environment["OXC_SOURCEMAP_PROGRAM"] = str(program)
+        page = products.folder / "wasm/page.html"
+        environment["OXC_SOURCEMAP_PAGE"] = str(page) if page.is_file() else ""
+    else:  # (there are no headers of Python for another processor, and no programs)
         environment["OXC_SOURCEMAP_CC"] = ""
     elsewhere = run(sys.executable, package / "backend.py", "needs", room, env=environment).split()
     needed = glibc(*(Path(room, it).read_bytes() for it in elsewhere))
@@ -71,14 +80,18 @@ def rust(products, processors):
 
 
 def javascript(products):
-    """The package, with the addon for x86-64 Linux and the module for all else, and the packages for overrides."""
+    """The package, with the addon and the program for x86-64 Linux and the module for all else, and the packages for overrides."""
     with tempfile.TemporaryDirectory() as room:
         package = copied("node", room, products.semver)
         addon = package / "prebuilds/linux-x64/junketscarp.node"
         flags = f"{os.environ.get('CFLAGS', '')} -g0 -ffile-prefix-map={room}=."
         run(package / "build", products.folder, addon, env={**os.environ, "CFLAGS": flags})
         addon.write_bytes(products.stripped(addon, "x64"))
+        program = addon.with_name(PROGRAM)
+        program.write_bytes(products.program(PROGRAM))
+        program.chmod(0o755)
         shutil.copytree(products.folder / "wasm/package", package / "wasm")
+        shutil.copy(products.folder / "wasm/page.html", package / "wasm")
         write_licence(package)
         for it in (package, *sorted(package.glob("packages/*/"))):
             if it != package:

@@ -61,12 +61,12 @@ function aimed(tokens) {
   return out;
 }
 
-/** Each position, by a function of its own, so that no other's types disturb it. */
-const each = () => new Function('look', 'at', 'for (let i = 0; i < at.length; i += 2) look(at[i], at[i + 1]);');
+/** Each position, by a function of its own, so that no other's types disturb it. Answers that nobody keeps would not be made at all. */
+const each = () => new Function('look', 'at', 'kept', 'for (let i = 0; i < at.length; i += 2) kept[0] = look(at[i], at[i + 1]);');
 function oneByOne(lookOf) {
   return (map) => {
     const [look, run] = [lookOf(map), each()];
-    return () => run(look, map.at);
+    return () => run(look, map.at, [null]);
   };
 }
 const traceOf = ({ tracing }) => (map) => {

@@ -5,7 +5,7 @@
 const { NO_ID, SourceMap, SourceMapBuilder } = require('../lib/index.js');
 const { lineStarts, findBefore, findAfter } = require('../lib/columns.js');
 const { MENDS } = require('../lib/constants.js');
-const { WORDS, decodedShort, readDecoded, segmentAt, toDecoded, toText } = require('../lib/decoded.js');
+const { WORDS, shortTokens, decodedLines, lineCount, readDecoded, segmentAt, toDecoded, toText } = require('../lib/decoded.js');
 const native = require('../lib/native.js');
 
 const NOTHING_MENDED = Object.freeze([]);
@@ -16,20 +16,7 @@ function mend(kind, section = null, number = 0) {
   return { kind, section, number, message: native.mendMessage(words) };
 }
 
-/** The number of lines of a mappings text: those at its end count, too. */
-function lineCount(text) {
-  let lines = 1;
-  for (let at = text.indexOf(';'); at >= 0; at = text.indexOf(';', at + 1)) lines++;
-  return lines;
-}
-
 // ---- from a text ----
-
-/** The tokens of a short text, if they are sorted; else null. Throws as the library does. */
-function shortTokens(text, sources = NO_ID, names = NO_ID) {
-  const tokens = decodedShort(text, sources, names);
-  return tokens !== null && native.words[1] === 1 ? tokens : null;
-}
 
 /**
  * The sorted tokens of a mappings text, its lines, and what was mended. Throws a SourceMapError of the first fault that is not mended.
@@ -104,6 +91,7 @@ module.exports = {
   lineCount,
   readText,
   shortTokens,
+  decodedLines,
   readDecoded,
   mended,
   areIdsWithin,

@@ -2,10 +2,12 @@
 // The API of @jridgewell/sourcemap-codec 1.4: mappings as a text, and decoded. What is no mappings is refused: a text with a fault by
 // a SourceMapError, a segment with a number that is none by a RangeError or a TypeError.
 
-const { readText, readDecoded, toDecoded, toText } = require('./mappings.js');
+const { readText, decodedLines, readDecoded, toDecoded, toText } = require('./mappings.js');
 
 /** The lines of a mappings text, each a list of segments, sorted by column. */
 function decode(mappings) {
+  const short = decodedLines(mappings);
+  if (short !== null) return short;
   const { tokens, lines } = readText(mappings);
   return toDecoded(tokens, lines);
 }

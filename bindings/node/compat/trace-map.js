@@ -68,7 +68,7 @@ function tokensOf(map) {
 function readTokens(map) {
   const limits = { sources: map.sources.length, names: map.names?.length ?? 0 };
   const read = map._decoded === undefined ? mappings.readText(map._encoded, limits) : readGiven(map._decoded, limits);
-  map._mends = [...(map._mends ?? []), ...read.mends];
+  map._mends = read.mends.length === 0 ? (map._mends ?? read.mends) : [...(map._mends ?? []), ...read.mends];
   map._lines = read.lines;
   map._tokens = read.tokens;
   return read.tokens;

@@ -45,6 +45,23 @@ function word(it, what) {
   return it;
 }
 
+/** A number that a list of constants has, by the name of the list; which these are the library knows. */
+function option(it, what, constants) {
+  const refused = `${what} is ${shown(it)}, and no number of ${constants}`;
+  if (typeof it !== 'number') throw new TypeError(refused);
+  if (it >>> 0 !== it) throw new RangeError(refused);
+  return it;
+}
+
+/** Options, none of which has a name beside these: one that is mistyped would be passed over. */
+function optionsOf(it, names, what) {
+  if (it === undefined) return {};
+  if (it === null || typeof it !== 'object') throw new TypeError(`The options of ${what} are ${shown(it)}, and not an object`);
+  const unknown = Object.keys(it).find((name) => !names.includes(name));
+  if (unknown === undefined) return it;
+  throw new TypeError(`${what} has no option ${JSON.stringify(unknown)}, but ${names.join(' and ')}`);
+}
+
 /** A number of up to 53 bits, low word first. */
 function longWords(it, what) {
   const noLong = `${what} is ${shown(it)}, and not an integer from 0 to ${Number.MAX_SAFE_INTEGER}`;
@@ -53,9 +70,10 @@ function longWords(it, what) {
   return [it >>> 0, Math.floor(it / 2 ** 32)];
 }
 
-/** The limit of bytes that options have, if there is one. */
+/** The limit of bytes that options of writing have, if there is one. */
 function limitOf(options) {
-  const limit = options?.limit;
+  // (`lists.map(encodeMappings)` gives an index in their place)
+  const { limit } = typeof options === 'object' && options !== null ? optionsOf(options, ['limit'], 'Writing') : {};
   return limit === undefined ? undefined : word(limit, 'limit');
 }
 
@@ -168,6 +186,8 @@ module.exports = {
   shown,
   noWord,
   word,
+  option,
+  optionsOf,
   longWords,
   limitOf,
   bytesOf,

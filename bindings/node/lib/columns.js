@@ -2,7 +2,7 @@
 // Lookups of generated positions among tokens that are sorted, six numbers each, for which nothing leaves JavaScript. They answer what
 // `trace` of the library does; no proof speaks of them, and tests compare the two on every map that there is.
 
-const { NO_ID, Bias, Code, Kind } = require('./constants.js');
+const { Bias, Code } = require('./constants.js');
 const { refusal } = require('./errors.js');
 const { tokenAt } = require('./iteration.js');
 
@@ -53,43 +53,25 @@ function find(tokens, starts, line, column, bias) {
   return index < 0 && bias === Bias.CLAMPED && starts[line] < starts[line + 1] ? starts[line] : index;
 }
 
-/** Where an answer is that is told as an object. */
-const ANSWER = new Uint32Array(8);
-
-/** A copy of the tokens of a map that is sound, which answers as `trace` of native.d.ts does. */
+/** A copy of the tokens of a map that is sound, which answers as the library does. */
 class Columns {
   constructor(tokens, lines) {
     this.tokens = tokens;
     this.starts = lineStarts(tokens, lines);
   }
 
-  /** Writes the kind of the answer, the index of the token and the token. */
-  trace(line, column, bias, answers) {
+  /** The index of the token that answers; -1 if there is none. */
+  find(line, column, bias) {
     const { tokens, starts } = this;
-    const index = line < starts.length - 1 ? find(tokens, starts, line, column, bias) : -1;
-    if (index < 0) {
-      answers[0] = Kind.NOTHING;
-      return;
-    }
-    const at = WORDS * index;
-    const source = tokens[at + 4];
-    const name = tokens[at + 5];
-    const mapped = name === NO_ID ? Kind.MAPPED : Kind.NAMED;
-    answers[0] = source === NO_ID ? Kind.UNMAPPED : mapped;
-    answers[1] = index;
-    answers[2] = tokens[at];
-    answers[3] = tokens[at + 1];
-    answers[4] = tokens[at + 2];
-    answers[5] = tokens[at + 3];
-    answers[6] = source;
-    answers[7] = name;
+    return line < starts.length - 1 ? find(tokens, starts, line, column, bias) : -1;
   }
 
   /** The token that answers, as the class tells it; null if there is none. */
   traceToken(line, column, bias) {
-    if (this.tokens === null) throw refusal(Code.NULL_HANDLE);
-    this.trace(line, column, bias, ANSWER);
-    return ANSWER[0] === Kind.NOTHING ? null : tokenAt(ANSWER, 2, ANSWER[1]);
+    const { tokens } = this;
+    if (tokens === null) throw refusal(Code.NULL_HANDLE);
+    const index = this.find(line, column, bias);
+    return index < 0 ? null : tokenAt(tokens, WORDS * index, index);
   }
 
   /** `traceToken` throws from here on, as of a map that was freed. */

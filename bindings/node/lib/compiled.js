@@ -4,7 +4,8 @@
 const native = require('./native.js');
 const { Bias, Code, Kind, Slot, Which } = require('./constants.js');
 const { check, damaged, made, madeOrNull, long } = require('./errors.js');
-const { bytesOf, word, checkWords } = require('./arguments.js');
+const { bytesOf, option, shown, word, checkWords } = require('./arguments.js');
+const { fileSystem } = require('./inputs.js');
 const { tokenAt } = require('./iteration.js');
 const { mapOf } = require('./map.js');
 
@@ -35,6 +36,12 @@ class CompiledMap {
     const given = bytesOf(bytes, 'The bytes');
     this.#handle = made(native.openCompiled(given));
     this.#length = given.byteLength;
+  }
+
+  static openFile(path) {
+    const files = fileSystem();
+    if (typeof path !== 'string' && !(path instanceof URL)) throw new TypeError(`The path is ${shown(path)}, and neither a string nor a URL`);
+    return new CompiledMap(files.readFileSync(path));
   }
 
   free() {
@@ -141,7 +148,7 @@ class CompiledMap {
   #ask(line, column, bias) {
     if (line >>> 0 !== line) word(line, 'The line');
     if (column >>> 0 !== column) word(column, 'The column');
-    if (bias >>> 0 !== bias) word(bias, 'The bias');
+    if (bias >>> 0 !== bias) option(bias, 'The bias', 'Bias');
     if (answers[SELECTED] !== this.#number) {
       native.select(this.#handle);
       this.#number = answers[SELECTED] || -1;
@@ -183,12 +190,12 @@ class CompiledMap {
   }
 
   traceAll(positions, bias = Bias.BEFORE, out = new Uint32Array(4 * checkWords(positions, 'positions').length)) {
-    check(native.traceAll(this.#handle, checkWords(positions, 'positions'), word(bias, 'The bias'), checkWords(out, 'out')));
+    check(native.traceAll(this.#handle, checkWords(positions, 'positions'), option(bias, 'The bias', 'Bias'), checkWords(out, 'out')));
     return out;
   }
 
   findAll(positions, bias = Bias.BEFORE, out = new Uint32Array(checkWords(positions, 'positions').length / 2)) {
-    check(native.findAll(this.#handle, checkWords(positions, 'positions'), word(bias, 'The bias'), checkWords(out, 'out')));
+    check(native.findAll(this.#handle, checkWords(positions, 'positions'), option(bias, 'The bias', 'Bias'), checkWords(out, 'out')));
     return out;
   }
 }

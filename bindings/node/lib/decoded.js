@@ -13,14 +13,61 @@ const WORDS = 6;
 const SHORT = 2048;
 const ROOM = new Uint32Array((WORDS * SHORT) / 2);
 
-/** The tokens of a mappings text, if it is short; else null. `native.words[1]` is 1 if they are sorted. */
-function decodedShort(text, sources, names) {
-  if (typeof text !== 'string' || text.length > SHORT || !text.isWellFormed()) return null;
+/** Reads a mappings text into the room, if it is short: so many words; else -1. `native.words[1]` is 1 if the tokens are sorted. */
+function readShort(text, sources, names) {
+  if (typeof text !== 'string' || text.length > SHORT || !text.isWellFormed()) return -1;
   const code = native.decodeTokens(text, names, sources, ROOM);
   // (an instance of the module may be full, while another one has the memory: the usual way finds it)
-  if (code === Code.OUT_OF_MEMORY) return null;
+  if (code === Code.OUT_OF_MEMORY) return -1;
   check(code, text);
-  return ROOM.slice(0, WORDS * native.words[0]);
+  return WORDS * native.words[0];
+}
+
+/** The tokens of a mappings text, if it is short; else null. `native.words[1]` is 1 if they are sorted. */
+function decodedShort(text, sources, names) {
+  const length = readShort(text, sources, names);
+  return length < 0 ? null : ROOM.slice(0, length);
+}
+
+// Arrays of a few tokens are cut from one that is larger: for each of its own, memory is taken outside of the heap, which costs as much as
+// reading the text.
+const POOL_WORDS = 1024;
+const MOST_POOLED = 40 * WORDS;
+const ON_HEAP = 2 * WORDS;
+let pool = null;
+let pooled = POOL_WORDS;
+
+/** The first words of the room, in memory that others may share. */
+function pooledCopy(length) {
+  if (length <= ON_HEAP || length > MOST_POOLED) return ROOM.slice(0, length);
+  if (pooled + length > POOL_WORDS) {
+    pool = new Uint32Array(POOL_WORDS);
+    pooled = 0;
+  }
+  const out = pool.subarray(pooled, pooled + length);
+  pooled += length;
+  for (let i = 0; i < length; i++) out[i] = ROOM[i];
+  return out;
+}
+
+/** The tokens of a mappings text, if it is short, and they are sorted; else null. Nobody may give their memory away. */
+function shortTokens(text, sources, names) {
+  const length = readShort(text, sources, names);
+  return length < 0 || native.words[1] !== 1 ? null : pooledCopy(length);
+}
+
+/** Decoded mappings of a text, if it is short, and its tokens are sorted; else null. They are made from the room: a copy of the tokens, for
+ *  which memory is taken outside of the heap, would cost as much as the rest. */
+function decodedLines(text) {
+  const length = readShort(text, NO_ID, NO_ID);
+  return length < 0 || native.words[1] !== 1 ? null : toDecoded(ROOM, lineCount(text), length);
+}
+
+/** The number of lines of a mappings text: those at its end count, too. */
+function lineCount(text) {
+  let lines = 1;
+  for (let at = text.indexOf(';'); at >= 0; at = text.indexOf(';', at + 1)) lines++;
+  return lines;
 }
 
 /** Whether a list is one of lines, and not of tokens. */
@@ -111,13 +158,13 @@ function segmentAt(tokens, at) {
   return [tokens[at + 1], tokens[at + 4], tokens[at + 2], tokens[at + 3], tokens[at + 5]];
 }
 
-/** Decoded mappings, of so many lines, of tokens in the order of lines. */
-function toDecoded(tokens, lines) {
+/** Decoded mappings, of so many lines, of the first words of tokens in the order of lines. */
+function toDecoded(tokens, lines, length = tokens.length) {
   const decoded = new Array(lines);
   let at = 0;
   for (let line = 0; line < lines; line++) {
     let end = at;
-    while (end < tokens.length && tokens[end] === line) end += WORDS;
+    while (end < length && tokens[end] === line) end += WORDS;
     decoded[line] = segmentsOf(tokens, at, end);
     at = end;
   }
@@ -132,12 +179,23 @@ function segmentsOf(tokens, from, to) {
 
 // ---- to a text ----
 
+// Arrays of up to two tokens lie in the heap of the engine, which moves them out of it, and takes memory for that, before a call gets their
+// address: so these are handed over in their places.
+const FEW = [0, 1, 2].map((count) => new Uint32Array(3 * WORDS).subarray(0, WORDS * count));
+
+/** The text that the library writes for tokens, of at most so many bytes. */
+function encoded(tokens, limit) {
+  const few = FEW[tokens.length / WORDS];
+  few?.set(tokens);
+  return made(native.encodeMappings(few ?? tokens, limit));
+}
+
 /** The mappings text of tokens, of at most so many bytes, and of so many lines; those past the last token are empty. */
 function toText(tokens, lines, limit) {
   const last = tokens.length === 0 ? 0 : tokens[tokens.length - WORDS];
   const empty = Math.max(0, lines - 1 - last);
   if (limit < empty) throw refusal(Code.TOO_LARGE);
-  return made(native.encodeMappings(tokens, limit === undefined ? undefined : limit - empty)) + ';'.repeat(empty);
+  return encoded(tokens, limit === undefined ? undefined : limit - empty) + ';'.repeat(empty);
 }
 
-module.exports = { WORDS, decodedShort, isDecoded, readDecoded, segmentAt, toDecoded, toText };
+module.exports = { WORDS, decodedShort, shortTokens, decodedLines, lineCount, isDecoded, readDecoded, segmentAt, toDecoded, encoded, toText };

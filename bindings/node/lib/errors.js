@@ -68,7 +68,8 @@ function errorOf(words, text) {
   if (number === Code.SHARED) return errorOfMap('SMAP_SHARED', 'The map is shared with other threads, and takes no change');
   if (number === Code.NO_THREADS) return errorOfMap('SMAP_NO_THREADS', 'The WebAssembly module shares no map with other threads');
   const code = native.codeName(number);
-  return new SourceMapError(native.message(words) || code, {
+  const message = number === Code.BAD_OPTION ? 'It is no number of Bias, Direction or Language' : native.message(words);
+  return new SourceMapError(message || code, {
     code,
     detail: long(words, 2),
     field: number === Code.JSON_SHAPE ? FIELDS[field] : null,

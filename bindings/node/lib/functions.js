@@ -3,9 +3,9 @@
 
 const native = require('./native.js');
 const { NO_ID, Language } = require('./constants.js');
-const { made, madeOrNull } = require('./errors.js');
-const { text, word, limitOf, tokens, texts } = require('./arguments.js');
-const { decodedShort, isDecoded, readDecoded, toText } = require('./decoded.js');
+const { madeOrNull } = require('./errors.js');
+const { text, word, option, limitOf, tokens, texts } = require('./arguments.js');
+const { decodedShort, encoded, isDecoded, readDecoded, toText } = require('./decoded.js');
 const { SourceMap, mapOf } = require('./map.js');
 
 function evaluate(words, given) {
@@ -16,7 +16,7 @@ function evaluate(words, given) {
 
 function encodeMappings(all, options) {
   if (isDecoded(all)) return toText(readDecoded(all), all.length, limitOf(options));
-  return made(native.encodeMappings(tokens(all), limitOf(options)));
+  return encoded(tokens(all), limitOf(options));
 }
 
 function decodeMappings(mappings, limits = {}) {
@@ -32,7 +32,7 @@ function decodeMappings(mappings, limits = {}) {
 }
 
 function sourceMappingURL(code, language = Language.JAVASCRIPT) {
-  return madeOrNull(native.sourceMappingURL(text(code, 'The code'), word(language, 'The language')));
+  return madeOrNull(native.sourceMappingURL(text(code, 'The code'), option(language, 'The language', 'Language')));
 }
 
 function decodeDataURL(url) {

@@ -588,7 +588,7 @@ export class SourceMap {
    * The bytes of a compiled map, which CompiledMap opens in constant time and looks up where they lie; in Node a Buffer. They have a
    * content for each source, null if it is not known, and none past the last. `textLength` is the number of bytes of the map's text, and
    * `stamp` 32 bytes that are kept as they are, as the SHA-256 of that text; 0 and zero bytes if they are not given. Throws
-   * SourceMapError of SMAP_UNSORTED or SMAP_TOO_LARGE.
+   * SourceMapError of SMAP_UNSORTED or SMAP_TOO_LARGE, and TypeError of an option of another name.
    *
    * Contents are left out if they are taken away before: `const bare = map.clone(); bare.setSourcesContent([])`. A map of the same
    * sources, with contents and no tokens, has them apart, by the same ids:
@@ -635,6 +635,17 @@ export class CompiledMap {
   /** Opens a compiled map. Throws SourceMapError of SMAP_NOT_COMPILED, SMAP_COMPILED_VERSION, SMAP_COMPILED_LENGTH or
    *  SMAP_COMPILED_SIZES. */
   constructor(bytes: ArrayBufferView | ArrayBufferLike);
+  /**
+   * Opens a file of a compiled map, in Node alone. It is read as a whole, so that it may be changed or deleted afterwards. Throws TypeError
+   * of what is no path, errors of the file system, and those of the constructor.
+   *
+   * @example
+   * const map = CompiledMap.openFile("app.js.map.smc");
+   * // Whether app.js.map has another text than when it was compiled, by the length in bytes and the SHA-256:
+   * const text = fs.readFileSync("app.js.map");
+   * const isStale = map.textLength !== text.length || !crypto.createHash("sha256").update(text).digest().equals(map.stamp);
+   */
+  static openFile(path: string | URL): CompiledMap;
   /** Frees the map, and lets go of the bytes. */
   free(): void;
   [Symbol.dispose](): void;

@@ -49,4 +49,4 @@ function sourceText(it, what) {
   return text(json, what);
 }
 
-module.exports = { sourceText, encodedMappings };
+module.exports = { fileSystem, sourceText, encodedMappings };

@@ -4,7 +4,7 @@
 const native = require('./native.js');
 const { NO_ID, Bias, Direction, Kind, Code, Which, Form, Slot, MENDS } = require('./constants.js');
 const { errorOf, refusal, check, made, madeOrNull, long, longOrNull } = require('./errors.js');
-const { text, word, longWords, limitOf, fixedBytes, idOf, list, checkWords, words, tokens, texts, contents } = require('./arguments.js');
+const { text, word, option, optionsOf, longWords, limitOf, fixedBytes, idOf, list, checkWords, words, tokens, texts, contents } = require('./arguments.js');
 const { Columns } = require('./columns.js');
 const { toDecoded } = require('./decoded.js');
 const { sourceText, encodedMappings } = require('./inputs.js');
@@ -34,6 +34,13 @@ function mapOf(answer, text, members = null) {
 
 /** The handle of a map. */
 let handleOf;
+
+// So many texts of a map are kept before its counts are asked for, which have these at these places.
+const FEW = 8;
+const NAMES = 1;
+const SOURCES = 2;
+
+const WORDS = 6;
 
 // A map is asked so often before its tokens are copied, or at least by an eighth of them; one that has more of them is not copied.
 const FIRST_ASKED = 8;
@@ -275,18 +282,15 @@ class SourceMap {
 
   // ---- lookups ----
 
-  /** Asks for a generated position, and says of what kind the answer is. */
+  /** Asks the library, and says of what kind the answer is. Refuses what is no position, and copies the tokens for later, once there were
+   *  enough lookups. */
   #ask(line, column, bias) {
     if (line >>> 0 !== line || column >>> 0 !== column || bias >>> 0 !== bias) {
       word(line, 'The line');
       word(column, 'The column');
-      word(bias, 'The bias');
+      option(bias, 'The bias', 'Bias');
     }
     if (this.#columns === null && ++this.#asked >= this.#due) this.#copyColumns();
-    if (this.#columns !== null && bias <= Bias.AFTER) {
-      this.#columns.trace(line, column, bias, answers);
-      return answers[0];
-    }
     if (answers[SELECTED] !== this.#number) {
       native.select(this.#handle);
       this.#number = answers[SELECTED] || -1;
@@ -309,58 +313,71 @@ class SourceMap {
   }
 
   trace(line, column, bias = Bias.BEFORE) {
+    const columns = this.#columns;
+    if (columns !== null && isQuestion(line, column, bias)) {
+      const { tokens } = columns;
+      const index = columns.find(line, column, bias);
+      const at = WORDS * index;
+      if (index < 0 || tokens[at + 4] === NO_ID) return null;
+      return this.#originalAt(tokens, at, index, tokens[at + 5] !== NO_ID);
+    }
     if (isPlace(line)) return this.trace(line.line, line.column, line.bias);
     const kind = this.#ask(line, column, bias);
-    if (kind < Kind.MAPPED) return null;
-    const index = answers[1];
-    const originalLine = answers[4];
-    const originalColumn = answers[5];
-    const sourceId = answers[6];
-    const nameId = answers[7];
-    return {
-      source: this.#sourceCache?.[sourceId] ?? this.#keptSource(sourceId),
-      line: originalLine,
-      column: originalColumn,
-      name: kind === Kind.NAMED ? (this.#nameCache?.[nameId] ?? this.#keptName(nameId)) : null,
-      index,
-    };
+    return kind < Kind.MAPPED ? null : this.#originalAt(answers, 2, answers[1], kind === Kind.NAMED);
+  }
+
+  /** What the token at these words says. All of them are read first, as reading a text writes others in their place. */
+  #originalAt(words, at, index, isNamed) {
+    const line = words[at + 2];
+    const column = words[at + 3];
+    const sourceId = words[at + 4];
+    const nameId = words[at + 5];
+    const source = this.#sourceCache?.[sourceId] ?? this.#keptSource(sourceId);
+    const name = isNamed ? (this.#nameCache?.[nameId] ?? this.#keptName(nameId)) : null;
+    return { source, line, column, name, index };
   }
 
   traceToken(line, column, bias = Bias.BEFORE) {
+    if (this.#columns !== null && isQuestion(line, column, bias)) return this.#columns.traceToken(line, column, bias);
     if (isPlace(line)) return this.traceToken(line.line, line.column, line.bias);
     return this.#ask(line, column, bias) === Kind.NOTHING ? null : tokenAt(answers, 2, answers[1]);
   }
 
-  /** A text that a lookup found: read once, and kept. The lists have room for all entries from the start, so that they stay fast. */
+  /** A text that a lookup found: read once, and kept. */
   #keptSource(id) {
     const source = made(native.text(this.#handle, Which.SOURCE, id));
-    if (this.#sourceCache === null) {
-      check(native.getCounts(this.#handle));
-      this.#sourceCache = new Array(answers[2]);
-    }
+    this.#sourceCache = this.#withRoom(this.#sourceCache, id, SOURCES);
     this.#sourceCache[id] = source;
     return source;
   }
 
   #keptName(id) {
     const name = made(native.text(this.#handle, Which.NAME, id));
-    if (this.#nameCache === null) {
-      check(native.getCounts(this.#handle));
-      this.#nameCache = new Array(answers[1]);
-    }
+    this.#nameCache = this.#withRoom(this.#nameCache, id, NAMES);
     this.#nameCache[id] = name;
     return name;
   }
 
+  /** A list that has room for an entry: at first for a few, so that small maps are not asked for their counts, and then for all, so that it
+   *  stays fast. `count` is where the counts have that of the list. */
+  #withRoom(list, id, count) {
+    if (list !== null && id < list.length) return list;
+    if (id < FEW) return new Array(FEW);
+    check(native.getCounts(this.#handle));
+    const all = new Array(answers[count]);
+    list?.forEach((it, at) => (all[at] = it));
+    return all;
+  }
+
   traceAll(positions, bias = Bias.BEFORE, out = undefined) {
     const all = out === undefined ? new Uint32Array(4 * checkWords(positions, 'positions').length) : out;
-    check(native.traceAll(this.#handle, checkWords(positions, 'positions'), word(bias, 'The bias'), checkWords(all, 'out')));
+    check(native.traceAll(this.#handle, checkWords(positions, 'positions'), option(bias, 'The bias', 'Bias'), checkWords(all, 'out')));
     return all;
   }
 
   findAll(positions, bias = Bias.BEFORE, out = undefined) {
     const all = out === undefined ? new Uint32Array(checkWords(positions, 'positions').length / 2) : out;
-    check(native.findAll(this.#handle, checkWords(positions, 'positions'), word(bias, 'The bias'), checkWords(all, 'out')));
+    check(native.findAll(this.#handle, checkWords(positions, 'positions'), option(bias, 'The bias', 'Bias'), checkWords(all, 'out')));
     return all;
   }
 
@@ -390,7 +407,7 @@ class SourceMap {
       word(id ?? (typeof source === 'string' ? 0 : id), 'The id of the source'),
       word(line, 'The line'),
       word(column, 'The column'),
-      word(direction, 'The direction'),
+      option(direction, 'The direction', 'Direction'),
     ];
     return id === undefined ? null : asked;
   }
@@ -513,7 +530,8 @@ class SourceMap {
     return this.#members === null ? url : dataURLOf(this.toString(), url, limit);
   }
 
-  compile({ textLength = 0, stamp } = {}) {
+  compile(options) {
+    const { textLength = 0, stamp } = optionsOf(options, ['textLength', 'stamp'], 'compile');
     const given = stamp === undefined ? NO_STAMP : fixedBytes(stamp, STAMP, 'The stamp');
     return made(native.compile(this.#handle, ...longWords(textLength, 'textLength'), given));
   }
@@ -537,6 +555,11 @@ function pieceAt(out, at) {
     end: { line: out[at + 2], column: out[at + 3] },
     index: idOf(out[at + 4]),
   };
+}
+
+/** Whether a copy of the tokens answers: of positions and a bias as they are to be. */
+function isQuestion(line, column, bias) {
+  return line >>> 0 === line && column >>> 0 === column && bias >>> 0 === bias && bias <= Bias.AFTER;
 }
 
 /** Whether the first argument of a lookup is an object that has all of them. */

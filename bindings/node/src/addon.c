@@ -8,6 +8,7 @@ static void free_instance(napi_env env, void *data, void *hint)
     Instance *it = data;
     (void)hint;
     leave(env);
+    free(it->handles.at);
     free(it->numbers);
     free(it);
 }

@@ -1,7 +1,7 @@
 /* What lib/native.d.ts says, for Node: Node-API over oxc_sourcemap.h, and no policy.
  *
- * A handle is an external of JavaScript over a Handle, which the garbage collector frees, or `free` before. Each has a type tag, which
- * all calls but `trace` check. The numbers that calls answer stand in the memory of the Instance, over which JavaScript has two arrays:
+ * A handle is an external of JavaScript over a Handle, which the garbage collector frees, or `free` before. Which of them are there the
+ * Instance knows, and all calls but `trace` ask it. The numbers that calls answer stand in the memory of the Instance, over which JavaScript has two arrays:
  * so a call makes no object.
  *
  * What is lent to a call is a pointer into memory of JavaScript. It holds as long as no JavaScript runs: so what may run some (the
@@ -60,6 +60,13 @@ typedef struct {
 
 struct Handle;
 
+/* Addresses, in a table (registry.c). */
+typedef struct {
+    const void **at;
+    size_t room;
+    size_t count;
+} Registry;
+
 /* One for each environment: a thread of JavaScript. */
 typedef struct {
     uint32_t *words;
@@ -67,6 +74,7 @@ typedef struct {
     const smap_map *asked; /* that which `trace` asks, of the handle that is selected; null of a compiled one */
     const struct Handle *selected;
     uint32_t last_number; /* of the handles that were selected */
+    Registry handles;
     int64_t untold; /* how many bytes more handles hold than the collector knows of */
     void *numbers; /* the memory of `words` and `fault`, if it is ours */
     napi_ref keeps; /* that memory, if it is JavaScript's */
@@ -102,6 +110,14 @@ typedef struct {
 /* Frees the map, if it is refused. */
 Held *new_held(smap_map *map);
 void let_go(Held *held);
+
+/* ---- which handles there are (registry.c) ---- */
+
+bool is_listed(const Registry *it, const void *address);
+
+/* Says whether there was memory for it. */
+bool enlist(Registry *it, const void *address);
+void unlist(Registry *it, const void *address);
 
 /* ---- handles (handles.c) ---- */
 

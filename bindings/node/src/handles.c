@@ -3,8 +3,6 @@
 
 #include <stdlib.h>
 
-static const napi_type_tag TAG = {0x6a756e6b65747363, 0x6172702f68616e64};
-
 const smap_map *map_in(const Handle *handle) { return handle->held != NULL ? handle->held->map : NULL; }
 
 /* Counts what a handle holds more, or less, and tells the collector once it is worth it for all handles together. Who tells of more may
@@ -44,11 +42,17 @@ static void empty(napi_env env, Handle *handle)
     tell(env, handle, -handle->weight);
 }
 
+static void drop(napi_env env, Handle *it)
+{
+    empty(env, it);
+    unlist(&it->instance->handles, it);
+    free(it);
+}
+
 static void finalize(napi_env env, void *data, void *hint)
 {
     (void)hint;
-    empty(env, data);
-    free(data);
+    drop(env, data);
 }
 
 Handle *new_handle(Instance *instance, Kind kind)
@@ -62,12 +66,11 @@ Handle *new_handle(Instance *instance, Kind kind)
 
 napi_status external_of(napi_env env, Handle *it, napi_value *out)
 {
-    napi_status status = it != NULL ? napi_create_external(env, it, finalize, NULL, out) : napi_generic_failure;
-    if (status != napi_ok && it != NULL) {
-        empty(env, it);
-        free(it);
-    }
-    return status != napi_ok ? status : napi_type_tag_object(env, *out, &TAG);
+    napi_status status = napi_generic_failure;
+    if (it == NULL) return status;
+    if (enlist(&it->instance->handles, it)) status = napi_create_external(env, it, finalize, NULL, out);
+    if (status != napi_ok) drop(env, it);
+    return status;
 }
 
 napi_status map_value(napi_env env, Instance *instance, Held *held, smap_mends *mends, napi_value *out)
@@ -89,14 +92,9 @@ napi_status map_value(napi_env env, Instance *instance, Held *held, smap_mends *
 
 Handle *handle_of(Call *call, napi_value value)
 {
-    napi_valuetype type;
-    bool is_ours = false;
     void *data = NULL;
-    if (napi_typeof(call->env, value, &type) == napi_ok && type == napi_external &&
-        napi_check_object_type_tag(call->env, value, &TAG, &is_ours) == napi_ok && is_ours &&
-        napi_get_value_external(call->env, value, &data) == napi_ok)
-        return data;
-    return NULL;
+    if (napi_get_value_external(call->env, value, &data) != napi_ok) return NULL;
+    return is_listed(&call->instance->handles, data) ? data : NULL;
 }
 
 Handle *handle_in(Call *call, napi_value value, Kind kind)

@@ -132,6 +132,24 @@ test('numbers', () => {
   }
 });
 
+test('numbers of options', () => {
+  assert.throws(() => map.trace(0, 0, 'BEFORE'), { name: 'TypeError', message: 'The bias is "BEFORE", and no number of Bias' });
+  assert.throws(() => compiled.traceAll(new Uint32Array(2), -1), { name: 'RangeError', message: 'The bias is -1, and no number of Bias' });
+  assert.throws(() => map.generated(0, 0, 0, 'AT'), { message: 'The direction is "AT", and no number of Direction' });
+  assert.throws(() => sourceMappingURL('', 'css'), { message: 'The language is "css", and no number of Language' });
+  assert.throws(() => compiled.trace(0, 0, 3), { code: 'SMAP_BAD_OPTION', message: 'It is no number of Bias, Direction or Language' });
+});
+
+test('options of other names', () => {
+  const message = 'compile has no option "textlength", but textLength and stamp';
+  assert.throws(() => map.compile({ textlength: 1 }), { name: 'TypeError', message });
+  for (const it of [null, 1, 'a']) assert.throws(() => map.compile(it), { name: 'TypeError', message: /^The options of compile are \S+, and not an object$/ });
+  for (const call of [(it) => map.toString(it), (it) => map.toBytes(it), (it) => map.toDataURL(it), (it) => encodeMappings([], it)]) {
+    assert.throws(() => call({ limit: 999, Limit: 999 }), { name: 'TypeError', message: 'Writing has no option "Limit", but limit' });
+  }
+  assert.deepEqual([[], [[[0]]]].map(encodeMappings), ['', 'A']);
+});
+
 test('texts', () => {
   for (const call of TEXTS) {
     for (const other of ['\ud800', 1, null, undefined, {}, [], new Uint16Array(2), new DataView(new ArrayBuffer(2)), new ArrayBuffer(2), new Proxy(new Uint8Array(2), {}), Object('{}')]) {

@@ -6,7 +6,7 @@ const assert = require('node:assert/strict');
 
 const { NO_ID, Bias, SourceMap, SourceMapBuilder, Direction } = require('..');
 const { Columns } = require('../lib/columns.js');
-const { TEXT, TOKENS, fails, found, random, randomMap, realMaps, simple } = require('./support.js');
+const { TEXT, TOKENS, fails, flat, found, random, randomMap, realMaps, simple } = require('./support.js');
 
 const BIASES = Object.values(Bias);
 const MANY = 40; // lookups, after which a small map is copied
@@ -28,37 +28,43 @@ function compare(map, what) {
   const tokens = map.tokens();
   const columns = new Columns(tokens, lines);
   const positions = positionsOf(tokens, lines);
-  const answers = new Uint32Array(16);
   for (const bias of BIASES) {
     const expected = map.traceAll(positions, bias);
     for (let i = 0; i < positions.length / 2; i++) {
-      columns.trace(positions[2 * i], positions[2 * i + 1], bias, answers);
-      const length = expected[8 * i] === 0 ? 1 : 8;
-      for (let k = 0; k < length; k++) {
-        if (answers[k] !== expected[8 * i + k]) assert.fail(`${what}, bias ${bias}, position ${positions.slice(2 * i, 2 * i + 2)}, word ${k}`);
-      }
+      const [line, column] = positions.subarray(2 * i, 2 * i + 2);
+      const index = columns.find(line, column, bias);
+      const isSame = expected[8 * i] === 0 ? index === -1 : index === expected[8 * i + 1] && index >= 0;
+      if (!isSame) assert.fail(`${what}, bias ${bias}, position ${line}:${column}`);
+      if (index >= 0) assert.deepEqual(tokens.subarray(6 * index, 6 * index + 6), expected.subarray(8 * i + 2, 8 * i + 8));
     }
+    compareSingle(map, positions, bias, expected, what);
+  }
+}
+
+/** Compares single lookups of the class, most of which no crossing answers, with words of the library. */
+function compareSingle(map, positions, bias, expected, what) {
+  const { sources, names } = map;
+  const step = Math.ceil(positions.length / 2000);
+  for (let i = 0; i < positions.length / 2; i += step) {
+    const [kind, index, , , line, column, source, name] = expected.subarray(8 * i, 8 * i + 8);
+    const wanted = kind < 2 ? null : { source: sources[source], line, column, name: kind === 3 ? names[name] : null, index };
+    assert.deepEqual(map.trace(positions[2 * i], positions[2 * i + 1], bias), wanted, `${what}, bias ${bias}, position ${i}`);
   }
 }
 
 test('worked rows', () => {
   const columns = new Columns(Uint32Array.from(TOKENS.flat()), 2);
-  const answers = new Uint32Array(16);
   const rows = [
-    [0, 0, Bias.BEFORE, 2, 0],
-    [0, 2, Bias.BEFORE, 2, 0],
-    [0, 4, Bias.BEFORE, 3, 1],
-    [0, 4, Bias.AFTER, 1, 2],
-    [0, 9, Bias.AFTER, 0],
-    [1, 0, Bias.BEFORE, 0],
-    [1, 0, Bias.CLAMPED, 3, 3],
-    [2, 0, Bias.CLAMPED, 0],
+    [0, 0, Bias.BEFORE, 0],
+    [0, 2, Bias.BEFORE, 0],
+    [0, 4, Bias.BEFORE, 1],
+    [0, 4, Bias.AFTER, 2],
+    [0, 9, Bias.AFTER, -1],
+    [1, 0, Bias.BEFORE, -1],
+    [1, 0, Bias.CLAMPED, 3],
+    [2, 0, Bias.CLAMPED, -1],
   ];
-  for (const [line, column, bias, kind, index] of rows) {
-    columns.trace(line, column, bias, answers);
-    assert.equal(answers[0], kind, `${line}:${column}`);
-    if (kind > 0) assert.deepEqual([...answers.subarray(1, 8)], [index, ...TOKENS[index]]);
-  }
+  for (const [line, column, bias, index] of rows) assert.equal(columns.find(line, column, bias), index, `${line}:${column}`);
 });
 
 test('random maps, with several tokens at one position', () => {
@@ -105,6 +111,18 @@ test('it refuses what it refused at first, and after `free` everything', () => {
   assert.equal(map.trace(0, 4).name, 'hi');
   map.free();
   fails({ code: 'SMAP_NULL_HANDLE' }, () => map.trace(0, 4));
+});
+
+test('texts of many ids are kept as those of few', () => {
+  const lists = { sources: Array.from({ length: 40 }, (_, i) => `s${i}`), names: Array.from({ length: 30 }, (_, i) => `n${i}`) };
+  const tokens = Array.from({ length: 40 }, (_, i) => [0, i, i, 0, i, i % 30]);
+  const map = SourceMap.fromTokens(flat(tokens), lists);
+  for (const step of [7, 39, 1, 3]) {
+    for (let k = 0; k < 80; k++) {
+      const i = (k * step) % 40;
+      assert.deepEqual(map.trace(0, i), { source: `s${i}`, line: i, column: 0, name: `n${i % 30}`, index: i });
+    }
+  }
 });
 
 test('a change is seen', () => {

@@ -4,6 +4,7 @@
 const test = require('node:test');
 const assert = require('node:assert/strict');
 
+const { SourceMap } = require('..');
 const { decode, encode } = require('../compat/sourcemap-codec.js');
 const { fails, random, randomMap, peer, needs, realMaps } = require('./support.js');
 
@@ -46,6 +47,21 @@ test('what is no mappings is refused, with its place', () => {
   assert.throws(() => encode([[[0, 0, 0]]]), { name: 'RangeError', message: /has 3 numbers/ });
   assert.throws(() => encode([[[0, 0, 0, 0, 0, 0]]]), RangeError);
   assert.throws(() => encode([[[0, 0, null, 0]]]), TypeError);
+});
+
+test('lines of the maps of the repository are what the library says of them', { skip: realMaps().length === 0 && 'the repository is not here' }, () => {
+  for (const { path, bytes, refused } of realMaps()) {
+    const lines = refused === null ? new SourceMap(bytes).mappings.split(';').slice(0, 50) : [];
+    for (const line of lines) {
+      let said = null;
+      try {
+        said = SourceMap.fromMappings(line).decodedMappings;
+      } catch ({ code }) {
+        fails({ code }, () => decode(line)); // (ids that count on from the line before)
+      }
+      if (said !== null) assert.deepEqual(decode(line), line === '' ? [[]] : said, path);
+    }
+  }
 });
 
 test('texts that are just short enough for one call, and just too long', () => {

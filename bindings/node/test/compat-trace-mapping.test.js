@@ -4,7 +4,7 @@
 const test = require('node:test');
 const assert = require('node:assert/strict');
 
-const { SourceMap, Bias, Direction, NO_ID } = require('..');
+const { SourceMap, Bias, Direction, NO_ID, decodeMappings } = require('..');
 const ours = require('../compat/trace-mapping.js');
 const { MAP, TEXT, simple, fails, random, randomMap, positionsOf, peer, needs, realMaps } = require('./support.js');
 
@@ -24,6 +24,20 @@ test('a map that was asked for many positions is copied as a message to a worker
   const map = new TraceMap({ version: 3, sources: ['a'], names: [], mappings: 'AAAA,CAAC;AACA' });
   for (let i = 0; i < 40; i++) allGenerated(map, 'a', 1, 0);
   assert.deepEqual(allGenerated(structuredClone(map), 'a', 1, 0), [{ line: 1, column: 0 }]);
+});
+
+test('small maps, of which some lie in one memory, keep what they have', () => {
+  const lengths = Array.from({ length: 400 }, (_, i) => 1 + ((7 * i) % 60));
+  const maps = lengths.map((length) => new TraceMap({ version: 3, sources: ['a'], names: [], mappings: 'AAAA' + ',CAEA'.repeat(length - 1) }));
+  for (const map of maps) original(map, 1, 0);
+  maps.forEach((map, i) => {
+    const last = lengths[i] - 1;
+    for (const column of [0, last >> 1, last]) {
+      assert.deepEqual(original(map, 1, column), { source: 'a', line: 1 + 2 * column, column: 0, name: null });
+    }
+    assert.equal(ours.decodedMappings(map)[0].length, lengths[i]);
+  });
+  assert.equal(decodeMappings('AAAA,CAAC,CAAC').buffer.byteLength, 72); // which may be given away
 });
 
 test('a map has the members of its value, and resolved sources', () => {

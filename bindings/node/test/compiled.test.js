@@ -6,6 +6,10 @@ const test = require('node:test');
 const assert = require('node:assert/strict');
 const { execFileSync } = require('node:child_process');
 const { once } = require('node:events');
+const { mkdtempSync, rmSync, writeFileSync } = require('node:fs');
+const { tmpdir } = require('node:os');
+const { join } = require('node:path');
+const { pathToFileURL } = require('node:url');
 const { inspect } = require('node:util');
 const vm = require('node:vm');
 const { MessageChannel, Worker } = require('node:worker_threads');
@@ -356,6 +360,21 @@ test('maps and compiled maps, asked in turn', () => {
   fails({ code: 'SMAP_BAD_OPTION' }, () => maps[1].findAll(Uint32Array.of(0, 0), 3));
   for (const [positions, out] of [[1, 8], [2, 7], [2, 9], [4, 8]]) fails({ code: 'SMAP_LENGTHS' }, () => maps[1].traceAll(new Uint32Array(positions), 0, new Uint32Array(out)));
   for (const [positions, out] of [[1, 1], [2, 0], [2, 2]]) fails({ code: 'SMAP_LENGTHS' }, () => maps[1].findAll(new Uint32Array(positions), 0, new Uint32Array(out)));
+});
+
+test('a file of a compiled map', (t) => {
+  const room = mkdtempSync(join(tmpdir(), 'junketscarp-'));
+  t.after(() => rmSync(room, { recursive: true }));
+  const path = join(room, 'a b.smc');
+  const map = new SourceMap(TEXT);
+  writeFileSync(path, map.compile());
+  const opened = [CompiledMap.openFile(path), CompiledMap.openFile(pathToFileURL(path))];
+  writeFileSync(path, '');
+  for (const it of opened) sameHoldings(it, map);
+  fails({ code: 'SMAP_NOT_COMPILED' }, () => CompiledMap.openFile(path));
+  assert.throws(() => CompiledMap.openFile(join(room, 'none')), { code: 'ENOENT', message: /none/ });
+  // (a number is a descriptor to the calls of Node)
+  for (const it of [0, undefined, Buffer.from(path)]) assert.throws(() => CompiledMap.openFile(it), { name: 'TypeError', message: /^The path is .*, and neither a string nor a URL$/ });
 });
 
 test('many positions, more than are asked at once', () => {

@@ -44,6 +44,23 @@ test('so do small ones, clones, what maps are made of, and bytes', { skip: isSan
   assert.ok(peak < 200, `${peak} MB`);
 });
 
+test('of many maps, those that are left answer when others were collected, and are refused by nothing', () => {
+  const said = run(`
+    const of = (line) => SourceMap.fromTokens(Uint32Array.of(0, 0, line, 0, 0, NO_ID), { sources: ['a'] });
+    let next = 1;
+    const kept = new Map();
+    const add = (count) => { for (let i = 0; i < count; i++, next++) kept.set(next, of(next)); };
+    let wrong = 0;
+    for (const [more, modulus] of [[3000, 3], [50, 2], [4000, 7], [0, 90]]) {
+      add(more);
+      for (const line of [...kept.keys()]) if (line % modulus !== 1) kept.delete(line);
+      gc();
+      for (const [line, map] of kept) if (map.trace(0, 0).line !== line || map.counts.tokens !== 1) wrong++;
+    }
+    process.stdout.write(JSON.stringify([kept.size > 3, wrong]));`, '--expose-gc');
+  assert.deepEqual(said, [true, 0]);
+});
+
 test('what is freed is freed at once', { skip: isSanitized }, () => {
   const held = run(`
     const text = JSON.stringify({ version: 3, sources: ['a'], sourcesContent: ['x'.repeat(5_000_000)], names: [], mappings: '' });

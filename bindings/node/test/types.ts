@@ -59,7 +59,7 @@ async function uses(bytes: Uint8Array): Promise<void> {
   const counts: CompiledCounts = new CompiledMap(new SharedArrayBuffer(0)).counts ?? new CompiledMap(new DataView(bytes.buffer)).counts;
   const known: [Original | null, FoundToken | null, string | null, Uint8Array, boolean] =
     [compiled.trace(0, 1, Bias.CLAMPED), compiled.token(0), compiled.getSource(0), compiled.stamp, compiled.isIgnored(0)];
-  const again: SourceMap = compiled.decompile();
+  const again: SourceMap = CompiledMap.openFile("a.smc").decompile() ?? CompiledMap.openFile(new URL("file:///a.smc")).decompile();
   compiled.free();
   void [counts, known, again];
   void [found, name, token, answers, indices, pieces, back, all, raw, concat, url, NO_ID];
@@ -106,6 +106,8 @@ function refused(map: SourceMap): void {
   encodeMappings([[[0, 0]]]);
   // @ts-expect-error: it is only read
   SourceMap.backend = "addon";
+  // @ts-expect-error: no such option
+  map.compile({ textlength: 7 });
   // @ts-expect-error: no such bias
   map.trace(0, 0, 3);
   // @ts-expect-error: numbers are unsigned words

@@ -52,7 +52,7 @@ def has_tag(wheel, room):
         holds(told == {*packed.namelist()}, "its record")
         about = packed.read(record.replace("RECORD", "WHEEL")).decode()
         holds(f"\nVersion: {VERSION}" in packed.read(record.replace("RECORD", "METADATA")).decode(), "its version")
-    loaded = [it for it in (room / wheel.name).rglob("*.so")]
+    loaded = [*(room / wheel.name).rglob("*.so"), *(room / wheel.name).glob("oxc_sourcemap/sourcemap")]
     processor = "aarch64" if "aarch64" in wheel.name else "x86_64"
     major, minor = max(glibc_of(*loaded), (2, 17) if processor == "aarch64" else (2, 5))
     python = "cp310-abi3" if any(it.name.startswith("_fast") for it in loaded) else "py3-none"
@@ -70,6 +70,13 @@ def has_venv():
     return not subprocess.run([sys.executable, "-c", "import venv, ensurepip"], capture_output=True).returncode
 
 
+def has_program(empty):
+    """The wheel has the program, as a script and as a module."""
+    script, python = empty.folder / "environment/bin/sourcemap", empty.folder / "environment/bin/python"
+    told = [empty.run(script, "--version"), empty.run(python, "-m", "oxc_sourcemap", "--version")]
+    holds(told == [f"sourcemap {VERSION}\n"] * 2, f"the program says {told}")
+
+
 def in_new_environment(empty, *words, **more):
     """pip installs these into a new environment, and the job runs there."""
     empty.run(sys.executable, "-m", "venv", "environment")
@@ -85,7 +92,9 @@ def try_python(tally, room, dist, tree):
         print("package: Python: passed over, there is no ensurepip (Debian's python3-venv)")
         return
     wheel = next(dist.glob("*x86_64.whl"))
-    tally.attempt("wheel", in_new_environment, Empty(room / "wheel"), wheel)
+    empty = Empty(room / "wheel")
+    tally.attempt("wheel", in_new_environment, empty, wheel)
+    tally.attempt("wheel, program", has_program, empty)
     source = next(it for it in dist.glob("oxc_sourcemap-*.tar.gz"))
     if tally.has("source of Python", "cc", "pkg-config"):
         where = {"PKG_CONFIG_PATH": str(tree / "lib/pkgconfig")}
@@ -132,6 +141,20 @@ def by_node(empty, dist):
     shutil.rmtree(own / "prebuilds")
     for it in ("job.cjs", "job.mjs"):
         empty.answers("node", it)
+
+
+def by_npx(empty, dist):
+    """The program, and its pages; without it a message."""
+    npm_install(empty, next(dist.glob("junketscarp-[0-9]*.tgz")))
+    told = empty.run("npx", "--offline", "junketscarp", "--version")
+    holds(told == f"sourcemap {VERSION}\n", f"the program says {told}")
+    empty.write("a.js", "let a;\n")
+    empty.write("a.js.map", MAP)
+    empty.run("npx", "--offline", "junketscarp", "page", "a.js", "a.js.map", "-o", "a.html")
+    holds((empty.folder / "a.html").stat().st_size > 100_000, "there is no page")
+    shutil.rmtree(empty.folder / "node_modules/junketscarp/prebuilds")
+    refused = empty.run("sh", "-c", "npx --offline junketscarp --version 2>&1; echo $?")
+    holds(refused.startswith("junketscarp: the program sourcemap is there for no platform") and refused.endswith("\n1\n"), refused)
 
 
 def by_drop_ins(empty, dist):

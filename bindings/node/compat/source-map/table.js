@@ -27,7 +27,7 @@ function faultText(error, mappings) {
 /** The tokens of a mappings text, and the map that was made of it: of a short one none. */
 function readMappings(mappings) {
   try {
-    const words = shortTokens(mappings);
+    const words = shortTokens(mappings, NO_ID, NO_ID);
     if (words !== null) return { words, map: null };
     const map = SourceMap.fromMappings(mappings);
     return { words: map.tokens(), map };

@@ -7,14 +7,18 @@ const WORDS = 6;
 /** Where in a token which number is. */
 const Field = Object.freeze({ LINE: 0, COLUMN: 1, ORIGINAL_LINE: 2, ORIGINAL_COLUMN: 3, SOURCE: 4, NAME: 5 });
 
+// Room for two tokens lies in the heap of the engine; for more it is taken outside, which costs as much as adding twenty.
+const FIRST_ROOM = 2 * WORDS;
+const LATER_ROOM = 32 * WORDS;
+
 /** Tokens that grow in number. */
 class TokenList {
-  #words = new Uint32Array(16 * WORDS);
+  #words = new Uint32Array(FIRST_ROOM);
   #length = 0;
 
   /** The numbers of all tokens, until one is added. */
   get words() {
-    return this.#words.subarray(0, this.#length);
+    return this.#length === this.#words.length ? this.#words : this.#words.subarray(0, this.#length);
   }
 
   add(line, column, originalLine, originalColumn, source, name) {
@@ -31,7 +35,7 @@ class TokenList {
   }
 
   #grow() {
-    const wider = new Uint32Array(2 * this.#words.length);
+    const wider = new Uint32Array(Math.max(LATER_ROOM, 2 * this.#words.length));
     wider.set(this.#words);
     this.#words = wider;
   }

@@ -3,8 +3,11 @@ maps, and of the stored runs of the program `sourcemap`."""
 
 from __future__ import annotations
 
+import gc
 import json
 import os
+import subprocess
+import sys
 import tempfile
 import threading
 import time
@@ -463,6 +466,34 @@ class Bounded(InFolder):
         store.fails = False
         self.assertEqual(found.resolve_frame("app.js", 1, 1).place, "src/a.ts:1:1")
 
+    def test_what_is_let_go_is_freed_at_once(self):
+        for k in range(20):
+            write(self.folder, {f"{k}.js.map": MAP})
+        found = Resolver(self.folder, cache=BESIDE, limits=Limits(held_maps=2))
+        trace = "f@no.js:1:1\n" + "".join(f"f@{k}.js:1:1\n" for k in range(20)) + "f@none.js:1:1\n"
+        gc.collect()
+        gc.disable()
+        self.addCleanup(gc.enable)
+        for _ in range(3):
+            self.assertEqual(found.resolve_text(trace).count("src/a.ts"), 20)
+        self.assertEqual(sum(isinstance(it, CompiledMap) for it in gc.get_objects()), 2)
+
+    def test_a_trace_of_many_codes_uses_few_descriptors(self):
+        most = 0
+
+        class Watched(Folder):
+            def open(self, name: str) -> object:
+                nonlocal most
+                most = max(most, len(os.listdir("/proc/self/fd")))
+                return super().open(name)
+
+        for k in range(300):
+            write(self.folder, {f"{k}.js.map": MAP})
+        found = Resolver(Watched(self.folder), cache=BESIDE, limits=Limits(held_maps=2), beside_first=True)
+        before = len(os.listdir("/proc/self/fd"))
+        self.assertEqual(found.resolve_text("".join(f"f@{k}.js:1:1\n" for k in range(300))).count("src/a.ts"), 300)
+        self.assertLess(most - before, 80)
+
     def test_threads_share_a_resolver(self):
         names = [f"{k}.js" for k in range(8)]
         store = Counting({f"{name}.map": MAP for name in names})
@@ -516,6 +547,13 @@ class Described(Case):
                 self.assertTrue(value.__doc__, name)
                 for key, it in vars(value).items():
                     self.assertTrue(key.startswith("_") or not callable(it) or ">>>" in (it.__doc__ or ""), (name, key))
+
+
+class Soaked(Case):
+    def test_some_seconds(self):
+        env = {**os.environ, "PYTHONPATH": str(Path(resolver.__file__).parents[1])}
+        ran = subprocess.run([sys.executable, str(TOP / "bindings/python/soak.py"), "0.05"], capture_output=True, text=True, env=env)
+        self.assertEqual(ran.returncode, 0, ran.stdout + ran.stderr)
 
 
 if __name__ == "__main__":

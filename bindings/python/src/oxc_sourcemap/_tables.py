@@ -36,6 +36,11 @@ class MissingError(Exception):
         self.reason, self.detail, self.holds = reason, detail, holds
 
 
+def _copied(error: MissingError) -> MissingError:
+    """One of its own, to which no other thread adds its traceback."""
+    return MissingError(error.reason, error.detail, error.holds)
+
+
 class Table(Generic[V]):
     """What `load` calls return, by their keys, and MissingError that they raise. What was not asked for longest goes first. The lock is
     held for the table alone: calls run outside of it, and threads that ask for what another one loads wait for that."""
@@ -72,7 +77,7 @@ class Table(Generic[V]):
             if self._clock() < missing[1]:
                 self._missing.move_to_end(key)
                 self._counts["missing_hits"] += 1
-                raise MissingError(missing[0].reason, missing[0].detail)
+                raise _copied(missing[0])
             del self._missing[key]
             self._counts["expired"] += 1
         return None
@@ -82,8 +87,7 @@ class Table(Generic[V]):
         try:
             return other.result(max(seconds, 0))
         except MissingError as error:
-            # (one of its own, to which no other thread adds its traceback)
-            raise MissingError(error.reason, error.detail, error.holds) from None
+            raise _copied(error) from None
         except futures.TimeoutError:
             raise TimeoutError from None
 
@@ -95,7 +99,8 @@ class Table(Generic[V]):
                 del self._loading[key]
                 if isinstance(error, MissingError) and error.holds:
                     self._put_missing(key, error)
-            own.set_exception(error if isinstance(error, MissingError) else MissingError("store", f"{type(error).__name__}: {error}"))
+            # (another error than this one, which by its traceback would hold the future that holds it)
+            own.set_exception(_copied(error) if isinstance(error, MissingError) else MissingError("store", f"{type(error).__name__}: {error}"))
             raise
         with self._lock:
             del self._loading[key]
@@ -117,8 +122,7 @@ class Table(Generic[V]):
             self._counts["evictions"] += 1
 
     def _put_missing(self, key: Hashable, error: MissingError) -> None:
-        own = MissingError(error.reason, error.detail)
-        self._missing[key] = own, self._clock() + self._bounds.seconds
+        self._missing[key] = _copied(error), self._clock() + self._bounds.seconds
         while len(self._missing) > self._bounds.missing:
             self._missing.popitem(last=False)
 

@@ -35,9 +35,12 @@ if TYPE_CHECKING:
 __all__ = ["BESIDE", "Context", "Folder", "Frame", "Limits", "Lines", "Reason", "Resolved", "Resolver", "Store", "TooLargeError", "frames_in", "replace_frames"]  # fmt: skip
 
 _Text = TypeVar("_Text", str, bytes)
+# The maps of a trace by the URLs of codes, or why there is none.
+_Known = dict[str, Union[Held, "tuple[Reason, str]"]]
 # As `sourcemap` prints no path: C0, DEL and C1, the marks of text direction, and quotes.
 _HIDDEN = re.compile('[\x00-\x1f"\x7f-\x9f\u061c\u200e\u200f\u202a-\u202e\u2066-\u2069]')
 _MOST_NAMES = 2048
+_MOST_KNOWN = 64
 _MOST = 2**32 - 1
 
 
@@ -108,7 +111,7 @@ class Limits:
     held_bytes: int = 256 << 20
     """Bytes of compiled maps that are held. Those in files are mapped into memory, of which the system takes pages away if need be."""
     held_maps: int = 256
-    """Compiled maps that are held, each in a file with a descriptor of it."""
+    """Compiled maps that are held, each in a file with a descriptor of it; up to 64 more are in use for each trace that is resolved."""
     held_missing: int = 4096
     """Codes that are known to have no map."""
     held_seconds: float = 60.0
@@ -246,25 +249,29 @@ class Resolver:
         source = held.source(found.source)
         return Resolved(frame, source, found.line, found.column, found.name, None, "", held.name, found.token.source_id, debug_id)
 
-    def _resolved(self, frame: Frame, given: Optional[str], end: float, known: dict[str, Union[Held, MissingError]]) -> Resolved:
+    def _resolved(self, frame: Frame, debug_id: Optional[str], end: float, known: _Known) -> Resolved:
         """What a frame comes to. What is known of the codes of its trace is asked once."""
         if self._clock() > end:
             return Resolved(frame, reason=Reason.TIME)
         found = known.get(frame.url)
-        debug_id = None
-        try:
-            debug_id = debug_id_of(given) if given else None
-            if found is None:
-                found = known[frame.url] = self._held(frame.url, debug_id, end)
-        except TimeoutError:
-            return Resolved(frame, reason=Reason.TIME)
-        except RefusedError as error:
-            return Resolved(frame, reason=Reason.REFUSED, detail=str(error))
-        except MissingError as error:
-            found = known[frame.url] = error
-        if isinstance(found, MissingError):
-            return Resolved(frame, reason=Reason(found.reason), detail=found.detail)
+        if found is None:
+            if len(known) >= _MOST_KNOWN:
+                known.clear()
+            found = known[frame.url] = self._known(frame.url, debug_id, end)
+        if isinstance(found, tuple):
+            return Resolved(frame, reason=found[0], detail=found[1])
         return self._looked_up(frame, found, debug_id)
+
+    def _known(self, url: str, debug_id: Optional[str], end: float) -> Union[Held, tuple[Reason, str]]:
+        """The map of a code, or why there is none. (Not the error: by its traceback it would hold all maps of the trace.)"""
+        try:
+            return self._held(url, debug_id_of(debug_id) if debug_id else None, end)
+        except TimeoutError:
+            return Reason.TIME, ""
+        except RefusedError as error:
+            return Reason.REFUSED, str(error)
+        except MissingError as error:
+            return Reason(error.reason), error.detail
 
     def resolve_frame(self, url: str, line: int, column: int, debug_id: Optional[str] = None) -> Resolved:
         """What a place in a code comes to, by its URL or path, and its line and column, which count from 1.
@@ -292,7 +299,8 @@ class Resolver:
             self._counts.add("traces_refused")
             raise TooLargeError("the trace", length, self.limits.trace_bytes)
         trace = text.decode("utf-8", "surrogateescape") if isinstance(text, bytes) else text
-        end, known = self._clock() + self.limits.seconds, {}  # type: tuple[float, dict[str, Union[Held, MissingError]]]
+        end = self._clock() + self.limits.seconds
+        known: _Known = {}
         found: list[Resolved] = []
         for frame in frames_in(trace):
             is_within = len(found) < self.limits.frames
@@ -328,7 +336,8 @@ class Resolver:
             return None
         id = found.source_id
         try:
-            held = self._held(found.frame.url, found.debug_id, self._clock() + self.limits.seconds)
+            debug_id = debug_id_of(found.debug_id) if found.debug_id else None
+            held = self._held(found.frame.url, debug_id, self._clock() + self.limits.seconds)
             listed = held.map.get_source(id)
             if listed is None or held.source(listed) != found.source:
                 return None

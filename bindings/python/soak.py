@@ -75,9 +75,13 @@ class Soak:
                 self.replaced[k][self.current[k]] = time.monotonic()
             path.unlink(missing_ok=True)
         elif compiled.exists():
+            # (a whole one never gets a later time, by which it would count as that of the map that is there now)
+            before = os.stat(compiled).st_mtime_ns
             data = compiled.read_bytes()
-            cut = data[: self.chosen.randrange(len(data))] if kind < 0.85 else data
-            replace_file(str(compiled), cut, 0o644, self.chosen.choice((0, time.time_ns(), os.stat(compiled).st_mtime_ns)))
+            if kind < 0.85:
+                replace_file(str(compiled), data[: self.chosen.randrange(len(data))], 0o644, time.time_ns())
+            else:
+                replace_file(str(compiled), data, 0o644, self.chosen.choice((0, before)))
 
     def write(self) -> None:
         while not self.ends.wait(0.05):

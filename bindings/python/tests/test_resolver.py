@@ -275,6 +275,15 @@ class Compiled(InFolder):
         self.assertEqual((self.room / "x.smc").read_bytes(), self.compiled(OTHER, MAP))
         self.assertFalse((self.folder / "app.js.map.smc").is_symlink())
 
+    def test_maps_that_are_links(self):
+        write(self.folder, {"sub/b.js.map": MAP})
+        os.symlink("sub/b.js.map", self.folder / "b.js.map")
+        for made, used in ((1, 0), (0, 1)):
+            found = Resolver(self.folder, H, cache=BESIDE)
+            self.assertEqual(found.resolve_frame(H + "b.js", 1, 1).place, "src/a.ts:1:1")
+            self.assertEqual([found.stats()[it] for it in ("compiled_made", "compiled_used")], [made, used])
+        self.assertEqual(os.listdir(self.folder / "sub"), ["b.js.map"])
+
     def test_caches_need_a_folder(self):
         with self.assertRaisesRegex(TypeError, "of a folder alone"):
             Resolver({}, cache=BESIDE)

@@ -176,14 +176,14 @@ class Compiler:
     def _written(self, name: str, compiled: bytes, status: Optional[os.stat_result]) -> Optional[str]:
         """The file that a compiled map was written to; None if it is kept in memory."""
         path = self._cache_path(name)
-        if path is None and self._writes_beside and self._folder and status is not None:
-            path = os.path.join(os.path.dirname(self._folder.path_of(name)), name.rpartition("/")[2] + ENDING)
-        if path is None:
-            return None
         try:
+            if path is None and self._writes_beside and self._folder and status is not None:
+                path = self._folder.place_of(name + ENDING)
+            if path is None:
+                return None
             mode = status.st_mode if status else stat.S_IRUSR | stat.S_IWUSR
             replace_file(path, compiled, mode, _time_for(status) if status else time.time_ns())
-        except OSError:
+        except (OSError, RefusedError):
             self._counts.add("compiled_unwritten")
             return None
         return path

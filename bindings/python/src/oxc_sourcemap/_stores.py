@@ -188,10 +188,22 @@ class Folder:
         Traceback (most recent call last):
         oxc_sourcemap._stores.RefusedError: a path with the part '..'
         """
-        path = os.path.realpath(os.path.join(self.path, *check_name(name).split("/")))
-        if os.path.commonpath((path, self.path)) != self.path:
+        return self._inside(os.path.join(self.path, *check_name(name).split("/")), name)
+
+    def place_of(self, name: str) -> str:
+        """The same of a name that is not followed itself if it is a link, but its folder is.
+
+        >>> Folder("/").place_of("a.js.map")
+        '/a.js.map'
+        """
+        folder, last = os.path.split(os.path.join(self.path, *check_name(name).split("/")))
+        return os.path.join(self._inside(folder, name), last)
+
+    def _inside(self, path: str, name: str) -> str:
+        found = os.path.realpath(path)
+        if os.path.commonpath((found, self.path)) != self.path:
             raise RefusedError(f"{name} is a link out of the folder")
-        return path
+        return found
 
     def open(self, name: str) -> Optional[Opened]:
         """A plain file, opened; None if there is none. Who calls closes it. Raises RefusedError, and OSError.

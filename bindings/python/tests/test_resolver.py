@@ -157,7 +157,7 @@ class Finding(InFolder):
         found = Resolver(store, limits=Limits(code_bytes=98, map_bytes=199))
         reasons = {
             "a.js": "no map: a.js names no map that is there, and there is no a.js.map",
-            "b.js": "bad map: b.js.map: Mapping segment had an unsupported size of 2 (line 1, segment 1 (byte 4))",
+            "b.js": "bad map: b.js.map: Mapping segment had an unsupported size of 2, at line 1, segment 1 (byte 4)",
             "c.js": "too large: c.js has 99 bytes, and the limit is 98",
             "d.js": "too large: d.js.map has 200 bytes, and the limit is 199",
             "e.js": "not there: there is no e.js, and no e.js.map",

@@ -166,7 +166,7 @@ class Compiler:
             with SourceMap.read_found(data).map as map:
                 compiled = map.compile(len(data), hashlib.sha256(data).digest())
         except SourceMapError as error:
-            place = f" ({error.place.message})" if error.place else ""
+            place = f", at {error.place.message}" if error.place else ""
             raise MissingError("bad map", f"{name}: {error}{place}") from None
         self._counts.add("compiled_made")
         path = self._written(name, compiled, text.status)

@@ -172,7 +172,8 @@ class Resolver {
     const { clock = () => performance.now() / 1000 } = options;
     this.limits = limitsOf(limits);
     this.#clock = clock;
-    const found = typeof store?.get === 'function' ? store : new Folder(store);
+    if (typeof store !== 'string' && typeof store?.get !== 'function') throw new TypeError('the store is no path, and has no get');
+    const found = typeof store === 'string' ? new Folder(store) : store;
     if (cache === BESIDE && !(found instanceof Folder)) throw new TypeError('compiled maps can be written beside the maps of a folder alone');
     if (typeof cache === 'string') fs.mkdirSync(cache, { recursive: true });
     this.#bases = new Bases(base);

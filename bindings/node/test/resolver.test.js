@@ -11,6 +11,7 @@ const { tmpdir } = require('node:os');
 
 const { SourceMap } = require('..');
 const { BESIDE, Folder, Lines, Reason, Resolver, TooLargeError, framesIn } = require('../lib/resolver.js');
+const { random } = require('./random.js');
 const { REPOSITORY } = require('./support.js');
 
 // By hand: generated 0:0 is a.ts 0:0, 0:13 is a.ts 1:2 with the name run, 1:0 is b.ts 4:0, and 1:4 is unmapped.
@@ -71,6 +72,36 @@ test('the forms of frames that the program has', { skip: !fs.existsSync(stored) 
   }
 });
 
+test('lines with other brackets and words', () => {
+  // (what `sourcemap resolve` makes of them)
+  const rows = {
+    'loaded (app.js:1:14)': 'loaded (app.js:1:14)',
+    'what (app.js:1:14)': 'what (app.js:1:14)',
+    'Started at noon:30:15': 'Started at noon:30:15',
+    '    at f (g( (app.js:1:14)': '    at f (g( (src/a.ts:2:3)',
+    'x at f (a (b) c (app.js:1:14)': 'x at f (a (b) c (src/a.ts:2:3)',
+    'at app.js:1:14, app.js:2:1': 'at src/a.ts:2:3, app.js:2:1',
+    'at f (app.js:1:14) app.js:2:1)': 'at f (src/a.ts:2:3) app.js:2:1)',
+  };
+  const resolver = new Resolver(storeOf({ 'app.js.map': MAP }));
+  assert.deepEqual(Object.fromEntries(Object.keys(rows).map((it) => [it, resolver.resolveText(it)])), rows);
+  assert.equal(placeOf(new Resolver(storeOf({ [`${'abc/'.repeat(300)}a.js.map`]: MAP })), `${'abc/'.repeat(300)}a.js`), Reason.REFUSED);
+});
+
+test('frames lie apart', () => {
+  const next = random(1);
+  const parts = ['at ', 'f', '(', ')', ' ', 'a.js:1:1', ':2:3', '@', 'h://', '\n', '❯ ', ',', '{'];
+  for (let k = 0; k < 20_000; k++) {
+    const text = Array.from({ length: 12 }, () => parts[next(parts.length)]).join('');
+    let last = 0;
+    for (const { url, line, column, start, end } of framesIn(text)) {
+      assert.ok(last <= start, text);
+      assert.equal(text.slice(start, end), `${url}:${line}:${column}`);
+      last = end;
+    }
+  }
+});
+
 test('bytes that are no part of a place stay', () => {
   const resolver = new Resolver(storeOf({ 'app.js.map': MAP, 'ü.js.map': JSON.stringify({ ...VALUE, sources: ['ü€.ts'], mappings: 'AAAA' }) }), H);
   const trace = '\r\n    at ü (http://h/app.js:1:14)\r\nf@http://h/app.js:2:1\r\n\0\n@http://h/%C3%BC.js:1:1\n';
@@ -119,19 +150,19 @@ test('URLs and the names of a store', () => {
 });
 
 test('what leads out of a folder is refused', () => {
-  const room = folderOf({ 'dist/app.js.map': MAP, 'secret.js.map': MAP, 'secret/a.js.map': MAP });
-  const links = { 'out.js.map': '../secret.js.map', gone: '../secret', 'loop.js.map': 'loop.js.map', 'in.js.map': 'app.js.map', self: '.' };
+  const room = folderOf({ 'dist/app.js.map': MAP, 'distant.js.map': MAP, 'secret/a.js.map': MAP });
+  const links = { 'out.js.map': '../distant.js.map', gone: '../secret', 'loop.js.map': 'loop.js.map', 'in.js.map': 'app.js.map', self: '.' };
   for (const [name, target] of Object.entries(links)) fs.symlinkSync(target, join(room, 'dist', name));
   execFileSync('mkfifo', [join(room, 'dist/pipe.js.map')]);
   const resolver = new Resolver(join(room, 'dist'), H, { cache: BESIDE });
-  const climbing = ['../secret.js', '%2e%2e/secret.js', '..%2fsecret.js', 'x/../../secret.js', 'a%00.js', 'a%0a.js', 'a%ff.js', 'a\\b.js', 'out.js', 'gone/a.js'];
+  const climbing = ['../distant.js', '%2e%2e/distant.js', '..%2fdistant.js', 'x/../../distant.js', 'a%00.js', 'a%0a.js', 'a%ff.js', 'a\\b.js', 'out.js', 'gone/a.js'];
   for (const name of [...climbing, '\udcff.js', `${'a'.repeat(256)}.js`, `${'abc/'.repeat(300)}a.js`]) {
     assert.equal(placeOf(resolver, H + name), Reason.REFUSED, name);
   }
   assert.equal(placeOf(resolver, `${H}loop.js`), Reason.STORE);
   assert.equal(placeOf(resolver, `${H}pipe.js`), Reason.NOT_THERE);
   assert.deepEqual(['in.js', 'self/in.js'].map((it) => placeOf(resolver, H + it)), ['src/a.ts:1:1', 'src/a.ts:1:1']);
-  assert.deepEqual(fs.readdirSync(room).sort(), ['dist', 'secret', 'secret.js.map']);
+  assert.deepEqual(fs.readdirSync(room).sort(), ['dist', 'distant.js.map', 'secret']);
   assert.deepEqual(fs.readdirSync(join(room, 'secret')), ['a.js.map']);
   assert.throws(() => new Folder(room).get('../x'), /part '\.\.'/);
 });
@@ -199,6 +230,7 @@ test('compiled maps are made once, beside their maps', () => {
   const folder = folderOf({ 'app.js': CODE, 'app.js.map': MAP, 'sub/b.js.map': MAP });
   assert.deepEqual(placed(folder, { cache: BESIDE }), ['src/a.ts:1:1', { made: 1 }]);
   assert.ok(fs.readFileSync(join(folder, 'app.js.map.smc')).equals(compiledOf(MAP)));
+  assert.equal(fs.statSync(join(folder, 'app.js.map.smc')).mode, fs.statSync(join(folder, 'app.js.map')).mode);
   assert.deepEqual(placed(folder, { cache: BESIDE }), ['src/a.ts:1:1', { used: 1 }]);
   assert.deepEqual(placed(folder, {}), ['src/a.ts:1:1', { used: 1 }]);
   assert.deepEqual(fs.readdirSync(folder).sort(), ['app.js', 'app.js.map', 'app.js.map.smc', 'sub']);
@@ -208,6 +240,17 @@ test('compiled maps are made once, beside their maps', () => {
     assert.deepEqual([placeOf(resolver, `${H}b.js`), resolver.stats()[count]], ['src/a.ts:1:1', 1]);
   }
   assert.throws(() => new Resolver(storeOf({}), H, { cache: BESIDE }), /of a folder alone/);
+  // A map that is written while it is read is not kept.
+  class Changing extends Folder {
+    open(name) {
+      const opened = super.open(name);
+      if (opened !== null) fs.utimesSync(join(this.path, name), OLD + 1, OLD + 1);
+      return opened;
+    }
+  }
+  const changing = folderOf({ 'app.js.map': MAP });
+  assert.equal(placeOf(new Resolver(new Changing(changing), H, { cache: BESIDE }), `${H}app.js`), 'src/a.ts:1:1');
+  assert.deepEqual(fs.readdirSync(changing), ['app.js.map']);
 });
 
 test('which compiled maps are taken', () => {
@@ -231,6 +274,13 @@ test('which compiled maps are taken', () => {
     write(folder, { 'app.js.map.smc': data }, OLD + later);
     assert.deepEqual(placed(folder, options), wanted, `${later} ${JSON.stringify(options)}`);
   }
+  // (one that is told by its hash gets the time of its map, if it is the resolver's own)
+  for (const [options, time] of [[{}, OLD - 9], [{ cache: BESIDE }, OLD]]) { // prettier-ignore
+    write(folder, { 'app.js.map.smc': compiledOf(MAP) }, OLD - 9);
+    assert.deepEqual(placed(folder, options), [a, { used: 1 }]);
+    assert.equal(Math.floor(fs.statSync(join(folder, 'app.js.map.smc')).mtimeMs / 1000), time);
+  }
+  assert.equal(placed(folder, { limits: { mapBytes: MAP.length - 1 } })[0], Reason.TOO_LARGE);
   write(folder, { '../x.smc': compiledOf(OTHER, MAP) }, OLD + 9);
   fs.rmSync(join(folder, 'app.js.map.smc'));
   fs.symlinkSync('../x.smc', join(folder, 'app.js.map.smc'));
@@ -300,8 +350,8 @@ test('what is new is seen once time is over', () => {
 test('limits of a trace', () => {
   const resolver = new Resolver(storeOf({ 'app.js.map': MAP }), '', { limits: { traceBytes: 56, frames: 2 } });
   assert.equal(resolver.resolveText('f@app.js:1:1\n'.repeat(4)), 'f@src/a.ts:1:1\n'.repeat(2) + 'f@app.js:1:1\n'.repeat(2));
-  const { frames, resolved, notResolvedFrames, misses } = resolver.stats();
-  assert.deepEqual([frames, resolved, notResolvedFrames, misses], [4, 2, 2, 1]);
+  const { frames, resolved, notResolvedFrames, misses, hits } = resolver.stats();
+  assert.deepEqual([frames, resolved, notResolvedFrames, misses, hits], [4, 2, 2, 1, 0]);
   for (const trace of ['ü'.repeat(28) + 'x', Buffer.alloc(57)]) {
     const is = (error) => error instanceof TooLargeError && error.message === 'the trace has 57 bytes, and the limit is 56' && error.length === 57;
     assert.throws(() => resolver.resolveText(trace), is);
@@ -367,7 +417,7 @@ test('the lines around a frame', () => {
   assert.equal(resolver.context(resolver.resolveFrame('app.js', 2, 1)), null);
   assert.equal(resolver.context(resolver.resolveFrame('no.js', 1, 1)), null);
   assert.equal(resolver.stats().contextBytesHeld, 2 * 13 + 32 * 3);
-  store.files['app.js.map'] = OTHER;
+  store.files['app.js.map'] = JSON.stringify({ ...VALUE, sources: ['c.ts', 'b.ts'], sourcesContent: ['one\ntwo\nthree', null] });
   resolver.clear();
   assert.equal(resolver.context(frame, 1), null);
   assert.throws(() => resolver.context(frame, -1), RangeError);

@@ -6,6 +6,7 @@ from __future__ import annotations
 import gc
 import json
 import os
+import random
 import subprocess
 import sys
 import tempfile
@@ -81,6 +82,29 @@ class Frames(Case):
             if "past the end" not in row.get("why", ""):
                 self.assertEqual(found.resolve_text(row["line"]), row["wanted"], row["engine"])
 
+    def test_lines_with_other_brackets_and_words(self):
+        # (what `sourcemap resolve` makes of them)
+        rows = {
+            "loaded (app.js:1:14)": "loaded (app.js:1:14)",
+            "what (app.js:1:14)": "what (app.js:1:14)",
+            "Started at noon:30:15": "Started at noon:30:15",
+            "    at f (g( (app.js:1:14)": "    at f (g( (src/a.ts:2:3)",
+            "x at f (a (b) c (app.js:1:14)": "x at f (a (b) c (src/a.ts:2:3)",
+            "at app.js:1:14, app.js:2:1": "at src/a.ts:2:3, app.js:2:1",
+            "at f (app.js:1:14) app.js:2:1)": "at f (src/a.ts:2:3) app.js:2:1)",
+        }
+        found = Resolver({"app.js.map": MAP})
+        self.assertEqual({line: found.resolve_text(line) for line in rows}, rows)
+
+    def test_frames_lie_apart(self):
+        chosen, parts = random.Random(1), ("at ", "f", "(", ")", " ", "a.js:1:1", ":2:3", "@", "h://", "\n", "❯ ", ",", "{")
+        for _ in range(20_000):
+            text, last = "".join(chosen.choices(parts, k=12)), 0
+            for frame in frames_in(text):
+                self.assertLessEqual(last, frame.start, text)
+                self.assertEqual(text[frame.start : frame.end], f"{frame.url}:{frame.line}:{frame.column}")
+                last = frame.end
+
     def test_bytes_that_stay(self):
         found = Resolver({"app.js.map": MAP}, H)
         trace = b"\xff\xfe\r\n    at \xc3\xbc (http://h/app.js:1:14)\r\nf@http://h/app.js:2:1\r\n\0\n"
@@ -114,27 +138,28 @@ class Finding(InFolder):
         found = Resolver(self.room, {H: "", H + "v2/": "dist", "/srv/app": "dist", "C:\\app": "dist"})
         for url in ("http://h/dist/app.js", "http://H/v2//./app.js?x=1:2#y", "file:///srv/app/app.js", "/srv/app/app.js", "C:/app/app.js", H + "v2/%61pp.js"):
             self.assertEqual(found.resolve_frame(url, 2, 1).place, "src/b.ts:5:1", url)
+        self.assertEqual(Resolver({"abc/" * 300 + "a.js.map": MAP}).resolve_frame("abc/" * 300 + "a.js", 1, 1).reason, Reason.REFUSED)
         for url in ("http://g/dist/app.js", "https://h/dist/app.js", "/srv/ap/app.js", "/srv/apps/app.js", "dist/app.js", "http://h:80/dist/app.js"):
             self.assertEqual(found.resolve_frame(url, 2, 1).reason, Reason.OUTSIDE, url)
         self.assertEqual(self.reason(found.resolve_frame(H + "v2/b.js", 1, 1)), "not there: there is no dist/b.js, and no dist/b.js.map")
 
     def test_what_leads_out_is_refused(self):
-        write(self.room, {"secret.js.map": MAP, "secret/a.js.map": MAP})
-        links = {"out.js.map": "../secret.js.map", "gone": "../secret", "loop.js.map": "loop.js.map", "in.js.map": "app.js.map", "self": "."}
+        write(self.room, {"distant.js.map": MAP, "secret/a.js.map": MAP})
+        links = {"out.js.map": "../distant.js.map", "gone": "../secret", "loop.js.map": "loop.js.map", "in.js.map": "app.js.map", "self": "."}
         for name, target in links.items():
             os.symlink(target, self.folder / name)
         os.mkfifo(self.folder / "pipe.js.map")
         found = Resolver(self.folder, H, cache=BESIDE)
-        climbing = ("../secret.js", "%2e%2e/secret.js", "..%2fsecret.js", "x/../../secret.js", "a%00.js", "a%0a.js", "a%ff.js", "a\\b.js", "out.js", "gone/a.js")
+        climbing = ("../distant.js", "%2e%2e/distant.js", "..%2fdistant.js", "x/../../distant.js", "a%00.js", "a%0a.js", "a%ff.js", "a\\b.js", "out.js", "gone/a.js")
         for name in (*climbing, "\udcff.js", "a" * 256 + ".js", "abc/" * 300 + "a.js"):
             self.assertEqual(found.resolve_frame(H + name, 1, 1).reason, Reason.REFUSED, name)
         self.assertEqual(found.resolve_frame(H + "loop.js", 1, 1).reason, Reason.STORE)
         self.assertEqual(found.resolve_frame(H + "pipe.js", 1, 1).reason, Reason.NOT_THERE)
         self.assertEqual([found.resolve_frame(H + it, 1, 1).place for it in ("in.js", "self/in.js")], ["src/a.ts:1:1"] * 2)
-        self.assertEqual(sorted(os.listdir(self.room)), ["dist", "secret", "secret.js.map"])
+        self.assertEqual(sorted(os.listdir(self.room)), ["dist", "distant.js.map", "secret"])
         self.assertEqual(os.listdir(self.room / "secret"), ["a.js.map"])
         with self.assertRaisesRegex(ValueError, "part '..'"):
-            Folder(self.folder).get("../secret.js.map")
+            Folder(self.folder).get("../distant.js.map")
 
     def test_comments(self):
         inner = {"a/c.js": b"//# sourceMappingURL=", "maps/c.map": MAP, "a/c.js.map": OTHER}
@@ -205,9 +230,7 @@ class Compiled(InFolder):
         self.assertEqual(self.place(cache=BESIDE), ("src/a.ts:1:1", {"made": 1}))
         path = self.folder / "app.js.map.smc"
         self.assertEqual(path.read_bytes(), self.compiled(MAP))
-        os.chmod(self.folder / "app.js.map", 0)
-        self.assertEqual(path.stat().st_mode, 0o100644 & path.stat().st_mode)
-        os.chmod(self.folder / "app.js.map", 0o644)
+        self.assertEqual(path.stat().st_mode, (self.folder / "app.js.map").stat().st_mode)
         self.assertEqual(self.place(cache=BESIDE), ("src/a.ts:1:1", {"used": 1}))
         self.assertEqual(self.place(), ("src/a.ts:1:1", {"used": 1}))
         self.assertEqual(sorted(os.listdir(self.folder)), ["app.js", "app.js.map", "app.js.map.smc"])
@@ -232,6 +255,18 @@ class Compiled(InFolder):
             write(self.folder, {"app.js.map.smc": data}, OLD + later)
             self.assertEqual(self.place(**named), wanted, (later, named))
 
+    def test_one_that_is_told_by_its_hash_gets_the_time_of_its_map(self):
+        path = self.folder / "app.js.map.smc"
+        for named, time in (({}, OLD - 9), ({"cache": BESIDE}, OLD)):
+            write(self.folder, {"app.js.map.smc": self.compiled(MAP)}, OLD - 9)
+            self.assertEqual(self.place(**named), ("src/a.ts:1:1", {"used": 1}))
+            self.assertEqual(path.stat().st_mtime, time)
+
+    def test_a_map_that_is_too_large_is_not_taken_as_compiled(self):
+        self.place(cache=BESIDE)
+        self.assertIsNone(self.place(limits=Limits(map_bytes=len(MAP) - 1))[0])
+        self.assertEqual(self.place(limits=Limits(map_bytes=len(MAP)))[0], "src/a.ts:1:1")
+
     def test_cache_folder(self):
         cache = self.room / "cache"
         self.assertEqual(self.place(cache=cache), ("src/a.ts:1:1", {"made": 1}))
@@ -254,6 +289,17 @@ class Compiled(InFolder):
         self.place(cache=BESIDE)
         write(self.folder, {"app.js.map": OTHER}, now)
         self.assertEqual(self.place(cache=BESIDE)[0], "src/c.ts:1:1")
+
+    def test_a_map_that_is_written_while_it_is_read_is_not_kept(self):
+        class Changing(Folder):
+            def open(self, name: str) -> object:
+                opened = super().open(name)
+                os.utime(os.path.join(self.path, name), (OLD + 1, OLD + 1))
+                return opened
+
+        found = Resolver(Changing(self.folder), H, cache=BESIDE, beside_first=True)
+        self.assertEqual(found.resolve_frame(H + "app.js", 1, 1).place, "src/a.ts:1:1")
+        self.assertEqual(sorted(os.listdir(self.folder)), ["app.js", "app.js.map"])
 
     def test_folders_that_take_no_files(self):
         if os.geteuid() == 0:
@@ -332,9 +378,9 @@ class Tables(Case):
 
     def test_what_is_missing_is_held_and_bounded(self):
         table = self.table()
-        found = [self.get(table, key, f"no {key}") for key in "ababcbca"]
-        self.assertEqual((found, "".join(self.loaded)), ([f"no {it}" for it in "ababcbca"], "abca"))
-        self.assertEqual((table.counts()["missing_hits"], table.counts()["missing_held"]), (4, 2))
+        found = [self.get(table, key, f"no {key}") for key in "abacab"]
+        self.assertEqual((found, "".join(self.loaded)), ([f"no {it}" for it in "abacab"], "abcb"))
+        self.assertEqual((table.counts()["missing_hits"], table.counts()["missing_held"]), (2, 2))
         self.assertEqual([self.get(table, "f", "fault"), self.get(table, "f", 1).size], ["fault", 1])
 
     def test_what_is_held_expires(self):
@@ -516,7 +562,29 @@ class Bounded(InFolder):
 
         self.together(*[run] * 6)
         self.assertEqual(sorted(store.asked), sorted(f"{it}.map" for it in names))
-        self.assertEqual((found.stats()["frames"], found.stats()["resolved"]), (4800, 4800))
+        stats = found.stats()
+        self.assertEqual((stats["frames"], stats["resolved"], stats["traces"]), (4800, 4800, 300))
+        # (each trace asks once for each code)
+        self.assertEqual((stats["hits"] + stats["misses"] + stats["waits"], stats["misses"]), (2400, 8))
+
+    def test_time_of_what_another_thread_reads(self):
+        inside, go = threading.Event(), threading.Event()
+
+        class Blocked(dict):
+            def get(self, name: str) -> bytes | None:
+                inside.set()
+                go.wait(60)
+                return super().get(name)
+
+        found = Resolver(Blocked({"app.js.map": MAP}), limits=Limits(seconds=0.2), beside_first=True)
+
+        def other() -> None:
+            self.assertTrue(inside.wait(30))
+            self.assertEqual(found.resolve_frame("app.js", 1, 1).reason, Reason.TIME)
+            go.set()
+
+        self.together(lambda: found.resolve_frame("app.js", 1, 1), other, seconds=30)
+        self.assertEqual(found.resolve_frame("app.js", 1, 1).place, "src/a.ts:1:1")
 
 
 class Contexts(Case):
@@ -541,7 +609,7 @@ class Contexts(Case):
         self.assertIsNone(found.context(frame._replace(line=3)))
         self.assertEqual(found.stats()["context_bytes_held"], 4 * 13 + 16 * 3)
         # Another map in its place.
-        store["app.js.map"] = OTHER
+        store["app.js.map"] = json.dumps({**value, "sources": ["c.ts", "b.ts"]}).encode()
         found.clear()
         self.assertIsNone(found.context(frame, 1))
         with self.assertRaisesRegex(ValueError, "below 0"):

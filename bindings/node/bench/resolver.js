@@ -56,8 +56,11 @@ function traceOf(names, tokens, next, count = 30) {
   return `Error: x\n${frames.join('')}`;
 }
 
+/** A map that was written a while ago: of one that is newer than two seconds the hash is compared. */
 function write(name, value) {
-  fs.writeFileSync(join(room, `${name}.map`), JSON.stringify(value));
+  const path = join(room, `${name}.map`);
+  fs.writeFileSync(path, JSON.stringify(value));
+  fs.utimesSync(path, 1e9, 1e9);
 }
 
 function frames(next) {

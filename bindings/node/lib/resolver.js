@@ -246,22 +246,24 @@ class Resolver {
     return found;
   }
 
-  /** What a frame comes to. What is known of the codes of its trace is asked once. */
-  *#frame(frame, debugId, end, known) {
-    if (this.#clock() > end) return new Resolved(frame, Reason.TIME);
-    let found = known.get(frame.url);
-    if (found === undefined) {
-      found = yield* this.#known(frame.url, debugId, end);
-      if (known.size >= MOST_KNOWN) known.clear();
-      known.set(frame.url, found);
-    }
+  /** What is found for a code whose map is not known to its trace yet. */
+  *#toKnow(url, debugId, end, known) {
+    const found = yield* this.#known(url, debugId, end);
+    if (known.size >= MOST_KNOWN) known.clear();
+    known.set(url, found);
+    return found;
+  }
+
+  /** What a frame comes to, by what was found for its code. */
+  #resolved(frame, found, debugId) {
     if (found.held === undefined) return new Resolved(frame, found.reason, found.detail);
-    return this.#lookedUp(frame, found.held, debugId ?? null);
+    return this.#lookedUp(frame, found.held, debugId);
   }
 
   *#one(url, line, column, debugId) {
     const frame = { url: String(url), line, column, start: 0, end: 0 };
-    const found = yield* this.#frame(frame, debugId, this.#clock() + this.limits.seconds, new Map());
+    const end = this.#clock() + this.limits.seconds;
+    const found = this.#resolved(frame, yield* this.#toKnow(frame.url, debugId, end, new Map()), debugId);
     this.#count([found]);
     return found;
   }
@@ -291,9 +293,14 @@ class Resolver {
     const known = new Map();
     const found = [];
     for (const frame of framesIn(trace)) {
-      const isWithin = found.length < this.limits.frames;
+      if (found.length >= this.limits.frames || this.#clock() > end) {
+        found.push(new Resolved(frame, found.length >= this.limits.frames ? Reason.FRAMES : Reason.TIME));
+        continue;
+      }
       const debugId = Object.hasOwn(debugIds, frame.url) ? debugIds[frame.url] : null;
-      found.push(isWithin ? yield* this.#frame(frame, debugId, end, known) : new Resolved(frame, Reason.FRAMES));
+      // (what is known of the codes of a trace is asked once)
+      const it = known.get(frame.url) ?? (yield* this.#toKnow(frame.url, debugId, end, known));
+      found.push(this.#resolved(frame, it, debugId));
     }
     this.#counts.add('traces');
     this.#count(found);

@@ -79,12 +79,14 @@ test('lines with other brackets and words', () => {
     'what (app.js:1:14)': 'what (app.js:1:14)',
     'Started at noon:30:15': 'Started at noon:30:15',
     '    at f (g( (app.js:1:14)': '    at f (g( (src/a.ts:2:3)',
+    '    at f (g( ((group)/app.js:1:14)': '    at f (g( (src/a.ts:2:3)',
     'x at f (a (b) c (app.js:1:14)': 'x at f (a (b) c (src/a.ts:2:3)',
     'at app.js:1:14, app.js:2:1': 'at src/a.ts:2:3, app.js:2:1',
     'at f (app.js:1:14) app.js:2:1)': 'at f (src/a.ts:2:3) app.js:2:1)',
   };
-  const resolver = new Resolver(storeOf({ 'app.js.map': MAP }));
+  const resolver = new Resolver(storeOf({ 'app.js.map': MAP, '(group)/app.js.map': MAP }));
   assert.deepEqual(Object.fromEntries(Object.keys(rows).map((it) => [it, resolver.resolveText(it)])), rows);
+  assert.deepEqual([...framesIn('loaded (app.js:1:14)'), ...framesIn('Started at noon:30:15')], []);
   assert.equal(placeOf(new Resolver(storeOf({ [`${'abc/'.repeat(300)}a.js.map`]: MAP })), `${'abc/'.repeat(300)}a.js`), Reason.REFUSED);
 });
 
@@ -258,7 +260,7 @@ test('which compiled maps are taken', () => {
   const always = { alwaysHashes: true };
   const rows = [
     // (of a map of this text, written so many seconds after the map: taken by its time, or its hash)
-    [compiledOf(OTHER, MAP), 0, {}, c, { used: 1 }],
+    [compiledOf(OTHER), 0, {}, c, { used: 1 }],
     [compiledOf(OTHER, MAP), 9, {}, c, { used: 1 }],
     [compiledOf(OTHER, MAP), -9, {}, c, { used: 1 }],
     [compiledOf(OTHER), 9, {}, c, { used: 1 }],
@@ -332,6 +334,10 @@ test('what is held is bounded, and what was asked for longest ago goes first', (
   const small = new Resolver(store, '', { limits: { heldBytes: 2 * (4096 + compiledOf(MAP).length) }, besideFirst: true });
   for (const it of names) placeOf(small, it);
   assert.deepEqual([small.stats().held, small.stats().evictions], [2, 4]);
+  // One that is larger than all that may be held takes no other one's place.
+  store.files['large.js.map'] = JSON.stringify({ ...VALUE, sourcesContent: ['x'.repeat(9000)] });
+  assert.equal(placeOf(small, 'large.js'), 'src/a.ts:1:1');
+  assert.deepEqual([small.stats().held, small.stats().evictions], [2, 5]);
 });
 
 test('what is new is seen once time is over', () => {
@@ -345,6 +351,7 @@ test('what is new is seen once time is over', () => {
   assert.deepEqual(places(), ['src/a.ts:1:1', Reason.NOT_THERE]);
   now = 5;
   assert.deepEqual([places(), resolver.stats().expired], [['src/c.ts:1:1', 'src/a.ts:1:1'], 2]);
+  assert.equal(resolver.stats().bytesHeld, 4096 + compiledOf(OTHER).length + 4096 + compiledOf(MAP).length);
 });
 
 test('limits of a trace', () => {

@@ -89,12 +89,14 @@ class Frames(Case):
             "what (app.js:1:14)": "what (app.js:1:14)",
             "Started at noon:30:15": "Started at noon:30:15",
             "    at f (g( (app.js:1:14)": "    at f (g( (src/a.ts:2:3)",
+            "    at f (g( ((group)/app.js:1:14)": "    at f (g( (src/a.ts:2:3)",
             "x at f (a (b) c (app.js:1:14)": "x at f (a (b) c (src/a.ts:2:3)",
             "at app.js:1:14, app.js:2:1": "at src/a.ts:2:3, app.js:2:1",
             "at f (app.js:1:14) app.js:2:1)": "at f (src/a.ts:2:3) app.js:2:1)",
         }
-        found = Resolver({"app.js.map": MAP})
+        found = Resolver({"app.js.map": MAP, "(group)/app.js.map": MAP})
         self.assertEqual({line: found.resolve_text(line) for line in rows}, rows)
+        self.assertEqual([*frames_in("loaded (app.js:1:14)"), *frames_in("Started at noon:30:15")], [])
 
     def test_frames_lie_apart(self):
         chosen, parts = random.Random(1), ("at ", "f", "(", ")", " ", "a.js:1:1", ":2:3", "@", "h://", "\n", "❯ ", ",", "{")
@@ -240,7 +242,7 @@ class Compiled(InFolder):
         longer = MAP + b" "
         rows = [
             # (of a map of this text, written so many seconds after the map: taken by its time, or its hash)
-            (self.compiled(OTHER, MAP), 0, {}, (c, {"used": 1})),
+            (self.compiled(OTHER), 0, {}, (c, {"used": 1})),
             (self.compiled(OTHER, MAP), 9, {}, (c, {"used": 1})),
             (self.compiled(OTHER, MAP), -9, {}, (c, {"used": 1})),
             (self.compiled(OTHER), 9, {}, (c, {"used": 1})),

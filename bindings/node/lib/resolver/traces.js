@@ -11,7 +11,7 @@ const AT = /(?<![^\s(])at /;
 const BRACKET = /[()]/g;
 const PLACE = /(?:[a-zA-Z][a-zA-Z0-9+.-]+:\/\/|\/|[a-zA-Z]:[\\/])/y;
 const ADDRESS = 'address at ';
-const ELSEWHERE = ['<', '[', 'node:', 'internal/', 'eval at '];
+const ELSEWHERE = /^(?:[<[]|node:|internal\/|eval at )/;
 
 /** Where a pattern that begins there ends. */
 function passed(pattern, text, at) {
@@ -37,12 +37,16 @@ function openingIn(text) {
   return opened.length > 0 ? opened.at(-1) : -1;
 }
 
+const LETTER = /\p{L}/u;
+const SLASH = /[./\\]/;
+const BEHIND = /[\s,;]/;
+
 /** Whether a name in a frame is that of a file: engines put others in brackets, and a number is that of a clock. */
 const namesFile = (url) =>
-  !ELSEWHERE.some((it) => url.startsWith(it)) && !url.includes(' > ') && /\p{L}/u.test(url) && !url.includes('\0');
+  !ELSEWHERE.test(url) && !url.includes(' > ') && LETTER.test(url) && !url.includes('\0');
 
 /** Whether a name behind other words is that of a file. */
-const isPath = (url) => url.startsWith('/') || url[1] === ':' || url.includes('://') || (!url.includes(' ') && /[./\\]/.test(url));
+const isPath = (url) => url.startsWith('/') || url[1] === ':' || url.includes('://') || (!url.includes(' ') && SLASH.test(url));
 
 /** A line of a text, and where what is still to be read of it begins. */
 class Line {
@@ -107,7 +111,7 @@ class Line {
     let [start, isBytecode, isFramed] = [-1, false, true];
     if (text[end] === ')') {
       [start, isBytecode] = this.inBrackets(at);
-    } else if (end < text.length && !/[\s,;]/.test(text[end])) {
+    } else if (end < text.length && !BEHIND.test(text[end])) {
       return null;
     } else {
       start = this.behindAt(at);

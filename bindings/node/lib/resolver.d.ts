@@ -15,7 +15,8 @@ export const BESIDE: unique symbol;
 
 /**
  * What has codes and maps: a folder (`Folder`), or any object with this method. A name has slashes between its parts, none of which is
- * empty, `.` or `..`. If it answers by a promise, only the calls whose names end in `Async` can be used.
+ * empty, `.` or `..`. If it answers by a promise, only the calls whose names end in `Async` can be used. What it throws leaves frames
+ * unchanged, with Reason.STORE; an answer that is not there after the limit of seconds is asked for again by a later trace.
  *
  * @example
  * const store = { get: async (name) => new Uint8Array(await (await fetch(`http://maps.internal/${name}`)).arrayBuffer()) };

@@ -180,8 +180,8 @@ class Resolver {
     const how = { cache: typeof cache === 'string' ? cache : null, writesBeside: cache === BESIDE, alwaysHashes };
     const compiler = new Compiler(found, how, this.#counts);
     this.#finder = new Finder(found, this.#bases, compiler, this.limits, { besideFirst, debugIdName });
-    const { heldBytes, heldMaps, heldMissing, heldSeconds, heldContextBytes } = this.limits;
-    this.#maps = new Table({ size: heldBytes, entries: heldMaps, missing: heldMissing, seconds: heldSeconds }, clock);
+    const { heldBytes, heldMaps, heldMissing, heldSeconds, heldContextBytes, seconds } = this.limits;
+    this.#maps = new Table({ size: heldBytes, entries: heldMaps, missing: heldMissing, seconds: heldSeconds, patience: seconds }, clock);
     this.#contents = new Table({ size: heldContextBytes, entries: 4096, missing: 0, seconds: 1e9 }, clock);
   }
 

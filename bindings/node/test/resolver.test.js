@@ -92,9 +92,9 @@ test('lines with other brackets and words', () => {
 
 test('frames lie apart', () => {
   const next = random(1);
-  const parts = ['at ', 'f', '(', ')', ' ', 'a.js:1:1', ':2:3', '@', 'h://', '\n', '❯ ', ',', '{'];
-  for (let k = 0; k < 20_000; k++) {
-    const text = Array.from({ length: 12 }, () => parts[next(parts.length)]).join('');
+  const parts = ['at ', '(', ')', ' ', 'a.js:1:1', 'f', ':2:3', '@', 'h://', '\n', '❯ ', ',', '{'];
+  for (let k = 0; k < 40_000; k++) {
+    const text = Array.from({ length: 10 }, () => parts[next(k % 2 === 0 ? 5 : parts.length)]).join('');
     let last = 0;
     for (const { url, line, column, start, end } of framesIn(text)) {
       assert.ok(last <= start, text);
@@ -403,6 +403,14 @@ test('stores that answer by promises: traces at once read a map once, and wait n
     }
     assert.ok(whyNot(await found).startsWith(wanted));
   }
+  // One that never answers is asked again by a later trace.
+  assert.equal((await resolver.resolveFrameAsync('d.js', 1, 1)).reason, Reason.TIME);
+  store.files['d.js.map'] = MAP;
+  await new Promise((resolve) => setTimeout(resolve, 20));
+  const again = resolver.resolveFrameAsync('d.js', 1, 1);
+  await new Promise(setImmediate);
+  answers.at(-1).resolve();
+  assert.equal((await again).place, 'src/a.ts:1:1');
   const context = await resolver.contextAsync(await resolver.resolveFrameAsync('app.js', 1, 14));
   assert.equal(context, null);
 });

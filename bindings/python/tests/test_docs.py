@@ -11,7 +11,7 @@ import oxc_sourcemap
 from oxc_sourcemap import CompiledMap, SourceMap, SourceMapBuilder, SourceMapJoin
 
 MODULES = ("", "._compiled", "._contents", "._contexts", "._errors", "._finding", "._handle", "._lookups", "._making", "._map", "._stores")
-MODULES += ("._texts", "._traces", "._values", ".resolver")
+MODULES += ("._texts", "._traces", "._values", ".distributed", ".resolver")
 
 
 def load_tests(loader: unittest.TestLoader, tests: unittest.TestSuite, pattern: object) -> unittest.TestSuite:

@@ -17,7 +17,7 @@ class MisuseError extends TypeError {}
 
 /** What generators return, by their keys, and Missing that they throw. What was not asked for longest goes first. */
 class Table {
-  #bounds; // size, entries, missing and seconds
+  #bounds; // size, entries, missing, seconds, and for how many seconds one is loaded (patience)
   #clock;
   #held = new Map();
   #missing = new Map();
@@ -43,15 +43,18 @@ class Table {
     const found = this.#found(key);
     if (found !== undefined) return found;
     let loading = this.#loading.get(key);
-    this.#counts[loading === undefined ? 'misses' : 'waits']++;
-    if (loading === undefined) {
-      loading = this.#load(key, load);
+    // (one that took longer than a trace may never answer)
+    const isNew = loading === undefined || this.#clock() > loading.until;
+    this.#counts[isNew ? 'misses' : 'waits']++;
+    if (isNew) {
+      loading = { until: this.#clock() + this.#bounds.patience, promise: null };
       this.#loading.set(key, loading);
+      loading.promise = this.#load(key, load, loading);
     }
-    return within(loading, seconds);
+    return within(loading.promise, seconds);
   }
 
-  async #load(key, load) {
+  async #load(key, load, own) {
     try {
       const value = await runAsync(load());
       return this.#kept(key, () => value);
@@ -60,7 +63,7 @@ class Table {
         throw error;
       });
     } finally {
-      this.#loading.delete(key);
+      if (this.#loading.get(key) === own) this.#loading.delete(key);
     }
   }
 

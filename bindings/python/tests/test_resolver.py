@@ -14,10 +14,12 @@ import threading
 import time
 import unittest
 from pathlib import Path
+from unittest import mock
 
 from support import TOP, Case
 
 from oxc_sourcemap import CompiledMap, SourceMap, resolver
+from oxc_sourcemap._stores import replace_file
 from oxc_sourcemap._tables import Bounds, MissingError, Table
 from oxc_sourcemap.resolver import BESIDE, Folder, Frame, Limits, Reason, Resolved, Resolver, TooLargeError, frames_in
 
@@ -303,6 +305,26 @@ class Compiled(InFolder):
         self.assertEqual(found.resolve_frame(H + "app.js", 1, 1).place, "src/a.ts:1:1")
         self.assertEqual(sorted(os.listdir(self.folder)), ["app.js", "app.js.map"])
 
+    def test_one_that_another_process_replaces_meanwhile(self):
+        path, opens = self.folder / "app.js.map.smc", CompiledMap.open_file
+        write(self.folder, {"app.js.map.smc": self.compiled(OTHER)}, OLD - 9)
+
+        def replaced(at: str) -> CompiledMap:
+            map = opens(at)
+            replace_file(str(path), self.compiled(OTHER, MAP), 0o644, OLD * 10**9)
+            return map
+
+        with mock.patch.object(CompiledMap, "open_file", replaced):
+            self.assertEqual(self.place(), ("src/a.ts:1:1", {"stale": 1, "made": 1}))
+
+        def put(at: str) -> CompiledMap:
+            replace_file(str(path), self.compiled(OTHER), 0o644, OLD * 10**9)
+            return opens(at)
+
+        path.unlink()
+        with mock.patch.object(CompiledMap, "open_file", put):
+            self.assertEqual(self.place(cache=BESIDE), ("src/a.ts:1:1", {"made": 1}))
+
     def test_folders_that_take_no_files(self):
         if os.geteuid() == 0:
             (self.room / "cache").mkdir()
@@ -582,7 +604,9 @@ class Bounded(InFolder):
 
         def other() -> None:
             self.assertTrue(inside.wait(30))
+            start = time.monotonic()
             self.assertEqual(found.resolve_frame("app.js", 1, 1).reason, Reason.TIME)
+            self.assertLess(time.monotonic() - start, 10)
             go.set()
 
         self.together(lambda: found.resolve_frame("app.js", 1, 1), other, seconds=30)

@@ -67,6 +67,9 @@ class Held:
         return found
 
 
+_Opened = tuple[Held, os.stat_result]
+
+
 class MapText:
     """The text of a map that a store has: its name, what the system says of its file (None if it is not one, or changes), and its bytes,
     which are read when they are first asked for."""
@@ -106,11 +109,11 @@ class Compiler:
     def fresh(self, text: MapText) -> Optional[Held]:
         """The compiled map of a map, if one was made of it: by its length and the time of its file, or by its bytes and their SHA-256."""
         for path, is_own, is_exact in self._candidates(text.name):
-            held = self._opened(path, text.name)
-            if held and self._is_fresh(held.map, path, (is_own, is_exact), text):
+            opened = self._opened(path, text.name)
+            if opened and self._is_fresh(opened, path, (is_own, is_exact), text):
                 self._counts.add("compiled_used")
-                return held
-            if held:
+                return opened[0]
+            if opened:
                 self._counts.add("compiled_stale")
         return None
 
@@ -122,24 +125,25 @@ class Compiler:
         if beside := self._beside_path(name):
             yield beside, self._writes_beside, False
 
-    def _opened(self, path: str, name: str) -> Optional[Held]:
+    def _opened(self, path: str, name: str) -> Optional[_Opened]:
+        """A compiled map, and what the system said of its file before: of one that is put in its place meanwhile the time is not told."""
         try:
-            return Held(name, CompiledMap.open_file(path), os.stat(path).st_size)
+            status = os.stat(path)
+            return Held(name, CompiledMap.open_file(path), status.st_size), status
         except FileNotFoundError:
             return None
         except (OSError, SourceMapError):
             self._counts.add("compiled_damaged")
             return None
 
-    def _is_fresh(self, map: CompiledMap, path: str, kind: tuple[bool, bool], text: MapText) -> bool:
-        is_own, is_exact = kind
-        status = text.status
-        if status is not None and map.text_length != status.st_size:
+    def _is_fresh(self, opened: _Opened, path: str, kind: tuple[bool, bool], text: MapText) -> bool:
+        (held, own), (is_own, is_exact), status = opened, kind, text.status
+        if status is not None and held.map.text_length != status.st_size:
             return False
-        if status is not None and not self._always_hashes and self._is_by_time(os.stat(path), status, is_exact):
+        if status is not None and not self._always_hashes and self._is_by_time(own, status, is_exact):
             return True
         data = text.data
-        is_of_text = map.text_length == len(data) and map.stamp == hashlib.sha256(data).digest()
+        is_of_text = held.map.text_length == len(data) and held.map.stamp == hashlib.sha256(data).digest()
         if is_of_text and is_own and status is not None:
             self._touch(path, status)
         return is_of_text
@@ -162,16 +166,20 @@ class Compiler:
     def made(self, text: MapText) -> Held:
         """Compiles a map. Raises MissingError if its bytes are no map."""
         name, data = text.name, text.data
+        stamp = hashlib.sha256(data).digest()
         try:
             with SourceMap.read_found(data).map as map:
-                compiled = map.compile(len(data), hashlib.sha256(data).digest())
+                compiled = map.compile(len(data), stamp)
         except SourceMapError as error:
             place = f", at {error.place.message}" if error.place else ""
             raise MissingError("bad map", f"{name}: {error}{place}") from None
         self._counts.add("compiled_made")
         path = self._written(name, compiled, text.status)
-        held = self._opened(path, name) if path else None
-        return held or Held(name, CompiledMap(compiled), len(compiled))
+        opened = self._opened(path, name) if path else None
+        # (another process may have put another one there)
+        if opened and opened[0].map.stamp == stamp:
+            return opened[0]
+        return Held(name, CompiledMap(compiled), len(compiled))
 
     def _written(self, name: str, compiled: bytes, status: Optional[os.stat_result]) -> Optional[str]:
         """The file that a compiled map was written to; None if it is kept in memory."""

@@ -438,6 +438,14 @@ test('the lines around a frame', () => {
   assert.throws(() => resolver.context(frame, -1), RangeError);
 });
 
+const document = join(REPOSITORY, 'docs/resolving-at-scale.md');
+test('the example of the document', { skip: !fs.existsSync(document) && 'the repository is not here' }, () => {
+  const room = folderOf({ 'dist/app.js.map': MAP, 'example.js': fs.readFileSync(document, 'utf8').split('```js\n')[1].split('```')[0] });
+  fs.mkdirSync(join(room, 'node_modules'));
+  fs.symlinkSync(join(__dirname, '..'), join(room, 'node_modules/junketscarp'));
+  assert.equal(execFileSync(process.execPath, ['example.js'], { cwd: room, encoding: 'utf8' }), '    at t (src/a.ts:2:3)\n');
+});
+
 test('each call is described', () => {
   const types = fs.readFileSync(join(__dirname, '../lib/resolver.d.ts'), 'utf8');
   const module = require('../lib/resolver.js');

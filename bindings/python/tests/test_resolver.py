@@ -642,7 +642,14 @@ class Contexts(Case):
             found.context(frame, -1)
 
 
-class Described(Case):
+class Described(InFolder):
+    def test_the_example_of_the_document(self):
+        text = (TOP / "docs/resolving-at-scale.md").read_text(encoding="utf-8")
+        code = text.split("```python\n")[1].split("```")[0]
+        env = {**os.environ, "PYTHONPATH": str(Path(resolver.__file__).parents[1])}
+        said = subprocess.run([sys.executable, "-c", code], cwd=self.room, env=env, stdout=subprocess.PIPE, text=True, check=True).stdout
+        self.assertEqual(said, "    at t (src/a.ts:2:3)\nsrc/a.ts 1 2 run None\n")
+
     def test_all_is_described(self):
         for name in resolver.__all__:
             value = getattr(resolver, name)

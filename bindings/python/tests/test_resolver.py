@@ -419,6 +419,20 @@ class Tables(Case):
         table.clear()
         self.assertEqual((self.loads(table, "a"), table.counts()["bytes_held"]), ("a", 40))
 
+    def test_what_is_let_go_is_freed_outside_of_the_lock(self):
+        table, is_locked = self.table(), []
+
+        class Watched(Block):
+            def __del__(self) -> None:
+                is_locked.append(table._lock.locked())
+
+        for key in "abcd":
+            table.get(key, lambda: Watched(40), 1)
+        self.now = 60.0
+        table.get("d", lambda: Watched(40), 1)
+        table.clear()
+        self.assertEqual(is_locked, [False] * 5)
+
     def test_threads_that_ask_for_one_load_it_once(self):
         table, inside, go = self.table(), threading.Event(), threading.Event()
         found: list[object] = []

@@ -55,8 +55,10 @@ class Table(Generic[V]):
 
     def get(self, key: Hashable, load: Callable[[], V], seconds: float) -> V:
         """The value of a key. Raises what `load` raises, and TimeoutError if another thread loads it for longer than these seconds."""
+        # (what is let go is freed once the lock is not held any more)
+        gone: list[V] = []
         with self._lock:
-            if (found := self._found(key)) is not None:
+            if (found := self._found(key, gone)) is not None:
                 return found
             other = self._loading.get(key)
             if other is None:
@@ -64,14 +66,14 @@ class Table(Generic[V]):
             self._counts["misses" if other is None else "waits"] += 1
         return self._load(key, load, own) if other is None else self._awaited(other, seconds)
 
-    def _found(self, key: Hashable) -> V | None:
+    def _found(self, key: Hashable, gone: list[V]) -> V | None:
         """What is held for a key, put behind all others. The lock is held."""
         if held := self._held.get(key):
             if self._clock() < held[1]:
                 self._held.move_to_end(key)
                 self._counts["hits"] += 1
                 return held[0]
-            self._drop(key)
+            gone.append(self._drop(key))
             self._counts["expired"] += 1
         if missing := self._missing.get(key):
             if self._clock() < missing[1]:
@@ -102,23 +104,26 @@ class Table(Generic[V]):
             # (another error than this one, which by its traceback would hold the future that holds it)
             own.set_exception(_copied(error) if isinstance(error, MissingError) else MissingError("store", f"{type(error).__name__}: {error}"))
             raise
+        gone: list[V] = []
         with self._lock:
             del self._loading[key]
-            self._put(key, value)
+            self._put(key, value, gone)
         own.set_result(value)
         return value
 
-    def _drop(self, key: Hashable) -> None:
-        self._size -= self._held.pop(key)[0].size
+    def _drop(self, key: Hashable) -> V:
+        value, _ = self._held.pop(key)
+        self._size -= value.size
+        return value
 
-    def _put(self, key: Hashable, value: V) -> None:
+    def _put(self, key: Hashable, value: V, gone: list[V]) -> None:
         if value.size > self._bounds.size:
             self._counts["evictions"] += 1
             return
         self._held[key] = value, self._clock() + self._bounds.seconds
         self._size += value.size
         while self._size > self._bounds.size or len(self._held) > self._bounds.entries:
-            self._drop(next(iter(self._held)))
+            gone.append(self._drop(next(iter(self._held))))
             self._counts["evictions"] += 1
 
     def _put_missing(self, key: Hashable, error: MissingError) -> None:
@@ -129,9 +134,9 @@ class Table(Generic[V]):
     def clear(self) -> None:
         """Lets go of all that is held."""
         with self._lock:
-            self._held.clear()
+            gone, self._held, self._size = self._held, OrderedDict(), 0
             self._missing.clear()
-            self._size = 0
+        gone.clear()
 
     def counts(self) -> dict[str, int]:
         """The counts so far, and what is held."""

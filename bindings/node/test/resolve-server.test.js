@@ -24,7 +24,7 @@ test.before(async () => {
   fs.mkdirSync(join(room, 'node_modules'));
   fs.symlinkSync(join(__dirname, '..'), join(room, 'node_modules/junketscarp'));
   fs.copyFileSync(join(__dirname, '../examples/resolve-server.js'), join(room, 'server.js'));
-  const env = { ...process.env, SECONDS: '2' };
+  const env = { ...process.env, SECONDS: '4' };
   server = spawn(process.execPath, ['server.js', 'maps', 'http://h/'], { cwd: room, env, stdio: ['ignore', 'pipe', 'inherit'] });
   const [said] = await once(server.stdout, 'data');
   Object.assign(url, { text: String(said).trim(), port: Number(/:(\d+)\//.exec(said)[1]) });

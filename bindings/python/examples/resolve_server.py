@@ -5,8 +5,8 @@
 FOLDER has codes and maps, which traces name below the URL BASE. `POST /` of a trace answers with the trace resolved, as `POST /frames`
 with its frames as JSON, and `GET /stats` with counts, as Prometheus scrapes them. It listens on 127.0.0.1, and prints the URL.
 
-A client has SECONDS for all of its request. A trace without a length is answered by 411, one that is too long by 413, and a client above
-CLIENTS at once by 503.
+A client has SECONDS for all of its request, and as many to read the answer. A trace without a length is answered by 411, one that is too
+long by 413, and a client above CLIENTS at once by 503.
 """
 
 from __future__ import annotations
@@ -42,9 +42,14 @@ class Handler(BaseHTTPRequestHandler):
 
     def setup(self) -> None:
         super().setup()
-        self.watch = Timer(self.server.seconds, self.hang_up)
-        self.watch.daemon = True
-        self.watch.start()
+        self.watch = self.watched()
+
+    def watched(self) -> Timer:
+        """What hangs up on a client that takes too long."""
+        timer = Timer(self.server.seconds, self.hang_up)
+        timer.daemon = True
+        timer.start()
+        return timer
 
     def hang_up(self) -> None:
         with suppress(OSError):
@@ -56,6 +61,8 @@ class Handler(BaseHTTPRequestHandler):
             super().finish()
 
     def say(self, status: int, body: bytes = b"", kind: str = "text/plain; charset=utf-8") -> None:
+        self.watch.cancel()
+        self.watch = self.watched()
         self.send_response(status)
         self.send_header("Content-Type", kind)
         self.send_header("Content-Length", str(len(body)))
@@ -80,6 +87,7 @@ class Handler(BaseHTTPRequestHandler):
         trace = self.rfile.read(int(length))
         if len(trace) < int(length):
             return self.say(400)
+        self.watch.cancel()
         try:
             if self.path == "/":
                 return self.say(200, self.server.resolver.resolve_text(trace))

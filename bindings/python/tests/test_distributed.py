@@ -13,6 +13,7 @@ import threading
 import unittest
 import warnings
 from pathlib import Path
+from unittest import mock
 
 from support import Case
 from test_resolver import MAP, write
@@ -96,20 +97,22 @@ class Distributed(Case):
     @unittest.skipUnless(importlib.util.find_spec("distributed"), "dask.distributed is not installed")
     def test_a_worker_is_ended(self):
         with warnings.catch_warnings():
-            warnings.simplefilter("ignore")
-            from distributed import Client as Real
-            from distributed import LocalCluster
-
-        os.environ["PYTHONPATH"] = os.pathsep.join([str(Path(oxc_sourcemap.__file__).parents[1]), *filter(None, [os.environ.get("PYTHONPATH")])])
-        frames = self.frames(int(os.environ.get("FRAMES", 60_000)))
-        with warnings.catch_warnings(), LocalCluster(n_workers=3, threads_per_worker=1, dashboard_address=None) as cluster, Real(cluster) as client:
             # (those of the engine)
             warnings.simplefilter("ignore")
-            one = next(iter(client.run(os.getpid).values()))
-            threading.Timer(0.3, os.kill, (one, signal.SIGKILL)).start()
-            found = list(resolve_frames(client, frames, self.settings, window=20_000, part=500))
-            self.are_right(frames, found)
-            self.assertNotIn(one, client.run(os.getpid).values())
+            self.end_one_of_three(self.frames(int(os.environ.get("FRAMES", 60_000))))
+
+    def end_one_of_three(self, frames: list[Frame]) -> None:
+        from distributed import Client as Real
+        from distributed import LocalCluster
+
+        paths = [str(Path(oxc_sourcemap.__file__).parents[1]), os.environ.get("PYTHONPATH", "")]
+        with mock.patch.dict(os.environ, PYTHONPATH=os.pathsep.join(filter(None, paths))):
+            with LocalCluster(n_workers=3, threads_per_worker=1, dashboard_address=None) as cluster, Real(cluster) as client:
+                one = next(iter(client.run(os.getpid).values()))
+                threading.Timer(0.3, os.kill, (one, signal.SIGKILL)).start()
+                found = list(resolve_frames(client, frames, self.settings, window=20_000, part=500))
+                self.are_right(frames, found)
+                self.assertNotIn(one, client.run(os.getpid).values())
 
 
 if __name__ == "__main__":

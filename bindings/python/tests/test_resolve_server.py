@@ -26,9 +26,9 @@ class Server(Case):
         room = tempfile.TemporaryDirectory()
         cls.addClassCleanup(room.cleanup)
         write(room.name, {"app.js": CODE, "app.js.map": MAP})
-        # (a client has 2 seconds)
+        # (a client has 3 seconds)
         example = TOP / "bindings/python/examples/resolve_server.py"
-        code = f"import runpy, sys; sys.argv[1:] = sys.argv[2:]; it = runpy.run_path({str(example)!r}); it['Server'].__init__.__defaults__ = (2.0,); it['main']()"
+        code = f"import runpy, sys; sys.argv[1:] = sys.argv[2:]; it = runpy.run_path({str(example)!r}); it['Server'].__init__.__defaults__ = (3.0,); it['main']()"
         env = {**os.environ, "PYTHONPATH": str(Path(oxc_sourcemap.__file__).parents[1])}
         cls.server = subprocess.Popen([sys.executable, "-c", code, "-", room.name, "http://h/"], stdout=subprocess.PIPE, env=env)
         cls.addClassCleanup(cls.server.stdout.close)

@@ -166,7 +166,8 @@ class Soak:
         if stats["frames"] != stats["resolved"] + sum(count for name, count in stats.items() if name.startswith("not_resolved_")):
             self.faults.append(f"reasons do not sum up: {stats}")
         early, late = used[len(used) // 4], used[-1]
-        if late[0] > early[0] * 1.3 + 20_000 or late[1] > early[1] + LIMITS.held_maps + 40:
+        # (each trace has 64 maps in use at most)
+        if late[0] > early[0] * 1.3 + 20_000 or max(it for _, it in used) > LIMITS.held_maps + 64 * THREADS + 100:
             self.faults.append(f"memory (kB) or descriptors grow: {early}, then {late}")
         print(f"{self.traces} traces, {self.frames} frames, {self.resolved} resolved; {early[0]} then {late[0]} kB, {early[1]} then {late[1]} descriptors")
         print({name: count for name, count in stats.items() if count})

@@ -4,6 +4,7 @@
 const test = require('node:test');
 const assert = require('node:assert/strict');
 const fs = require('node:fs');
+const http = require('node:http');
 const net = require('node:net');
 const { spawn } = require('node:child_process');
 const { once } = require('node:events');
@@ -27,13 +28,17 @@ test.before(async () => {
   const env = { ...process.env, SECONDS: '4' };
   server = spawn(process.execPath, ['server.js', 'maps', 'http://h/'], { cwd: room, env, stdio: ['ignore', 'pipe', 'inherit'] });
   const [said] = await once(server.stdout, 'data');
-  Object.assign(url, { text: String(said).trim(), port: Number(/:(\d+)\//.exec(said)[1]) });
+  Object.assign(url, { port: Number(/:(\d+)\//.exec(said)[1]) });
 });
 test.after(() => server.kill());
 
+/** What a request of a connection of its own is answered. */
 async function asked(method, path, body) {
-  const answer = await fetch(url.text + path.slice(1), { method, body });
-  return [answer.status, Buffer.from(await answer.arrayBuffer())];
+  const request = http.request({ host: '127.0.0.1', port: url.port, method, path, agent: false }).end(body);
+  const [answer] = await once(request, 'response');
+  const parts = [];
+  for await (const part of answer) parts.push(part);
+  return [answer.statusCode, Buffer.concat(parts)];
 }
 
 /** What comes back to these bytes, until the connection is closed. */

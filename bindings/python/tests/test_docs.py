@@ -10,7 +10,8 @@ import support
 import oxc_sourcemap
 from oxc_sourcemap import CompiledMap, SourceMap, SourceMapBuilder, SourceMapJoin
 
-MODULES = ("", "._compiled", "._contents", "._errors", "._handle", "._lookups", "._making", "._map", "._texts", "._values")
+MODULES = ("", "._compiled", "._contents", "._contexts", "._errors", "._finding", "._handle", "._lookups", "._making", "._map", "._stores")
+MODULES += ("._texts", "._traces", "._values", ".distributed", ".resolver")
 
 
 def load_tests(loader: unittest.TestLoader, tests: unittest.TestSuite, pattern: object) -> unittest.TestSuite:

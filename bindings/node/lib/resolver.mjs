@@ -1,0 +1,3 @@
+import resolver from './resolver.js';
+
+export const { BESIDE, Folder, Lines, Reason, Resolved, Resolver, TooLargeError, framesIn, replaceFrames } = resolver;

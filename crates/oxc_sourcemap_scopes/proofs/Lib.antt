@@ -1,0 +1,6 @@
+pub mod Growing
+pub mod Innermost
+pub mod Outward
+pub mod Pieces
+pub mod Spelled
+pub mod States

@@ -1,0 +1,16 @@
+use Rattle.std.proofs.Common.{◌≡◌, ◌++◌, ◌∷◌, [], None, length, rules}
+use Rattle.oxc_sourcemap_scopes.specs.declared.scopes.RangeInfo.{RangeInfo}
+use Rattle.oxc_sourcemap_scopes.specs.Trees.{started}
+use Rattle.oxc_sourcemap_scopes.specs.Items.{State, IsDefined}
+use Rattle.oxc_sourcemap_scopes.proofs.States.{range-added}
+use Rattle.oxc_sourcemap_scopes.proofs.items.Read.start_range.Goals as goal
+
+pub invariant_of-self : goal.invariant_of-self
+invariant_of-self c =
+    let r = c.self.inside in
+    let s : State = record { scopes = r.scopes; scope_infos = r.scope_infos.items; ranges = r.ranges; range_infos = r.range_infos.items; name = r.name; kind = r.kind; definition = r.definition } in
+    let info : RangeInfo = record { definition = c.in_ok-definition.definition; is_stack_frame = c.has_flag-2.result; is_hidden = c.has_flag-3.result; call_site = None } in
+    let tree : c.start.new.self ≡ started s.ranges c.in_ok-here.here = search rules in
+    let infos : c.push.new.self.items ≡ s.range_infos ++ info ∷ [] = search rules in
+    let defined : IsDefined (length s.scopes.spans) info = search rules in
+    rw (tree, infos) (range-added s c.in_ok-here.here info c.unwrap_or.result c.self.invariant defined)

@@ -1,0 +1,111 @@
+-- What is asked of scopes: the innermost scope, range or function at a position, and the frames that a position stands for.
+use Rattle.std.specs.Prelude.{◌≡◌, ℕ, zero, suc, ◌*◌, ◌+◌, Bool, false, List, [], ◌∷◌, ◌++◌, get_or}
+use Rattle.std.specs.Prelude.{slice_get, Option, Some, None}
+use Rattle.std.specs.Prelude.{if◌then◌else◌}
+use Rattle.std.specs.Option.{option_map, option_and_then}
+use Rattle.oxc_sourcemap_scopes.specs.declared.scopes.Span.{Span}
+use Rattle.oxc_sourcemap_scopes.specs.declared.scopes.ScopeInfo.{ScopeInfo}
+use Rattle.oxc_sourcemap_scopes.specs.declared.scopes.CallSite.{CallSite}
+use Rattle.oxc_sourcemap_scopes.specs.declared.scopes.ScopeFrame.{ScopeFrame}
+use Rattle.oxc_sourcemap_scopes.specs.declared.frames.OriginalScope.{OriginalScope}
+use Rattle.oxc_sourcemap_scopes.specs.declared.frames.GeneratedRange.{GeneratedRange}
+use Rattle.oxc_sourcemap_scopes.specs.declared.frames.Frames.{Frames}
+use Rattle.oxc_sourcemap_scopes.specs.declared.scopes.RangeInfo.{RangeInfo}
+use Rattle.oxc_sourcemap_scopes.specs.Trees.{rank, span_at, innermost}
+use Rattle.oxc_sourcemap_scopes.specs.Items.{no_range}
+use Rattle.oxc_sourcemap_scopes.specs.Reading.{ScopesRecord}
+
+-- a line and a column as one number
+abbrev pub place : ℕ → ℕ → ℕ
+place line column = line * 4294967296 + column
+
+-- the innermost scope of a source that contains a position
+abbrev pub scope_at : ScopesRecord → ℕ → ℕ → ℕ → Option ℕ
+scope_at s source line column = innermost s.scopes source (place line column)
+
+-- the innermost range that contains a position of the generated code
+abbrev pub range_at : ScopesRecord → ℕ → ℕ → Option ℕ
+range_at s line column = innermost s.ranges 0 (place line column)
+
+-- what stands for a scope past the end
+abbrev pub no_scope : ScopeInfo
+no_scope = record { name = None; kind = None; is_stack_frame = false }
+
+-- The first of a scope and those around it, from the inside out, that is a stack frame. The number bounds how many are looked at.
+abbrev pub function_within : ℕ → List Span → List ScopeInfo → Option ℕ → Option ℕ
+function_within zero scopes infos scope = None
+function_within (suc n) scopes infos None = None
+function_within (suc n) scopes infos (Some i) =
+    if (get_or infos i no_scope).is_stack_frame then Some i else function_within n scopes infos (span_at scopes i).parent
+
+-- the function of a scope: the first of it and those around it, from the inside out, that is a stack frame
+unfoldable pub function_of : List Span → List ScopeInfo → Option ℕ → Option ℕ
+function_of scopes infos scope = function_within (rank scope) scopes infos scope
+
+-- the function of a source that a position is in
+abbrev pub function_at : ScopesRecord → ℕ → ℕ → ℕ → Option ℕ
+function_at s source line column = function_of s.scopes s.scope_infos (scope_at s source line column)
+
+-- The frames of the source that a frame of the stack stands for, from the inside out; and whether the source has none for it, since it
+-- is in a helper that was made.
+pub record FramesRecord : Type 0 where
+  pub frames : List ScopeFrame
+  pub is_hidden : Bool
+
+-- these frames, and those further out
+abbrev pub with_frames : List ScopeFrame → FramesRecord → FramesRecord
+with_frames front outer = record outer { frames = front ++ outer.frames }
+
+-- the frame in which a body was called that was inlined, named by the function there
+abbrev pub calling_frames : ScopesRecord → Option CallSite → List ScopeFrame
+calling_frames s None = []
+calling_frames s (Some call) = record { scope = function_at s call.source call.line call.column; call_site = Some call } ∷ []
+
+-- The frames in which the bodies of a range and of those around it were called, up to the first range that is a stack frame of the
+-- generated code. The number bounds how many are looked at.
+abbrev pub callers_within : ℕ → ScopesRecord → Option ℕ → FramesRecord
+callers_within zero s range = record { frames = []; is_hidden = false }
+callers_within (suc n) s None = record { frames = []; is_hidden = false }
+callers_within (suc n) s (Some i) =
+    let info = get_or s.range_infos i no_range in
+    if info.is_stack_frame then record { frames = []; is_hidden = info.is_hidden }
+    else with_frames (calling_frames s info.call_site) (callers_within n s (span_at s.ranges i).parent)
+
+-- the frames in which the bodies of a range and of those around it were called
+unfoldable pub callers_of : ScopesRecord → Option ℕ → FramesRecord
+callers_of s range = callers_within (rank range) s range
+
+-- The frames at the innermost range of a position: that of the function that the range is the code of, at the position to which the
+-- mappings lead, and those in which inlined bodies were called.
+abbrev pub frames_of : ScopesRecord → Option ℕ → FramesRecord
+frames_of s None = record { frames = []; is_hidden = false }
+frames_of s (Some i) =
+    with_frames (record { scope = function_of s.scopes s.scope_infos (get_or s.range_infos i no_range).definition; call_site = None } ∷ []) (callers_of s (Some i))
+
+-- the frames at a position of the generated code, none where no range contains it
+abbrev pub frames_at : ScopesRecord → ℕ → ℕ → FramesRecord
+frames_at s line column = frames_of s (range_at s line column)
+
+-- what frames are as they are returned
+abbrev pub frames_record : Frames → FramesRecord
+frames_record f = record { frames = f.frames.items; is_hidden = f.is_hidden }
+
+-- a scope, by where it lies and what is said of it
+abbrev pub scope_of : Span → ScopeInfo → OriginalScope
+scope_of span info = record { source = span.source; start = span.start; end = span.end; name = info.name; kind = info.kind; is_stack_frame = info.is_stack_frame; parent = span.parent }
+
+-- a range, by where it lies and what is said of it
+abbrev pub range_of : Span → RangeInfo → GeneratedRange
+range_of span info = record { start = span.start; end = span.end; definition = info.definition; is_stack_frame = info.is_stack_frame; is_hidden = info.is_hidden; call_site = info.call_site; parent = span.parent }
+
+-- the scope at an index, if there is one
+abbrev pub scope_seen : ScopesRecord → ℕ → Option OriginalScope
+scope_seen s i = option_and_then (λ span. option_map (scope_of span) (slice_get s.scope_infos i)) (slice_get s.scopes i)
+
+-- the range at an index, if there is one
+abbrev pub range_seen : ScopesRecord → ℕ → Option GeneratedRange
+range_seen s i = option_and_then (λ span. option_map (range_of span) (slice_get s.range_infos i)) (slice_get s.ranges i)
+
+-- these frames were appended to the old ones
+abbrev pub IsCalled : List ScopeFrame → List ScopeFrame → Bool → FramesRecord → Type 0
+IsCalled old new is_hidden callers = (new ≡ old ++ callers.frames) × (is_hidden ≡ callers.is_hidden)

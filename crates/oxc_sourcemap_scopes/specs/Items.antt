@@ -1,0 +1,168 @@
+-- What each item of a `scopes` text adds to what was read before it.
+use Rattle.std.specs.Prelude.{◌≡◌, ℕ, ◌+◌, ◌-◌, ◌/◌, ◌%◌, ◌<◌, ◌==◌, nat_lt, min, Bool, false}
+use Rattle.std.specs.Prelude.{List, [], ◌∷◌, ◌++◌, length, set, slice_get, get_or, Option, Some}
+use Rattle.std.specs.Prelude.{None, unwrap_or}
+use Rattle.std.specs.Prelude.{Result, Ok, Err, IfSome, if◌then◌else◌, is_some}
+use Rattle.oxc_sourcemap_tokens.specs.declared.position.Position.{Position}
+use Rattle.oxc_sourcemap_scopes.specs.declared.errors.ScopesError.{ScopesError}
+use Rattle.oxc_sourcemap_scopes.specs.declared.errors.ScopesFaultKind.TheVariants.{TooLarge}
+use Rattle.oxc_sourcemap_scopes.specs.declared.errors.ScopesFaultKind.TheVariants.{MissingNumber}
+use Rattle.oxc_sourcemap_scopes.specs.declared.errors.ScopesFaultKind.TheVariants.{BadIndex}
+use Rattle.oxc_sourcemap_scopes.specs.declared.errors.ScopesFaultKind.TheVariants.{NothingOpen}
+use Rattle.oxc_sourcemap_scopes.specs.declared.errors.ScopesFaultKind.TheVariants.{NotClosed}
+use Rattle.oxc_sourcemap_scopes.specs.declared.scopes.ScopeInfo.{ScopeInfo}
+use Rattle.oxc_sourcemap_scopes.specs.declared.scopes.RangeInfo.{RangeInfo}
+use Rattle.oxc_sourcemap_scopes.specs.Faults.{error_at, ◌>>=◌}
+use Rattle.oxc_sourcemap_scopes.specs.Trees.{Grown, nothing_grown, started, ended, at_next_source}
+
+-- What the items so far say, and the name, the kind and the definition that the next ones are relative to.
+pub record State : Type 0 where
+  pub scopes : Grown
+  pub scope_infos : List ScopeInfo
+  pub ranges : Grown
+  pub range_infos : List RangeInfo
+  pub name : ℕ
+  pub kind : ℕ
+  pub definition : ℕ
+
+-- before the first item
+abbrev pub nothing_read : State
+nothing_read = record { scopes = nothing_grown; scope_infos = []; ranges = nothing_grown; range_infos = []; name = 0; kind = 0; definition = 0 }
+
+-- a definition leads to one of so many scopes
+abbrev pub IsDefined : ℕ → RangeInfo → Type 0
+IsDefined count info = IfSome info.definition (λ i. i < count)
+
+-- each scope and each range is told of once, and definitions lead to scopes
+pub record IsState (s : State) : Type 0 where
+  pub scopes : length s.scope_infos ≡ length s.scopes.spans
+  pub ranges : length s.range_infos ≡ length s.ranges.spans
+  pub definitions : (i : ℕ) → (info : RangeInfo) → slice_get s.range_infos i ≡ Some info → IsDefined (length s.scopes.spans) info
+
+-- a number of an item, which begins at this byte, by its index
+abbrev pub number_at : ℕ → List ℕ → ℕ → Result ℕ ScopesError
+number_at at ns k = elim (slice_get ns k) [ Some n ↦ Ok n | None ↦ Err (error_at MissingNumber at) ]
+
+-- a number of an item where it has one by its flags, else 0
+abbrev pub number_if : Bool → ℕ → List ℕ → ℕ → Result ℕ ScopesError
+number_if is_there at ns k = if is_there then number_at at ns k else Ok 0
+
+-- A position moved: to a later line, where the column counts from 0, or by columns on its line.
+abbrev pub moved : ℕ → Position → ℕ → ℕ → Result Position ScopesError
+moved at p line column =
+    let here : Position = record { line = p.line + line; column = if line == 0 then p.column + column else column } in
+    if nat_lt 4294967295 here.line then Err (error_at TooLarge at)
+    else if nat_lt 4294967295 here.column then Err (error_at TooLarge at)
+    else Ok here
+
+-- An index moved by a signed number: forward by its half, or back if it is odd. It has to be below the count.
+abbrev pub index_moved : ℕ → ℕ → ℕ → ℕ → Result ℕ ScopesError
+index_moved at last raw count =
+    let by = raw / 2 in
+    if raw % 2 == 1 then (if nat_lt last by then Err (error_at BadIndex at) else if nat_lt (last - by) (min count 4294967296) then Ok (last - by) else Err (error_at BadIndex at))
+    else (if nat_lt (last + by) (min count 4294967296) then Ok (last + by) else Err (error_at BadIndex at))
+
+-- the index that an item has by its flags, relative to the last one
+abbrev pub index_if : Bool → ℕ → List ℕ → ℕ → ℕ → ℕ → Result (Option ℕ) ScopesError
+index_if is_there at ns k last count =
+    if is_there then (number_at at ns k >>= λ raw. index_moved at last raw count >>= λ i. Ok (Some i)) else Ok None
+
+-- flags of an item by their weights
+abbrev pub has_flag : ℕ → ℕ → Bool
+has_flag flags weight = flags / weight % 2 == 1
+
+-- `B` FLAGS LINE COLUMN [NAME] [KIND]: a scope starts, within the innermost that is open
+unfoldable pub scope_started : ℕ → ℕ → State → List ℕ → Result State ScopesError
+scope_started names at s ns = do
+  flags ← number_at at ns 1
+  line ← number_at at ns 2
+  column ← number_at at ns 3
+  here ← moved at s.scopes.position line column
+  name ← index_if (has_flag flags 1) at ns 4 s.name names
+  kind ← index_if (has_flag flags 2) at ns (if has_flag flags 1 then 5 else 4) s.kind names
+  Ok (record s {
+    scopes = started s.scopes here;
+    scope_infos = s.scope_infos ++ record { name = name; kind = kind; is_stack_frame = has_flag flags 4 } ∷ [];
+    name = unwrap_or name s.name;
+    kind = unwrap_or kind s.kind;
+  })
+
+-- after a scope, the next source begins if no scope is open
+abbrev pub next_if_closed : ℕ → State → Result State ScopesError
+next_if_closed at s =
+    if is_some s.scopes.current then Ok s
+    else if s.scopes.source == 4294967295 then Err (error_at TooLarge at)
+    else Ok (record s { scopes = at_next_source s.scopes })
+
+-- `A`: a source without scopes
+unfoldable pub source_passed : ℕ → State → Result State ScopesError
+source_passed at s = if is_some s.scopes.current then Err (error_at NotClosed at) else next_if_closed at s
+
+-- `C` LINE COLUMN: the innermost scope that is open ends
+unfoldable pub scope_ended : ℕ → State → List ℕ → Result State ScopesError
+scope_ended at s ns = do
+  line ← number_at at ns 1
+  column ← number_at at ns 2
+  here ← moved at s.scopes.position line column
+  elim s.scopes.current [
+    | None ↦ Err (error_at NothingOpen at)
+    | Some i ↦ next_if_closed at (record s { scopes = ended s.scopes i here })
+  ]
+
+-- `E` FLAGS [LINE] COLUMN [DEFINITION]: a range starts, within the innermost that is open
+unfoldable pub range_started : ℕ → State → List ℕ → Result State ScopesError
+range_started at s ns = do
+  flags ← number_at at ns 1
+  line ← number_if (has_flag flags 1) at ns 2
+  column ← number_at at ns (if has_flag flags 1 then 3 else 2)
+  here ← moved at s.ranges.position line column
+  definition ← index_if (has_flag flags 2) at ns (if has_flag flags 1 then 4 else 3) s.definition (length s.scopes.spans)
+  Ok (record s {
+    ranges = started s.ranges here;
+    range_infos = s.range_infos ++ record { definition = definition; is_stack_frame = has_flag flags 4; is_hidden = has_flag flags 8; call_site = None } ∷ [];
+    definition = unwrap_or definition s.definition;
+  })
+
+-- where a range ends: in its column, or on a later line
+unfoldable pub range_end : ℕ → Position → List ℕ → Result Position ScopesError
+range_end at p ns = number_at at ns 1 >>= λ first.
+    elim (slice_get ns 2) [ Some column ↦ moved at p first column | None ↦ moved at p 0 first ]
+
+-- `F` [LINE] COLUMN: the innermost range that is open ends
+unfoldable pub range_ended : ℕ → State → List ℕ → Result State ScopesError
+range_ended at s ns = do
+  here ← range_end at s.ranges.position ns
+  elim s.ranges.current [
+    | None ↦ Err (error_at NothingOpen at)
+    | Some i ↦ Ok (record s { ranges = ended s.ranges i here })
+  ]
+
+-- what stands for a range past the end
+abbrev pub no_range : RangeInfo
+no_range = record { definition = None; is_stack_frame = false; is_hidden = false; call_site = None }
+
+-- a number of 32 bits
+abbrev pub small_at : ℕ → List ℕ → ℕ → Result ℕ ScopesError
+small_at at ns k = number_at at ns k >>= λ n. if nat_lt 4294967295 n then Err (error_at TooLarge at) else Ok n
+
+-- `I` SOURCE LINE COLUMN: the innermost range that is open is the body of a call there
+unfoldable pub call_site_read : ℕ → State → List ℕ → Result State ScopesError
+call_site_read at s ns = do
+  source ← small_at at ns 1
+  line ← small_at at ns 2
+  column ← small_at at ns 3
+  elim s.ranges.current [
+    | None ↦ Err (error_at NothingOpen at)
+    | Some i ↦ Ok (record s { range_infos = set s.range_infos i (record (get_or s.range_infos i no_range) { call_site = Some (record { source = source; line = line; column = column }) }) })
+  ]
+
+-- What an item of these numbers adds, by its tag. Those of other tags are passed over.
+unfoldable pub item_read : ℕ → ℕ → State → List ℕ → Result State ScopesError
+item_read names at s ns = number_at at ns 0 >>= λ tag.
+    if tag == 0 then source_passed at s
+    else if tag == 1 then scope_started names at s ns
+    else if tag == 2 then scope_ended at s ns
+    else if tag == 4 then range_started at s ns
+    else if tag == 5 then range_ended at s ns
+    else if tag == 8 then call_site_read at s ns
+    else Ok s

@@ -1,0 +1,20 @@
+-- The words of this crate's clauses, from one place.
+pub use Rattle.oxc_sourcemap_scopes.specs.Faults.{OutOfMemory, error_at, Reads}
+pub use Rattle.oxc_sourcemap_scopes.specs.Numbers.{base64_digit, numbers_of}
+pub use Rattle.oxc_sourcemap_scopes.specs.Trees.{place_of, innermost, started, ended}
+pub use Rattle.oxc_sourcemap_scopes.specs.Trees.{at_next_source}
+pub use Rattle.oxc_sourcemap_scopes.specs.Trees.{nothing_grown, AreNested, start_key, key}
+pub use Rattle.oxc_sourcemap_scopes.specs.Items.{number_at, number_if, moved, index_moved, index_if}
+pub use Rattle.oxc_sourcemap_scopes.specs.Items.{has_flag, small_at, range_end}
+pub use Rattle.oxc_sourcemap_scopes.specs.Items.{nothing_read, scope_started, next_if_closed}
+pub use Rattle.oxc_sourcemap_scopes.specs.Items.{source_passed, scope_ended, range_started}
+pub use Rattle.oxc_sourcemap_scopes.specs.Items.{range_ended}
+pub use Rattle.oxc_sourcemap_scopes.specs.Items.{call_site_read, item_read}
+pub use Rattle.oxc_sourcemap_scopes.specs.Reading.{items_read, items_of, finished, scopes_of}
+pub use Rattle.oxc_sourcemap_scopes.specs.Asking.{place, scope_at, range_at, function_of}
+pub use Rattle.oxc_sourcemap_scopes.specs.Asking.{function_at}
+pub use Rattle.oxc_sourcemap_scopes.specs.Asking.{callers_of, frames_of, frames_at, frames_record}
+pub use Rattle.oxc_sourcemap_scopes.specs.Asking.{with_frames}
+pub use Rattle.oxc_sourcemap_scopes.specs.Asking.{scope_seen, range_seen, IsCalled}
+pub use Rattle.oxc_sourcemap_scopes.specs.Items.{no_range}
+pub use Rattle.oxc_sourcemap_tokens.specs.Results.{lent_items}

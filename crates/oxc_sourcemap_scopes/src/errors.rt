@@ -1,0 +1,98 @@
+//! What is wrong in a `scopes` text, and where.
+ghost use Rattle.std.specs.Prelude.{◌≡◌};
+ghost use Rattle.oxc_sourcemap_scopes.specs.Words.{OutOfMemory, error_at};
+
+use std::alloc::{AllocError, AllocFailed};
+use std::fmt;
+
+/// Why a text was not read.
+#[derive(Clone, Copy, Debug, PartialEq, Eq)]
+pub enum ScopesError {
+    /// An allocation failed.
+    OutOfMemory,
+    /// The text has this fault, its first.
+    Fault(ScopesFault),
+}
+
+/// A fault of a `scopes` text.
+#[derive(Clone, Copy, Debug, PartialEq, Eq)]
+pub struct ScopesFault {
+    pub kind: ScopesFaultKind,
+    /// The index in the text at which the item at fault begins, in bytes from 0; where a scope or a range is left open, the
+    /// length of the text.
+    pub byte: usize,
+}
+
+/// What is wrong with an item of a `scopes` text.
+#[derive(Clone, Copy, Debug, PartialEq, Eq)]
+pub enum ScopesFaultKind {
+    /// It has a byte that is no base64 digit.
+    NotADigit,
+    /// Its last number ends in a digit after which another has to follow.
+    CutShort,
+    /// One of its numbers has more than seven digits; or with it a line or a column is above 4294967295, or a source.
+    TooLarge,
+    /// It is empty, or lacks a number that its tag and flags ask for.
+    MissingNumber,
+    /// Its index of a name or of a scope is below 0, or past the last one.
+    BadIndex,
+    /// It is an end, a call site or the like, and nothing that it could belong to is open.
+    NothingOpen,
+    /// A source without scopes is told of within the scopes of another.
+    NotClosed,
+    /// The text ends, and a scope or a range has no end.
+    LeftOpen,
+}
+
+impl fmt::Display for ScopesFaultKind {
+    fn fmt<W: fmt::Write>(&self, f: &mut fmt::Formatter<W>) -> fmt::Result {
+        match self {
+            ScopesFaultKind::NotADigit => write!(f, "a character is no base64 digit"),
+            ScopesFaultKind::CutShort => write!(f, "the last number is cut short"),
+            ScopesFaultKind::TooLarge => write!(f, "a number is too large"),
+            ScopesFaultKind::MissingNumber => write!(f, "a number is missing"),
+            ScopesFaultKind::BadIndex => write!(f, "an index leads to no name or scope"),
+            ScopesFaultKind::NothingOpen => write!(f, "no scope or range is open"),
+            ScopesFaultKind::NotClosed => write!(f, "the scopes before it are not closed"),
+            ScopesFaultKind::LeftOpen => write!(f, "a scope or a range has no end"),
+        }
+    }
+}
+
+impl fmt::Display for ScopesError {
+    fn fmt<W: fmt::Write>(&self, f: &mut fmt::Formatter<W>) -> fmt::Result {
+        match self {
+            ScopesError::OutOfMemory => write!(f, "Out of memory"),
+            ScopesError::Fault(fault) => {
+                write!(f, "scopes, byte {}: {}", fault.byte, fault.kind)
+            }
+        }
+    }
+}
+
+impl std::error::Error for ScopesError {}
+
+impl From<AllocError> for ScopesError {
+    ghost from_gives = { λ _ e. e ≡ OutOfMemory };
+
+    fn from(_: AllocError) -> ScopesError {
+        ScopesError::OutOfMemory
+    }
+}
+
+impl<T: Drop> From<AllocFailed<T>> for ScopesError {
+    ghost from_gives = { λ _ e. e ≡ OutOfMemory };
+
+    fn from(_: AllocFailed<T>) -> ScopesError {
+        ScopesError::OutOfMemory
+    }
+}
+
+impl ScopesError {
+    /// A fault of the item that begins at this byte.
+    pub(crate) fn at(kind: ScopesFaultKind, byte: usize) -> Self
+        ensures { result ≡ error_at kind byte }
+    {
+        ScopesError::Fault(ScopesFault { kind, byte })
+    }
+}

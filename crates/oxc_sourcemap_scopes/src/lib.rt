@@ -1,0 +1,18 @@
+//! The scopes of a map, the member `scopes` of its JSON text: for each source the tree of its scopes, and for the generated code
+//! a tree of ranges, each with the scope that it is the code of. They give a stack trace the names of the functions in the
+//! source, and the frames of calls that were inlined. Part of `oxc_sourcemap`.
+#![tactic(auto)]
+
+mod decoding;
+mod errors;
+mod fields;
+mod frames;
+mod items;
+mod numbers;
+mod scopes;
+mod trees;
+
+pub use decoding::decode_scopes;
+pub use errors::{ScopesError, ScopesFault, ScopesFaultKind};
+pub use frames::{Frames, GeneratedRange, OriginalScope};
+pub use scopes::{CallSite, ScopeFrame, Scopes};

@@ -51,6 +51,12 @@ pub use Rattle.oxc_sourcemap_compiled.specs.CompiledMessages
 pub use Rattle.oxc_sourcemap_queries.specs.RangePieces
 pub use Rattle.oxc_sourcemap_queries.specs.RangeLaws
 pub use Rattle.oxc_sourcemap_queries.specs.Differences
+pub use Rattle.oxc_sourcemap_scopes.specs.declared.errors.ScopesError
+pub use Rattle.oxc_sourcemap_scopes.specs.declared.frames.Frames
+pub use Rattle.oxc_sourcemap_scopes.specs.Trees
+pub use Rattle.oxc_sourcemap_scopes.specs.Items
+pub use Rattle.oxc_sourcemap_scopes.specs.Asking
+pub use Rattle.oxc_sourcemap_scopes.specs.Laws
 pub use Rattle.oxc_sourcemap_steps.specs.Sorting
 pub use Rattle.oxc_sourcemap_steps.specs.SortLaws
 pub use Rattle.oxc_sourcemap_json.specs.JsonRecord

@@ -1,5 +1,5 @@
 -- A tree stays nested as it grows.
-use Rattle.std.proofs.Common.{◌≡◌, ◌≢◌, ℕ, ◌+◌, ◌<◌, ◌≤◌, List, [], ◌∷◌, ◌++◌, length, set}
+use Rattle.std.proofs.Common.{◌⊎◌, ◌≡◌, ◌≢◌, ℕ, ◌+◌, ◌<◌, ◌≤◌, List, [], ◌∷◌, ◌++◌, length, set}
 use Rattle.std.proofs.Common.{Some, None, refl, sym, ap, ◌∙◌, arith, inl, inr}
 use Rattle.std.proofs.lemmas.Bool.{cases_lt, cases_eq}
 use Rattle.std.proofs.lemmas.List.{get_or_append_left, get_or_push, get_or-set_same}
@@ -10,7 +10,8 @@ use Rattle.oxc_sourcemap_scopes.specs.declared.scopes.Span.{Span}
 use Rattle.oxc_sourcemap_scopes.specs.Trees.{place_of, key, start_key, end_key, rank, no_span}
 use Rattle.oxc_sourcemap_scopes.specs.Trees.{span_at}
 use Rattle.oxc_sourcemap_scopes.specs.Trees.{Grown, reached, started, ended}
-use Rattle.oxc_sourcemap_scopes.specs.Trees.{at_next_source, nothing_grown, IsGrowing}
+use Rattle.oxc_sourcemap_scopes.specs.Trees.{parent_rank, at_next_source, nothing_grown, IsGrowing}
+use Rattle.oxc_sourcemap_scopes.specs.Trees.{IsOpen, AreWithin}
 
 -- what holds of each span, and of one more
 each-pushed : (spans : List Span) (s : Span) (P : ℕ → Span → Type 0) → ((i : ℕ) → i < length spans → P i (span_at spans i))
@@ -49,6 +50,13 @@ growing-started t here g h =
       current = omega (arith, long);
       source = each-pushed t.spans s (λ i x. Some n ≡ Some i → x.source ≡ t.source) (λ i l e. absurd (let q : n ≡ i = cc in omega arith)) (λ _. refl);
       laminar = pairs-pushed t.spans s (λ i x j y. rank x.parent ≤ j → rank x.parent ≤ rank y.parent) g.laminar g.around;
+      closed = pairs-pushed t.spans s (λ i x j y. x.parent ≡ Some j → (end_key x ≤ end_key y) ⊎ IsOpen (started t here) j)
+          (λ i j b l e. elim (g.closed i j b l e) [
+            | inl within ↦ inl within
+            | inr still ↦ inr (omega arith, each-pushed t.spans s (λ k x. j < k → j < rank x.parent) (λ k m a. still.1 k m a) (λ _. still.0))
+          ])
+          (λ j l e. (let r : rank t.current ≡ j + 1 = ap rank e in
+          inr (omega arith, each-pushed t.spans s (λ k x. j < k → j < rank x.parent) (λ k m a. (let q : rank t.current ≤ k = omega (arith, r) in omega (arith, r, g.around k m q))) (λ _. omega (arith, r)))));
       around = λ j l k. absurd (omega (arith, long));
     }
 
@@ -106,6 +114,23 @@ growing-ended t k here g o h =
           (λ _. same) j m e;
       laminar = pairs-set t.spans k s (λ i x j y. rank x.parent ≤ j → rank x.parent ≤ rank y.parent) (λ i j b m _ _. g.laminar i j b m)
           (λ j b. g.laminar k j b l) (λ i b m. g.laminar i k b m);
+      closed = pairs-set t.spans k s (λ i x j y. x.parent ≡ Some j → (end_key x ≤ end_key y) ⊎ IsOpen (ended t k here) j)
+          (λ i j b m _ ne e. elim (g.closed i j b m e) [
+            | inl within ↦ inl within
+            | inr still ↦ (let below : j < k = omega (arith, still.0) in
+                inr (still.1 k l below, each-set t.spans k s (λ n x. j < n → j < rank x.parent) (λ n q _ a. still.1 n q a) (λ a. still.1 k l a)))
+          ])
+          (λ j b e. (let u : rank old.parent ≡ j + 1 = ap rank e in
+          inr (
+            omega (arith, u),
+            each-set t.spans k s (λ n x. j < n → j < rank x.parent)
+                (λ n q ne a. elim (cases_lt n k) [
+                  | inl lower ↦ (let w : parent_rank t.spans k ≤ n = omega (arith, u) in omega (arith, u, g.laminar k n lower l w))
+                  | inr higher ↦ (let w : rank t.current ≤ n = omega arith in omega (arith, b, g.around n q w))
+                ])
+                (λ _. omega (arith, u)),
+          )))
+          (λ i b m e. inl (omega (arith, g.ends i m)));
       around = λ j m p. each-set t.spans k s (λ i x. rank old.parent ≤ i → rank old.parent ≤ rank x.parent)
           (λ i q ne w. elim (cases_lt i k) [
             | inl b ↦ g.laminar k i b l w
@@ -122,6 +147,7 @@ growing-next t g o h = record {
   current = g.current;
   source = λ j l e. absurd (let q : None ≡ Some j = sym o ∙ e in (cc));
   laminar = g.laminar;
+  closed = g.closed;
   around = g.around;
 }
 
@@ -138,5 +164,13 @@ growing-none = record {
   current = omega arith;
   source = λ j h. absurd (omega arith);
   laminar = λ i j b h. absurd (omega arith);
+  closed = λ i j b h. absurd (omega arith);
   around = λ j h. absurd (omega arith);
 }
+
+-- where no span is open, each ends within its parent
+pub growing-within : (t : Grown) → IsGrowing t → t.current ≡ None → AreWithin t.spans
+growing-within t g none i j b l e = elim (g.closed i j b l e) [
+  | inl within ↦ within
+  | inr still ↦ absurd (let r : rank t.current ≡ 0 = ap rank none in omega (arith, r, still.0))
+]

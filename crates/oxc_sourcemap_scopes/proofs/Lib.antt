@@ -1,3 +1,4 @@
+pub mod Around
 pub mod Growing
 pub mod Innermost
 pub mod Outward

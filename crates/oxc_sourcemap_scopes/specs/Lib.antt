@@ -4,4 +4,5 @@ pub mod Trees
 pub mod Items
 pub mod Reading
 pub mod Asking
+pub mod Laws
 pub mod Words

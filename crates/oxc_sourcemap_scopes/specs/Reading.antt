@@ -11,7 +11,7 @@ use Rattle.oxc_sourcemap_scopes.specs.declared.scopes.RangeInfo.{RangeInfo}
 use Rattle.oxc_sourcemap_scopes.specs.Faults.{error_at, ◌>>=◌}
 use Rattle.oxc_sourcemap_scopes.specs.Numbers.{numbers_of}
 use Rattle.oxc_sourcemap_scopes.specs.Items.{State, nothing_read, item_read, IsDefined}
-use Rattle.oxc_sourcemap_scopes.specs.Trees.{AreNested}
+use Rattle.oxc_sourcemap_scopes.specs.Trees.{AreNested, AreWithin}
 
 -- Scopes: those of all sources, one source after the other, and ranges, both in the order of their starts.
 pub record ScopesRecord : Type 0 where
@@ -25,6 +25,8 @@ pub record ScopesRecord : Type 0 where
 pub record AreSound (s : ScopesRecord) : Type 0 where
   pub scopes : AreNested s.scopes
   pub ranges : AreNested s.ranges
+  pub scopes_within : AreWithin s.scopes
+  pub ranges_within : AreWithin s.ranges
   pub scope_infos : length s.scope_infos ≡ length s.scopes
   pub range_infos : length s.range_infos ≡ length s.ranges
   pub definitions : (i : ℕ) → (info : RangeInfo) → slice_get s.range_infos i ≡ Some info → IsDefined (length s.scopes) info

@@ -1,5 +1,5 @@
 -- Trees of spans, as the list of their spans in the order of their starts, each with the index of its parent.
-use Rattle.std.specs.Prelude.{◌≡◌, ℕ, ◌+◌, ◌*◌, ◌<◌, ◌≤◌, Bool, ◌&&◌, ◌==◌, nat_lt, nat_le}
+use Rattle.std.specs.Prelude.{◌⊎◌, ◌≡◌, ℕ, ◌+◌, ◌*◌, ◌<◌, ◌≤◌, Bool, ◌&&◌, ◌==◌, nat_lt, nat_le}
 use Rattle.std.specs.Prelude.{List, [], ◌∷◌, ◌++◌, length, set, get_or, Option, Some, None}
 use Rattle.std.specs.Prelude.{if◌then◌else◌}
 use Rattle.oxc_sourcemap_tokens.specs.declared.position.Position.{Position}
@@ -42,6 +42,11 @@ pub record AreNested (spans : List Span) : Type 0 where
   pub parents : (i : ℕ) → i < length spans → parent_rank spans i ≤ i
   pub sources : (i j : ℕ) → j < i → i < length spans → (span_at spans i).parent ≡ Some j → (span_at spans i).source ≡ (span_at spans j).source
   pub apart : (i j : ℕ) → j < i → i < length spans → parent_rank spans i ≤ j → end_key (span_at spans j) ≤ start_key (span_at spans i)
+
+-- each span ends within its parent
+abbrev pub AreWithin : List Span → Type 0
+AreWithin spans =
+    (i j : ℕ) → j < i → i < length spans → (span_at spans i).parent ≡ Some j → end_key (span_at spans i) ≤ end_key (span_at spans j)
 
 -- a span of this source contains this place: its start, and not its end
 abbrev pub contains : ℕ → ℕ → Span → Bool
@@ -90,6 +95,10 @@ ended t i here =
 abbrev pub at_next_source : Grown → Grown
 at_next_source t = record t { source = t.source + 1; position = record { line = 0; column = 0 } }
 
+-- the span at this index has no end yet: all after it are within it, and the next one would be
+abbrev pub IsOpen : Grown → ℕ → Type 0
+IsOpen t j = (j < rank t.current) × ((k : ℕ) → k < length t.spans → j < k → j < parent_rank t.spans k)
+
 -- The spans so far are nested, none goes past the place that was reached, and of two spans one contains the other or they lie apart:
 -- also of the next one, which would start within the innermost that is open.
 pub record IsGrowing (t : Grown) : Type 0 where
@@ -99,6 +108,8 @@ pub record IsGrowing (t : Grown) : Type 0 where
   pub current : rank t.current ≤ length t.spans
   pub source : (j : ℕ) → j < length t.spans → t.current ≡ Some j → (span_at t.spans j).source ≡ t.source
   pub laminar : (i j : ℕ) → j < i → i < length t.spans → parent_rank t.spans i ≤ j → parent_rank t.spans i ≤ parent_rank t.spans j
+  pub closed : (i j : ℕ) → j < i → i < length t.spans → (span_at t.spans i).parent ≡ Some j
+      → (end_key (span_at t.spans i) ≤ end_key (span_at t.spans j)) ⊎ IsOpen t j
   pub around : (j : ℕ) → j < length t.spans → rank t.current ≤ j → rank t.current ≤ parent_rank t.spans j
 
 -- a tree before its first span

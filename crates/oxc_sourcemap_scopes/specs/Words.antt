@@ -3,7 +3,8 @@ pub use Rattle.oxc_sourcemap_scopes.specs.Faults.{OutOfMemory, error_at, Reads}
 pub use Rattle.oxc_sourcemap_scopes.specs.Numbers.{base64_digit, numbers_of}
 pub use Rattle.oxc_sourcemap_scopes.specs.Trees.{place_of, innermost, started, ended}
 pub use Rattle.oxc_sourcemap_scopes.specs.Trees.{at_next_source}
-pub use Rattle.oxc_sourcemap_scopes.specs.Trees.{nothing_grown, AreNested, start_key, key}
+pub use Rattle.oxc_sourcemap_scopes.specs.Trees.{nothing_grown, AreNested, AreWithin, start_key}
+pub use Rattle.oxc_sourcemap_scopes.specs.Trees.{key}
 pub use Rattle.oxc_sourcemap_scopes.specs.Items.{number_at, number_if, moved, index_moved, index_if}
 pub use Rattle.oxc_sourcemap_scopes.specs.Items.{has_flag, small_at, range_end}
 pub use Rattle.oxc_sourcemap_scopes.specs.Items.{nothing_read, scope_started, next_if_closed}

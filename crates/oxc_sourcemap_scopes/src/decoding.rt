@@ -19,20 +19,21 @@ fn items_of(alloc: Global, text: &str) -> Memory<Vec<&str>>
     text.split(',').collect(alloc)
 }
 
-/// The scopes that a text means, the member `scopes` of a map with so many names; or its first fault.
+/// The scopes that a text means, the member `scopes` of a map with so many names; or its first fault. Its names and kinds are indices
+/// of names. Variables of scopes, their values in ranges, and items of other tags are passed over.
 ///
-/// Names and kinds of scopes are indices of names. Variables of scopes, their values in ranges, and items of other tags are passed
-/// over.
+/// Fails with `Fault` of the first fault, with the index of the byte at which its item begins, and with `OutOfMemory`.
 ///
-/// # Errors
+/// ```rust
+/// use oxc_sourcemap::decode_scopes;
 ///
-/// `Fault` with the first fault of the text, and `OutOfMemory`.
-///
-/// # Examples
-///
-/// ```
-/// // A source with the function `outer`, and in the generated code the range of a call to it that was inlined.
-/// let scopes = decode_scopes(alloc, "BCAAA,BHBACA,CCB,CBA,ECAA,EDCC", 2);
+/// // A function from 0:0 to 9:0 and in it one from 2:0 to 4:0; the code of the first, and in it from column 10 to 20 that of the
+/// // second, which was inlined where it was called, at 5:2.
+/// let scopes = decode_scopes(alloc, "BFAAA,BFCAC,CCA,CFA,EGAA,ECKC,IAFC,FK,FU", 2)?;
+/// let frames = scopes.frames_at(alloc, 0, 12)?.frames;
+/// assert_eq!(rt; frames.len(), 2);
+/// assert!(rt; frames[0].scope == Some(1) && frames[0].call_site.is_none());
+/// assert!(rt; frames[1].scope == Some(0) && frames[1].call_site.is_some_and(|call| call.line == 5 && call.column == 2));
 /// ```
 #[tactic(auto, unfolding(crate::specs::Reading::scopes_of))]
 pub fn decode_scopes(alloc: Global, text: &str, names: usize) -> Result<Scopes, ScopesError>

@@ -30,7 +30,7 @@ pub enum ScopesFaultKind {
     NotADigit,
     /// Its last number ends in a digit after which another has to follow.
     CutShort,
-    /// One of its numbers has more than seven digits; or with it a line or a column is above 4294967295, or a source.
+    /// One of its numbers has more than seven digits; or with it a line, a column or a source is above 4294967295.
     TooLarge,
     /// It is empty, or lacks a number that its tag and flags ask for.
     MissingNumber,
@@ -38,7 +38,7 @@ pub enum ScopesFaultKind {
     BadIndex,
     /// It is an end, a call site or the like, and nothing that it could belong to is open.
     NothingOpen,
-    /// A source without scopes is told of within the scopes of another.
+    /// A source without scopes is named within the scopes of another.
     NotClosed,
     /// The text ends, and a scope or a range has no end.
     LeftOpen,

@@ -56,7 +56,7 @@ pub struct Frames {
 }
 
 impl Scopes {
-    /// How many sources have a tree of scopes, or are told to have none.
+    /// How many sources have a tree of scopes, or none.
     pub fn source_count(&self) -> u32
         ensures { result ≡ self.now.sources }
     {

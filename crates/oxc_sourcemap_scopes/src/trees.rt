@@ -2,7 +2,7 @@
 ghost use Rattle.std.specs.Prelude.{◌≡◌, ◌<◌, ◌≤◌, length, OnOk, IfSome, Some, None, nat_le};
 ghost use Rattle.oxc_sourcemap_scopes.specs.Words.{place_of, started, ended, nothing_grown};
 ghost use Rattle.oxc_sourcemap_scopes.specs.Words.{at_next_source};
-ghost use Rattle.oxc_sourcemap_scopes.specs.Words.{AreNested, innermost, start_key, key};
+ghost use Rattle.oxc_sourcemap_scopes.specs.Words.{AreNested, AreWithin, innermost, start_key, key};
 
 use crate::scopes::{Span, place_of};
 use oxc_sourcemap_tokens::{Memory, Position};
@@ -76,6 +76,7 @@ impl Tree {
     pub(crate) fn into_spans(self) -> Vec<Span>
         ensures spans { result.items ≡ self.spans }
         ensures nested { AreNested result.items }
+        ensures within { self.current ≡ None → AreWithin result.items }
     {
         self.spans
     }

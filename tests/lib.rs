@@ -28,6 +28,7 @@ mod remap;
 mod reverse;
 mod roots;
 mod rows;
+mod scopes;
 mod shapes;
 mod simplify;
 mod sorting;

@@ -46,8 +46,8 @@ function_of scopes infos scope = function_within (rank scope) scopes infos scope
 abbrev pub function_at : ScopesRecord → ℕ → ℕ → ℕ → Option ℕ
 function_at s source line column = function_of s.scopes s.scope_infos (scope_at s source line column)
 
--- The frames of the source that a frame of the stack stands for, from the inside out; and whether the source has none for it, since it
--- is in a helper that was made.
+-- The frames of the source that a frame of the stack stands for, from the inside out; and whether it is a helper that the source does
+-- not have.
 pub record FramesRecord : Type 0 where
   pub frames : List ScopeFrame
   pub is_hidden : Bool

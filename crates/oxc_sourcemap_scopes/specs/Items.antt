@@ -10,6 +10,7 @@ use Rattle.oxc_sourcemap_scopes.specs.declared.errors.ScopesFaultKind.TheVariant
 use Rattle.oxc_sourcemap_scopes.specs.declared.errors.ScopesFaultKind.TheVariants.{BadIndex}
 use Rattle.oxc_sourcemap_scopes.specs.declared.errors.ScopesFaultKind.TheVariants.{NothingOpen}
 use Rattle.oxc_sourcemap_scopes.specs.declared.errors.ScopesFaultKind.TheVariants.{NotClosed}
+use Rattle.oxc_sourcemap_scopes.specs.declared.errors.ScopesFaultKind.TheVariants.{TooDeep}
 use Rattle.oxc_sourcemap_scopes.specs.declared.scopes.ScopeInfo.{ScopeInfo}
 use Rattle.oxc_sourcemap_scopes.specs.declared.scopes.RangeInfo.{RangeInfo}
 use Rattle.oxc_sourcemap_scopes.specs.Faults.{error_at, ◌>>=◌}
@@ -67,6 +68,10 @@ abbrev pub index_if : Bool → ℕ → List ℕ → ℕ → ℕ → ℕ → Resu
 index_if is_there at ns k last count =
     if is_there then (number_at at ns k >>= λ raw. index_moved at last raw count >>= λ i. Ok (Some i)) else Ok None
 
+-- how many spans are open, where one more may be
+abbrev pub room_in : ℕ → Grown → Result ℕ ScopesError
+room_in at t = if nat_lt t.depth 1024 then Ok t.depth else Err (error_at TooDeep at)
+
 -- flags of an item by their weights
 abbrev pub has_flag : ℕ → ℕ → Bool
 has_flag flags weight = flags / weight % 2 == 1
@@ -80,6 +85,7 @@ scope_started names at s ns = do
   here ← moved at s.scopes.position line column
   name ← index_if (has_flag flags 1) at ns 4 s.name names
   kind ← index_if (has_flag flags 2) at ns (if has_flag flags 1 then 5 else 4) s.kind names
+  room ← room_in at s.scopes
   Ok (record s {
     scopes = started s.scopes here;
     scope_infos = s.scope_infos ++ record { name = name; kind = kind; is_stack_frame = has_flag flags 4 } ∷ [];
@@ -117,6 +123,7 @@ range_started at s ns = do
   column ← number_at at ns (if has_flag flags 1 then 3 else 2)
   here ← moved at s.ranges.position line column
   definition ← index_if (has_flag flags 2) at ns (if has_flag flags 1 then 4 else 3) s.definition (length s.scopes.spans)
+  room ← room_in at s.ranges
   Ok (record s {
     ranges = started s.ranges here;
     range_infos = s.range_infos ++ record { definition = definition; is_stack_frame = has_flag flags 4; is_hidden = has_flag flags 8; call_site = None } ∷ [];

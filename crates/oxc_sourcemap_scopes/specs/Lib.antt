@@ -5,4 +5,5 @@ pub mod Items
 pub mod Reading
 pub mod Asking
 pub mod Laws
+pub mod Messages
 pub mod Words

@@ -1,5 +1,6 @@
 -- Trees of spans, as the list of their spans in the order of their starts, each with the index of its parent.
-use Rattle.std.specs.Prelude.{◌⊎◌, ◌≡◌, ℕ, ◌+◌, ◌*◌, ◌<◌, ◌≤◌, Bool, ◌&&◌, ◌==◌, nat_lt, nat_le}
+use Rattle.std.specs.Prelude.{◌⊎◌, ◌≡◌, ℕ, ◌+◌, ◌-◌, ◌*◌, ◌<◌, ◌≤◌, Bool, ◌&&◌, ◌==◌, nat_lt}
+use Rattle.std.specs.Prelude.{nat_le}
 use Rattle.std.specs.Prelude.{List, [], ◌∷◌, ◌++◌, length, set, get_or, Option, Some, None}
 use Rattle.std.specs.Prelude.{if◌then◌else◌}
 use Rattle.oxc_sourcemap_tokens.specs.declared.position.Position.{Position}
@@ -35,8 +36,7 @@ span_at spans i = get_or spans i no_span
 abbrev pub parent_rank : List Span → ℕ → ℕ
 parent_rank spans i = rank (span_at spans i).parent
 
--- Spans in the order of their starts, each after its parent; of two spans the earlier contains the later, or ends before it
--- starts. (Those between a span and its parent do not contain it.)
+-- Spans in the order of their starts, each after its parent: those between the two end before it starts.
 pub record AreNested (spans : List Span) : Type 0 where
   pub in_order : (i j : ℕ) → j < i → i < length spans → start_key (span_at spans j) ≤ start_key (span_at spans i)
   pub parents : (i : ℕ) → i < length spans → parent_rank spans i ≤ i
@@ -65,10 +65,12 @@ last_that test xs = last_from test 0 xs
 unfoldable pub innermost : List Span → ℕ → ℕ → Option ℕ
 innermost spans source place = last_that (contains source place) spans
 
--- a tree as it grows: its spans so far, the index of the innermost that has no end yet, and the place that was reached
+-- A tree as it grows: its spans so far, the index of the innermost that has no end yet, how many have none, and the place that was
+-- reached.
 pub record Grown : Type 0 where
   pub spans : List Span
   pub current : Option ℕ
+  pub depth : ℕ
   pub source : ℕ
   pub position : Position
 
@@ -81,6 +83,7 @@ abbrev pub started : Grown → Position → Grown
 started t here = record {
   spans = t.spans ++ record { source = t.source; start = here; end = here; parent = t.current } ∷ [];
   current = Some (length t.spans);
+  depth = t.depth + 1;
   source = t.source;
   position = here;
 }
@@ -89,7 +92,7 @@ started t here = record {
 abbrev pub ended : Grown → ℕ → Position → Grown
 ended t i here =
     let span = span_at t.spans i in
-    record { spans = set t.spans i (record span { end = here }); current = span.parent; source = t.source; position = here }
+    record { spans = set t.spans i (record span { end = here }); current = span.parent; depth = t.depth - 1; source = t.source; position = here }
 
 -- a tree at the start of the next source
 abbrev pub at_next_source : Grown → Grown
@@ -114,4 +117,4 @@ pub record IsGrowing (t : Grown) : Type 0 where
 
 -- a tree before its first span
 abbrev pub nothing_grown : Grown
-nothing_grown = record { spans = []; current = None; source = 0; position = record { line = 0; column = 0 } }
+nothing_grown = record { spans = []; current = None; depth = 0; source = 0; position = record { line = 0; column = 0 } }

@@ -6,7 +6,7 @@ pub use Rattle.oxc_sourcemap_scopes.specs.Trees.{at_next_source}
 pub use Rattle.oxc_sourcemap_scopes.specs.Trees.{nothing_grown, AreNested, AreWithin, start_key}
 pub use Rattle.oxc_sourcemap_scopes.specs.Trees.{key}
 pub use Rattle.oxc_sourcemap_scopes.specs.Items.{number_at, number_if, moved, index_moved, index_if}
-pub use Rattle.oxc_sourcemap_scopes.specs.Items.{has_flag, small_at, range_end}
+pub use Rattle.oxc_sourcemap_scopes.specs.Items.{has_flag, small_at, range_end, room_in}
 pub use Rattle.oxc_sourcemap_scopes.specs.Items.{nothing_read, scope_started, next_if_closed}
 pub use Rattle.oxc_sourcemap_scopes.specs.Items.{source_passed, scope_ended, range_started}
 pub use Rattle.oxc_sourcemap_scopes.specs.Items.{range_ended}
@@ -19,3 +19,4 @@ pub use Rattle.oxc_sourcemap_scopes.specs.Asking.{with_frames}
 pub use Rattle.oxc_sourcemap_scopes.specs.Asking.{scope_seen, range_seen, IsCalled}
 pub use Rattle.oxc_sourcemap_scopes.specs.Items.{no_range}
 pub use Rattle.oxc_sourcemap_tokens.specs.Results.{lent_items}
+pub use Rattle.oxc_sourcemap_scopes.specs.Messages.{fault_text, error_text}

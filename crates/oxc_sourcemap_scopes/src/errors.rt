@@ -1,6 +1,6 @@
 //! What is wrong in a `scopes` text, and where.
-ghost use Rattle.std.specs.Prelude.{◌≡◌};
-ghost use Rattle.oxc_sourcemap_scopes.specs.Words.{OutOfMemory, error_at};
+ghost use Rattle.std.specs.Prelude.{◌≡◌, Some};
+ghost use Rattle.oxc_sourcemap_scopes.specs.Words.{OutOfMemory, error_at, fault_text, error_text};
 
 use std::alloc::{AllocError, AllocFailed};
 use std::fmt;
@@ -34,17 +34,21 @@ pub enum ScopesFaultKind {
     TooLarge,
     /// It is empty, or lacks a number that its tag and flags ask for.
     MissingNumber,
-    /// Its index of a name or of a scope is below 0, or past the last one.
+    /// Its index of a name or of a scope is below 0, past the last one, or above 4294967295.
     BadIndex,
-    /// It is an end, a call site or the like, and nothing that it could belong to is open.
+    /// It is an end, or a call site, and nothing that it could belong to is open.
     NothingOpen,
-    /// A source without scopes is named within the scopes of another.
+    /// A source without scopes comes within the scopes of another.
     NotClosed,
+    /// With it more than 1024 scopes or ranges are nested.
+    TooDeep,
     /// The text ends, and a scope or a range has no end.
     LeftOpen,
 }
 
 impl fmt::Display for ScopesFaultKind {
+    ghost output = { λ kind. Some (fault_text kind) };
+
     fn fmt<W: fmt::Write>(&self, f: &mut fmt::Formatter<W>) -> fmt::Result {
         match self {
             ScopesFaultKind::NotADigit => write!(f, "a character is no base64 digit"),
@@ -54,12 +58,15 @@ impl fmt::Display for ScopesFaultKind {
             ScopesFaultKind::BadIndex => write!(f, "an index leads to no name or scope"),
             ScopesFaultKind::NothingOpen => write!(f, "no scope or range is open"),
             ScopesFaultKind::NotClosed => write!(f, "the scopes before it are not closed"),
+            ScopesFaultKind::TooDeep => write!(f, "more than 1024 scopes or ranges are nested"),
             ScopesFaultKind::LeftOpen => write!(f, "a scope or a range has no end"),
         }
     }
 }
 
 impl fmt::Display for ScopesError {
+    ghost output = { λ error. Some (error_text error) };
+
     fn fmt<W: fmt::Write>(&self, f: &mut fmt::Formatter<W>) -> fmt::Result {
         match self {
             ScopesError::OutOfMemory => write!(f, "Out of memory"),

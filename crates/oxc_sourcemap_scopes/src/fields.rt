@@ -4,9 +4,11 @@ ghost use Rattle.std.specs.Prelude.{OnOk};
 ghost use Rattle.std.specs.Prelude.{string_bytes, is_some, slice_get};
 ghost use Rattle.oxc_sourcemap_scopes.specs.Words.{Reads, number_at, number_if, moved, index_moved};
 ghost use Rattle.oxc_sourcemap_scopes.specs.Words.{index_if, has_flag, small_at, range_end};
+ghost use Rattle.oxc_sourcemap_scopes.specs.Words.{room_in};
 ghost use Rattle.oxc_sourcemap_scopes.specs.Words.{place_of};
 
 use crate::errors::{ScopesError, ScopesFaultKind};
+use crate::trees::Tree;
 use oxc_sourcemap_tokens::Position;
 
 // Numbers of items are read by these; `at` is where the item begins in the text.
@@ -129,5 +131,17 @@ pub(crate) fn range_end(at: usize, from: Position, numbers: &[u64]) -> Result<Po
     match numbers.get(2) {
         Some(column) => moved(at, from, first, *column),
         None => moved(at, from, 0, first),
+    }
+}
+
+/// How many spans of a tree are open, where one more may be.
+pub(crate) fn room_in(at: usize, tree: &Tree) -> Result<usize, ScopesError>
+    ensures room { Reads (λ n. n) result (room_in at tree.now) }
+    ensures below { OnOk result (tree.now.depth < 1024) }
+{
+    if tree.depth() < 1024 {
+        Ok(tree.depth())
+    } else {
+        Err(ScopesError::at(ScopesFaultKind::TooDeep, at))
     }
 }

@@ -51,7 +51,7 @@ pub struct GeneratedRange {
 pub struct Frames {
     /// From the inside out: where the mappings lead, then the place of each call that was inlined.
     pub frames: Vec<ScopeFrame>,
-    /// The frame of the stack is that of a helper, for which the source has none.
+    /// The frame of the stack is that of a helper that the source does not have, so a trace leaves it out.
     pub is_hidden: bool,
 }
 
@@ -137,7 +137,8 @@ impl Scopes {
 
     /// The frames of the source that a frame of a stack trace at this position of the generated code stands for. The first is where
     /// the mappings lead, and has the name of the function that the code there is of; one more is at the place of each call that was
-    /// inlined there, from the inside out. There is none where no range contains the position.
+    /// inlined there, from the inside out. There is none where no range contains the position. It takes time by the scopes and ranges
+    /// that are nested there, at most 1024 each.
     ///
     /// # Errors
     ///

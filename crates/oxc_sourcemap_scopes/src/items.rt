@@ -7,7 +7,7 @@ ghost use Rattle.oxc_sourcemap_scopes.specs.Words.{range_ended, call_site_read, 
 ghost use Rattle.oxc_sourcemap_scopes.specs.Words.{finished};
 
 use crate::errors::{ScopesError, ScopesFaultKind};
-use crate::fields::{has_flag, index_if, moved, number_at, number_if, range_end, small_at};
+use crate::fields::{has_flag, index_if, moved, number_at, number_if, range_end, room_in, small_at};
 use crate::scopes::{CallSite, RangeInfo, ScopeInfo, Scopes};
 use crate::trees::Tree;
 use std::alloc::Global;
@@ -104,6 +104,7 @@ impl Read {
         let name = index_if(has_name, at, numbers, 4, self.name, names)?;
         let k = if has_name { 5 } else { 4 };
         let kind = index_if(has_flag(flags, 2), at, numbers, k, self.kind, names)?;
+        room_in(at, &self.scopes)?;
         self.scopes.start(here)?;
         self.scope_infos.push(ScopeInfo {
             name,
@@ -143,6 +144,7 @@ impl Read {
         let k = if has_line { 4 } else { 3 };
         let count = self.scopes.len();
         let definition = index_if(has_flag(flags, 2), at, numbers, k, self.definition, count)?;
+        room_in(at, &self.ranges)?;
         self.ranges.start(here)?;
         self.range_infos.push(RangeInfo {
             definition,

@@ -15,6 +15,8 @@ pub(crate) struct Tree {
     spans: Vec<Span>,
     /// The index of the innermost span that has no end yet.
     current: Option<usize>,
+    /// How many spans have no end yet.
+    depth: usize,
     /// The source of the next span.
     source: u32,
     /// The position that was reached.
@@ -26,9 +28,9 @@ impl Model for Tree {
 
     ghost Value = { Grown };
 
-    ghost view = { λ t. record { spans = t.spans.items; current = t.current; source = t.source; position = t.position } };
+    ghost view = { λ t. record { spans = t.spans.items; current = t.current; depth = t.depth; source = t.source; position = t.position } };
 
-    ghost invariant = { λ t. IsGrowing (record { spans = t.spans.items; current = t.current; source = t.source; position = t.position }) };
+    ghost invariant = { λ t. IsGrowing (record { spans = t.spans.items; current = t.current; depth = t.depth; source = t.source; position = t.position }) };
 }
 
 impl Tree {
@@ -38,6 +40,7 @@ impl Tree {
         Self {
             spans: Vec::new(alloc),
             current: None,
+            depth: 0,
             source: 0,
             position: Position { line: 0, column: 0 },
         }
@@ -49,6 +52,13 @@ impl Tree {
         ensures within { IfSome result (λ i. i < length self.now.spans) }
     {
         self.current
+    }
+
+    /// How many spans have no end yet.
+    pub(crate) fn depth(&self) -> usize
+        ensures { result ≡ self.now.depth }
+    {
+        self.depth
     }
 
     /// The source of the next span.
@@ -93,7 +103,8 @@ impl Tree {
 
     /// Begins a span, within the innermost that is open. An `Err` changes nothing.
     pub(crate) fn start(&mut self, here: Position) -> Memory<()>
-        requires { place_of self.old.position ≤ place_of here }
+        requires after { place_of self.old.position ≤ place_of here }
+        requires room { self.old.depth < 1024 }
         ensures ok { OnOk result (self.new ≡ started self.old here) }
     {
         let index = self.spans.len();
@@ -104,6 +115,7 @@ impl Tree {
             parent: self.current,
         })?;
         self.current = Some(index);
+        self.depth += 1;
         self.position = here;
         Ok(())
     }
@@ -117,6 +129,7 @@ impl Tree {
         let span = self.spans[index];
         self.spans[index] = Span { end: here, ..span };
         self.current = span.parent;
+        self.depth = self.depth.saturating_sub(1);
         self.position = here;
     }
 }

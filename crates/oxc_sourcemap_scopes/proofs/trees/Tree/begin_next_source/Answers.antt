@@ -5,6 +5,6 @@ use Rattle.oxc_sourcemap_scopes.proofs.trees.Tree.begin_next_source.Goals as goa
 
 pub invariant_of-self : goal.invariant_of-self
 invariant_of-self c =
-    let t : Grown = record { spans = c.self.inside.spans.items; current = c.self.inside.current; source = c.self.inside.source; position = c.self.inside.position } in
+    let t : Grown = record { spans = c.self.inside.spans.items; current = c.self.inside.current; depth = c.self.inside.depth; source = c.self.inside.source; position = c.self.inside.position } in
     let none : t.current ≡ None = rw (← c.self.view_is) at c.requires.none in
     growing-next t c.self.invariant none (omega (arith, c.self.ranges))

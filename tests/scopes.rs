@@ -1,8 +1,7 @@
 //! The scopes of a map: what their texts mean, the first fault of each that means nothing, and the frames at a position. The rows are
 //! worked by hand from the rules. tools/compare/scopes compares random texts with another implementation.
 use crate::helpers::same;
-use oxc_sourcemap_scopes::{CallSite, GeneratedRange, OriginalScope, ScopeFrame, Scopes, ScopesError, ScopesFault, ScopesFaultKind};
-use oxc_sourcemap_scopes::decode_scopes;
+use oxc_sourcemap::{CallSite, GeneratedRange, OriginalScope, ScopeFrame, Scopes, ScopesError, ScopesFault, ScopesFaultKind, decode_scopes};
 use std::alloc::Global;
 use std::process::Abort;
 
@@ -166,7 +165,7 @@ fn texts_mean(rt: HostRuntime) -> Result<(), ScopesError> {
     Ok(())
 }
 
-use ScopesFaultKind::{BadIndex, CutShort, LeftOpen, MissingNumber, NotADigit, NotClosed, NothingOpen, TooLarge};
+use ScopesFaultKind::{BadIndex, CutShort, LeftOpen, MissingNumber, NotADigit, NotClosed, NothingOpen, TooDeep, TooLarge};
 
 /// A text, how many names there are, and its first fault.
 const FAULTS: &[(&str, usize, ScopesFaultKind, usize)] = &[
@@ -381,12 +380,12 @@ fn places_are_in_scopes(rt: HostRuntime) -> Result<(), ScopesError> {
     Ok(())
 }
 
-const DEPTH: usize = 100000;
+/// One more is the most that may be nested.
+const DEPTH: usize = 1023;
 
 /// The same item many times, each behind a comma.
-fn repeat(alloc: Global, text: &mut String, item: &str) -> Result<(), ScopesError> {
-    text.reserve(DEPTH * item.len())?;
-    for _ in 0..DEPTH {
+fn repeat(text: &mut String, item: &str, times: usize) -> Result<(), ScopesError> {
+    for _ in 0..times {
         text.push_str(item)?;
     }
     Ok(())
@@ -397,11 +396,11 @@ fn repeat(alloc: Global, text: &mut String, item: &str) -> Result<(), ScopesErro
 fn deep(alloc: Global) -> Result<Scopes, ScopesError> {
     let mut text = String::new(alloc);
     text.push_str("A,BEAA")?;
-    repeat(alloc, &mut text, ",BAAB")?;
-    repeat(alloc, &mut text, ",CAB")?;
+    repeat(&mut text, ",BAAB", DEPTH)?;
+    repeat(&mut text, ",CAB", DEPTH)?;
     text.push_str(",CAB")?;
-    repeat(alloc, &mut text, ",ECBA,IBAA")?;
-    repeat(alloc, &mut text, ",FB")?;
+    repeat(&mut text, ",ECBA,IBAA", DEPTH)?;
+    repeat(&mut text, ",FB", DEPTH)?;
     decode_scopes(alloc, text.as_str(), 0)
 }
 
@@ -427,15 +426,26 @@ fn deep_trees_are_read(rt: HostRuntime) -> Result<(), ScopesError> {
     Ok(())
 }
 
-#[test]
-fn deep_trees_are_left_open(rt: HostRuntime) -> Result<(), ScopesError> {
-    let mut text = String::new(rt.alloc());
-    text.push_str("BAAA")?;
-    repeat(rt.alloc(), &mut text, ",BAAB")?;
-    let wanted = ScopesError::Fault(ScopesFault { kind: LeftOpen, byte: text.len() });
-    match decode_scopes(rt.alloc(), text.as_str(), 0) {
-        Ok(_) => same(&rt, "open", None, Some(wanted)),
-        Err(error) => same(&rt, "open", error, wanted),
+/// The fault of a text that begins with an item, and has another many times.
+fn fault_of(alloc: Global, first: &str, item: &str, times: usize) -> Result<Option<ScopesFault>, ScopesError> {
+    let mut text = String::new(alloc);
+    text.push_str(first)?;
+    repeat(&mut text, item, times)?;
+    match decode_scopes(alloc, text.as_str(), 0) {
+        Err(ScopesError::Fault(fault)) => Ok(Some(fault)),
+        Err(ScopesError::OutOfMemory) => Err(ScopesError::OutOfMemory),
+        Ok(_) => Ok(None),
     }
+}
+
+/// A text of any depth ends without a deep stack, at the first item past the limit.
+#[test]
+fn deeper_trees_are_refused(rt: HostRuntime) -> Result<(), ScopesError> {
+    let open = fault_of(rt.alloc(), "BAAA", ",BAAB", DEPTH)?;
+    same(&rt, "open", open, Some(ScopesFault { kind: LeftOpen, byte: 4 + 5 * DEPTH }));
+    let scopes = fault_of(rt.alloc(), "BAAA", ",BAAB", 100000)?;
+    same(&rt, "scopes", scopes, Some(ScopesFault { kind: TooDeep, byte: 5 * (DEPTH + 1) }));
+    let ranges = fault_of(rt.alloc(), "EAA", ",EAA", 100000)?;
+    same(&rt, "ranges", ranges, Some(ScopesFault { kind: TooDeep, byte: 4 * (DEPTH + 1) }));
     Ok(())
 }

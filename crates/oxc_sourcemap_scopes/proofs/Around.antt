@@ -6,7 +6,7 @@ use Rattle.std.proofs.Common.{inr}
 use Rattle.std.proofs.Common.{if◌then◌else◌, add-one}
 use Rattle.std.proofs.lemmas.Bool.{cases_lt, cases_eq}
 use Rattle.oxc_sourcemap_scopes.specs.declared.scopes.Span.{Span}
-use Rattle.oxc_sourcemap_scopes.specs.Trees.{place_of, key, start_key, end_key, rank, no_span}
+use Rattle.oxc_sourcemap_scopes.specs.Trees.{place_of, key, start_key, rank}
 use Rattle.oxc_sourcemap_scopes.specs.Trees.{span_at}
 use Rattle.oxc_sourcemap_scopes.specs.Trees.{parent_rank, AreNested, AreWithin, contains, innermost}
 use Rattle.oxc_sourcemap_scopes.specs.Laws.{containing_below, around_within, around}

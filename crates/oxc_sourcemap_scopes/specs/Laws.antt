@@ -1,16 +1,15 @@
 -- Laws of scopes: what is found from the innermost outward is what contains a position.
-use Rattle.std.specs.Prelude.{◌≡◌, ℕ, zero, suc, Bool, true, false, List, [], ◌∷◌, length, get_or}
+use Rattle.std.specs.Prelude.{◌≡◌, ℕ, zero, suc, false, List, [], ◌∷◌, length, get_or}
 use Rattle.std.specs.Prelude.{Option, Some, None}
 use Rattle.std.specs.Prelude.{if◌then◌else◌}
 use Rattle.oxc_sourcemap_scopes.specs.declared.scopes.Span.{Span}
-use Rattle.oxc_sourcemap_scopes.specs.Trees.{rank, span_at, contains, innermost}
+use Rattle.oxc_sourcemap_scopes.specs.Trees.{rank, span_at, contains}
 use Rattle.oxc_sourcemap_scopes.specs.Reading.{ScopesRecord, AreSound}
 use Rattle.oxc_sourcemap_scopes.specs.Asking.{place, scope_at, range_at, function_at, frames_at}
 use Rattle.oxc_sourcemap_scopes.specs.Asking.{no_scope, FramesRecord, with_frames, calling_frames}
 use Rattle.oxc_sourcemap_scopes.specs.Asking.{function_of}
 use Rattle.oxc_sourcemap_scopes.specs.Items.{no_range}
 use Rattle.oxc_sourcemap_scopes.specs.declared.scopes.ScopeInfo.{ScopeInfo}
-use Rattle.oxc_sourcemap_scopes.specs.declared.scopes.ScopeFrame.{ScopeFrame}
 
 -- the indices below this number of the spans that contain a place of a source, the last first: from the inside out
 abbrev pub containing_below : ℕ → List Span → ℕ → ℕ → List ℕ

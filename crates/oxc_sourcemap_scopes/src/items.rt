@@ -7,7 +7,9 @@ ghost use Rattle.oxc_sourcemap_scopes.specs.Words.{range_ended, call_site_read, 
 ghost use Rattle.oxc_sourcemap_scopes.specs.Words.{finished};
 
 use crate::errors::{ScopesError, ScopesFaultKind};
-use crate::fields::{has_flag, index_if, moved, number_at, number_if, range_end, room_in, small_at};
+use crate::fields::{
+    has_flag, index_if, moved, number_at, number_if, range_end, room_in, small_at,
+};
 use crate::scopes::{CallSite, RangeInfo, ScopeInfo, Scopes};
 use crate::trees::Tree;
 use std::alloc::Global;

@@ -208,8 +208,8 @@ export type DebugIds = Readonly<Record<string, string>>;
  * Calls whose names end in `Async` ask for one map once, however many traces need it. A map is read and compiled on the thread that calls,
  * which takes some 10 ms for each MB the first time.
  *
- * The constructor throws TypeError of BESIDE with a store that is no folder and of unknown limits, RangeError of limits below 0, and an
- * error if the path or a base cannot be used.
+ * The constructor throws TypeError of BESIDE with a store that is no folder, of unknown limits and of options of other names, RangeError
+ * of limits below 0, and an error if the path or a base cannot be used.
  *
  * @example
  * const resolver = new Resolver("dist", { "https://example.com/static/": "js" }, { limits: { frames: 100 } });
@@ -219,8 +219,8 @@ export class Resolver {
   constructor(store: string | Store, base?: string | Readonly<Record<string, string>>, options?: ResolverOptions);
   readonly limits: Limits;
 
-  /** What a place in a code comes to, by its URL or path, and its line and column, which count from 1. Throws TypeError if the store
-   *  answers by a promise, or with what is no Uint8Array; so do the calls below. */
+  /** What a place in a code comes to, by its URL or path, and its line and column, which count from 1. Throws TypeError of a line or a
+   *  column that is no integer, and if the store answers by a promise, or with what is no Uint8Array; so do the calls below. */
   resolveFrame(url: string, line: number, column: number, debugId?: string | null): Resolved;
   resolveFrameAsync(url: string, line: number, column: number, debugId?: string | null): Promise<Resolved>;
 

@@ -3,6 +3,7 @@
 
 const fs = require('node:fs');
 
+const { optionsOf, shown: word } = require('./arguments.js');
 const { Compiler } = require('./resolver/compiling.js');
 const { Lines } = require('./resolver/contexts.js');
 const { Finder, debugIdOf, outside } = require('./resolver/finding.js');
@@ -43,6 +44,7 @@ const LIMITS = Object.freeze({
   heldSeconds: 60,
   heldContextBytes: 32 * 2 ** 20,
 });
+const OPTIONS = ['cache', 'limits', 'besideFirst', 'debugIdName', 'alwaysHashes', 'clock'];
 const MOST_NAMES = 2048;
 /** How many maps a trace has in use at once, whatever the table holds. */
 const MOST_KNOWN = 64;
@@ -119,6 +121,12 @@ function linesOf(map, id) {
   return new Lines(content);
 }
 
+/** Refuses what is no line and column; which integers are, a frame says. */
+function checkPosition(line, column) {
+  if (!Number.isInteger(line)) throw new TypeError(`the line is ${word(line)}, and not an integer`);
+  if (!Number.isInteger(column)) throw new TypeError(`the column is ${word(column)}, and not an integer`);
+}
+
 function limitsOf(given = {}) {
   for (const [name, limit] of Object.entries(given)) {
     if (!Object.hasOwn(LIMITS, name)) throw new TypeError(`there is no limit ${name}`);
@@ -168,8 +176,9 @@ class Resolver {
   #names = new Map();
 
   constructor(store, base = '', options = {}) {
-    const { cache = null, limits, besideFirst = false, debugIdName = '{}.map', alwaysHashes = false } = options;
-    const { clock = () => performance.now() / 1000 } = options;
+    const given = optionsOf(options, OPTIONS, 'Resolver');
+    const { cache = null, limits, besideFirst = false, debugIdName = '{}.map', alwaysHashes = false } = given;
+    const { clock = () => performance.now() / 1000 } = given;
     this.limits = limitsOf(limits);
     this.#clock = clock;
     if (typeof store !== 'string' && typeof store?.get !== 'function') throw new TypeError('the store is no path, and has no get');
@@ -269,10 +278,12 @@ class Resolver {
   }
 
   resolveFrame(url, line, column, debugId = null) {
+    checkPosition(line, column);
     return runSteps(this.#one(url, line, column, debugId), this.#now);
   }
 
   resolveFrameAsync(url, line, column, debugId = null) {
+    checkPosition(line, column);
     return runStepsAsync(this.#one(url, line, column, debugId), this.#later);
   }
 

@@ -203,6 +203,11 @@ test('why a frame is not resolved', () => {
   assert.throws(() => new Resolver({}, H), TypeError);
   assert.throws(() => new Resolver(storeOf({}), H, { limits: { maps: 1 } }), /there is no limit maps/);
   assert.throws(() => new Resolver(storeOf({}), H, { limits: { frames: -1 } }), RangeError);
+  assert.throws(() => new Resolver(storeOf({}), H, { cach: 1 }), /Resolver has no option "cach", but cache and /);
+  for (const it of [1.5, NaN, '1', undefined]) {
+    assert.throws(() => resolver.resolveFrame('d.js', it, 1), /^TypeError: the line is /);
+    assert.throws(() => resolver.resolveFrame('d.js', 1, it), /^TypeError: the column is /);
+  }
 });
 
 test('debug ids', () => {

@@ -517,6 +517,17 @@ class Bounded(InFolder):
         now[0] = 5.0
         self.assertEqual(places(), ["src/c.ts:1:1", "src/a.ts:1:1"])
 
+    def test_what_cannot_be_a_resolver(self):
+        file = os.path.join(self.folder, "file")
+        open(file, "w").close()
+        self.assertRaises(FileNotFoundError, Resolver, os.path.join(self.folder, "none"), H)
+        self.assertRaises(NotADirectoryError, Resolver, file, H)
+        self.assertRaisesRegex(TypeError, "base is 5", Resolver, {}, 5)
+        self.assertRaisesRegex(TypeError, "limits is {}", Resolver, {}, H, limits={})
+        self.assertRaisesRegex(ValueError, "the limit frames is -1", Limits, frames=-1)
+        self.assertRaisesRegex(ValueError, "the limit seconds is nan", Limits, seconds=float("nan"))
+        self.assertRaisesRegex(TypeError, "the limit frames is None", Limits, frames=None)
+
     def test_bytes_of_a_trace(self):
         found = Resolver({}, limits=Limits(trace_bytes=8))
         self.assertEqual(found.resolve_text("üüüü"), "üüüü")

@@ -146,6 +146,8 @@ class Bases:
     """
 
     def __init__(self, bases: str | Mapping[str, str]) -> None:
+        if not isinstance(bases, (str, Mapping)):
+            raise TypeError(f"base is {bases!r}, and neither a string nor a mapping")
         pairs = {bases: ""} if isinstance(bases, str) else bases
         self._folders = {parts_of(url): "/".join(parts_of(folder)[1:]) for url, folder in pairs.items()}
 
@@ -168,7 +170,7 @@ class Opened(NamedTuple):
 
 class Folder:
     """A folder as a store. What leads out of it is refused: a name that climbs, and a link, of the file or of a folder above it. Nobody
-    else may change links in it meanwhile.
+    else may change links in it meanwhile. Raises OSError if it is not there.
 
     >>> import tempfile
     >>> with tempfile.TemporaryDirectory() as path:
@@ -179,12 +181,14 @@ class Folder:
     """
 
     def __init__(self, path: StrPath) -> None:
-        self.path = os.path.realpath(path)
+        self.path = os.path.realpath(path, strict=True)
+        if not os.path.isdir(self.path):
+            raise NotADirectoryError(errno.ENOTDIR, os.strerror(errno.ENOTDIR), self.path)
 
     def path_of(self, name: str) -> str:
         """The path of a name, which may have no file, links followed. Raises RefusedError, and OSError of a link to itself.
 
-        >>> Folder("/srv").path_of("../etc/passwd")
+        >>> Folder("/").path_of("../etc/passwd")
         Traceback (most recent call last):
         oxc_sourcemap._stores.RefusedError: a path with the part '..'
         """

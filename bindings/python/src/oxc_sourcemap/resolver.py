@@ -119,6 +119,13 @@ class Limits:
     held_context_bytes: int = 32 << 20
     """Bytes of contents that are held, with their lines."""
 
+    def __post_init__(self) -> None:
+        for name, limit in vars(self).items():
+            if not isinstance(limit, (int, float)):
+                raise TypeError(f"the limit {name} is {limit!r}, and no number")
+            if not limit >= 0:
+                raise ValueError(f"the limit {name} is {limit!r}, and no number from 0 on")
+
 
 class Resolved(NamedTuple):
     """What a frame comes to: the source, as the map lists it and with the source root before it, the original line and column, which count
@@ -212,6 +219,8 @@ class Resolver:
         always_hashes: bool = False,
         clock: Callable[[], float] = time.monotonic,
     ) -> None:
+        if not isinstance(limits, Limits):
+            raise TypeError(f"limits is {limits!r}, and no Limits")
         self.limits, self._clock, self._counts = limits, clock, Counts()
         found: Store = store if hasattr(store, "get") else Folder(store)  # type: ignore[assignment]
         if cache is BESIDE and not isinstance(found, Folder):

@@ -197,6 +197,7 @@ test('why a frame is not resolved', () => {
     'e.js': 'not there: there is no e.js, and no e.js.map',
   };
   assert.deepEqual(Object.fromEntries(Object.keys(reasons).map((it) => [it, whyNot(resolver.resolveFrame(it, 1, 1))])), reasons);
+  assert.equal(resolver.stats().compiledMade, 0);
   const { notResolvedNoMap, notResolvedBadMap, notResolvedTooLarge, notResolvedNotThere, missingHeld, misses } = resolver.stats();
   assert.deepEqual([notResolvedNoMap, notResolvedBadMap, notResolvedTooLarge, notResolvedNotThere, missingHeld, misses], [1, 1, 2, 1, 5, 5]);
   assert.equal(whyNot(new Resolver(folderOf(files), '', { limits }).resolveFrame('d.js', 1, 1)), reasons['d.js']);

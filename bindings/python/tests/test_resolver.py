@@ -527,6 +527,7 @@ class Bounded(InFolder):
         self.assertRaisesRegex(ValueError, "the limit frames is -1", Limits, frames=-1)
         self.assertRaisesRegex(ValueError, "the limit seconds is nan", Limits, seconds=float("nan"))
         self.assertRaisesRegex(TypeError, "the limit frames is None", Limits, frames=None)
+        self.assertRaisesRegex(TypeError, "the trace is None", Resolver({}).resolve, None)
 
     def test_bytes_of_a_trace(self):
         found = Resolver({}, limits=Limits(trace_bytes=8))

@@ -163,8 +163,8 @@ class Compiler {
   // ---- how they are made ----
 
   made(text) {
-    this.#counts.add('compiledMade');
     const bytes = compiled(text);
+    this.#counts.add('compiledMade');
     this.#write(text, bytes);
     return new Held(text.name, bytes);
   }

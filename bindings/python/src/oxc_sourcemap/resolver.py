@@ -303,6 +303,8 @@ class Resolver:
         >>> [it.reason.value for it in Resolver({}).resolve("f@app.js:1:14")]
         ['not there']
         """
+        if not isinstance(text, (str, bytes)):
+            raise TypeError(f"the trace is {text!r}, and neither a str nor bytes")
         length = len(text) if isinstance(text, bytes) or text.isascii() else len(text.encode("utf-8", "surrogatepass"))
         if length > self.limits.trace_bytes:
             self._counts.add("traces_refused")

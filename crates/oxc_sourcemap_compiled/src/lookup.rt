@@ -159,25 +159,31 @@ impl<'a> Opened<'a> {
     }
 
     /// As `find_index`, in a map of many blocks.
-    fn find_index_in_blocks(&self, at: Position, bias: Bias) -> Option<usize>
+    fn find_index_in_blocks(&self, at: Position, bias: Bias, steps: &mut u64) -> Option<usize>
         requires opened { IsOpened self.now }
         requires many { 16384 < self.now.header.tokens }
-        ensures { IsIndexIn self.now.bytes.now self.now.header bias at result }
+        ensures index { IsIndexIn self.now.bytes.now self.now.header bias at result }
+        ensures counted { steps.new ≤ binary_digits self.now.header.lines
+            + binary_digits self.now.header.tokens + 4 }
     {
-        self.lookup_index(at, bias, &mut 0)
+        *steps = 0;
+        self.lookup_index(at, bias, steps)
     }
 
-    /// The index of the token that answers for a generated position by this bias.
+    /// The index of the token that answers for a generated position by this bias. All lookups are by this call; `steps` is set.
     // In the first branch the compiler knows that there is one block, and does not ask for each column.
     #[inline(always)]
-    pub(crate) fn find_index(&self, at: Position, bias: Bias) -> Option<usize>
+    pub(crate) fn find_index(&self, at: Position, bias: Bias, steps: &mut u64) -> Option<usize>
         requires opened { IsOpened self.now }
-        ensures { IsIndexIn self.now.bytes.now self.now.header bias at result }
+        ensures index { IsIndexIn self.now.bytes.now self.now.header bias at result }
+        ensures counted { steps.new ≤ binary_digits self.now.header.lines
+            + binary_digits self.now.header.tokens + 4 }
     {
         if self.is_one_block() {
-            self.lookup_index(at, bias, &mut 0)
+            *steps = 0;
+            self.lookup_index(at, bias, steps)
         } else {
-            self.find_index_in_blocks(at, bias)
+            self.find_index_in_blocks(at, bias, steps)
         }
     }
 
@@ -187,7 +193,7 @@ impl<'a> Opened<'a> {
         requires opened { IsOpened self.now }
         ensures { IsFoundIn self.now.bytes.now self.now.header bias at result }
     {
-        let index = self.find_index(at, bias)?;
+        let index = self.find_index(at, bias, &mut 0)?;
         Some((index, self.token_on(at.line, index)))
     }
 

@@ -99,12 +99,12 @@ impl<'a> CompiledMap<'a> {
         ensures among { IfSome result (IsOnLine self.now (header_in self.now) line) }
     {
         let at = Position { line, column: col };
-        self.opened.find_index(at, Bias::Before)
+        self.opened.find_index(at, Bias::Before, &mut 0)
     }
 
-    /// As `lookup_token_index`, which compares the same: `steps` is set to how many columns and numbers of lines were compared (that
-    /// none is left out is no clause), at most as many as the number of lines and that of tokens have binary digits, and four more,
-    /// whatever the bytes are.
+    /// As `lookup_token_index`; all lookups of this map are by the same call. `steps` is set to how many columns and numbers of lines
+    /// were compared (that none is left out is no clause), at most as many as the number of lines and that of tokens have binary
+    /// digits, and four more, whatever the bytes are.
     pub fn lookup_token_index_counted(&self, line: u32, col: u32, steps: &mut u64) -> Option<usize>
         ensures found { IsInOrder self.now
             → result ≡ index_for (compiled_in self.now).content.tokens line col }
@@ -112,9 +112,8 @@ impl<'a> CompiledMap<'a> {
         ensures counted { steps.new ≤ binary_digits (header_in self.now).lines
             + binary_digits (header_in self.now).tokens + 4 }
     {
-        *steps = 0;
         let at = Position { line, column: col };
-        self.opened.lookup_index(at, Bias::Before, steps)
+        self.opened.find_index(at, Bias::Before, steps)
     }
 
     /// As `lookup_token_index`, but a position before the first token of its line gives that token.
@@ -124,7 +123,7 @@ impl<'a> CompiledMap<'a> {
         ensures among { IfSome result (IsOnLine self.now (header_in self.now) line) }
     {
         let at = Position { line, column: col };
-        self.opened.find_index(at, Bias::Clamped)
+        self.opened.find_index(at, Bias::Clamped, &mut 0)
     }
 
     /// The index of the first token of the least column from `col` on, of several at `col` of the last; None if the line has
@@ -135,7 +134,7 @@ impl<'a> CompiledMap<'a> {
         ensures among { IfSome result (IsOnLine self.now (header_in self.now) line) }
     {
         let at = Position { line, column: col };
-        self.opened.find_index(at, Bias::After)
+        self.opened.find_index(at, Bias::After, &mut 0)
     }
 
     /// The token of the index that `lookup_token_index` finds. Where bytes are not in order, it is some token of the line, or None.
@@ -190,7 +189,7 @@ impl<'a> CompiledMap<'a> {
             → result ≡ index_by bias (compiled_in self.now).content.tokens at.line at.column }
         ensures among { IfSome result (IsOnLine self.now (header_in self.now) at.line) }
     {
-        self.opened.find_index(at, bias)
+        self.opened.find_index(at, bias, &mut 0)
     }
 
     /// The indices of the tokens that answer for generated positions by this bias, each at the index of its position, as far as there

@@ -2,6 +2,7 @@
 //! worked by hand from the rules. tools/compare/scopes compares random texts with another implementation.
 use crate::helpers::same;
 use oxc_sourcemap::{CallSite, GeneratedRange, OriginalScope, ScopeFrame, Scopes, ScopesError, ScopesFault, ScopesFaultKind, decode_scopes};
+use oxc_sourcemap::read_scopes;
 use std::alloc::Global;
 use std::process::Abort;
 
@@ -123,12 +124,14 @@ const ROWS: &[Row] = &[
     ),
     // The greatest positions.
     (
-        "BA//////D//////D,CAA,EB//////D//////D,I//////D//////D//////D,FA",
+        "BA//////D//////D,CAA,EB//////D//////D,I+/////D//////D//////D,FA",
         0,
         1,
         &[(0, (MAX, MAX), (MAX, MAX), BARE, None)],
-        &[((MAX, MAX), (MAX, MAX), PLAIN, Some((MAX, MAX, MAX)), None)],
+        &[((MAX, MAX), (MAX, MAX), PLAIN, Some((MAX - 1, MAX, MAX)), None)],
     ),
+    // The greatest index.
+    ("BBAA8/////H,CAA", usize::MAX, 1, &[(0, (0, 0), (0, 0), (Some(MAX - 1), None, false), None)], &[]),
 ];
 
 fn call_of(call: CallSite) -> Place {
@@ -193,6 +196,7 @@ const FAULTS: &[(&str, usize, ScopesFaultKind, usize)] = &[
     ("EA//////D,FB", 0, TooLarge, 10),
     ("EB//////DA,FBA", 0, TooLarge, 11),
     ("EAA,IggggggEAA,FA", 0, TooLarge, 4),
+    ("EAA,I//////DAA,FA", 0, TooLarge, 4),
     ("EAA,IAggggggEA,FA", 0, TooLarge, 4),
     ("EAA,IAAggggggE,FA", 0, TooLarge, 4),
     (",", 0, MissingNumber, 0),
@@ -216,6 +220,7 @@ const FAULTS: &[(&str, usize, ScopesFaultKind, usize)] = &[
     ("EAA,IA", 0, MissingNumber, 4),
     ("EAA,IAA", 0, MissingNumber, 4),
     ("BBAAA", 0, BadIndex, 0),
+    ("BBAA+/////H,CAA", usize::MAX, BadIndex, 0),
     ("BBAAE,CAA", 2, BadIndex, 0),
     ("BBAAC,CAA,BBAAF", 2, BadIndex, 10),
     ("BCAAC", 1, BadIndex, 0),
@@ -261,7 +266,47 @@ fn faults_are_written(rt: HostRuntime) -> std::result::Result<(), std::test::Fai
     let error = ScopesError::Fault(ScopesFault { kind: BadIndex, byte: 9 });
     let text = format!(in rt.alloc(); "{error}")?;
     same(&rt, "message", text.as_str(), "scopes, byte 9: an index leads to no name or scope");
+    let text = format!(in rt.alloc(); "{}, {}, {}", ScopesError::NotJson, ScopesError::Indexed, ScopesError::NotText)?;
+    same(&rt, "messages", text.as_str(), "the text is not JSON, the scopes of an indexed map are not read, `scopes` is no text");
     Ok(())
+}
+
+/// The JSON text of a map, and how many sources, scopes and ranges it has, or the error of reading its scopes.
+const MAPS: &[(&str, Result<(u32, usize, usize), ScopesError>)] = &[
+    (r#"{"scopes":"A,BCCDA,CAG","names":["block"]}"#, Ok((2, 1, 0))),
+    (r#"{"version":3,"sources":["a.js"],"mappings":"!","names":["f"],"scopes":"BFAAA,CEA,EGAA,FJ"}"#, Ok((1, 1, 1))),
+    (r#"{"scopes":"ENDC,FCH"}"#, Ok((0, 0, 1))),
+    (r#"{"scopes":""}"#, Ok((0, 0, 0))),
+    (r#"{"scopes":null,"names":["f"]}"#, Ok((0, 0, 0))),
+    (r#"{"version":3,"sources":[],"names":[],"mappings":""}"#, Ok((0, 0, 0))),
+    // The last of members of one name counts.
+    (r#"{"scopes":"!","scopes":"A"}"#, Ok((1, 0, 0))),
+    ("[]", Ok((0, 0, 0))),
+    // Names that are not there: none, no list, too few.
+    (r#"{"scopes":"BBAAA,CAA"}"#, Err(ScopesError::Fault(ScopesFault { kind: BadIndex, byte: 0 }))),
+    (r#"{"scopes":"BBAAA,CAA","names":{"0":"f"}}"#, Err(ScopesError::Fault(ScopesFault { kind: BadIndex, byte: 0 }))),
+    (r#"{"scopes":"A,BBAAC,CAA","names":["f"]}"#, Err(ScopesError::Fault(ScopesFault { kind: BadIndex, byte: 2 }))),
+    // An escape is read before the item.
+    (r#"{"scopes":"\u0041,A!"}"#, Err(ScopesError::Fault(ScopesFault { kind: NotADigit, byte: 2 }))),
+    (r#"{"sections":[],"scopes":["A"]}"#, Err(ScopesError::Indexed)),
+    (r#"{"sections":0}"#, Err(ScopesError::Indexed)),
+    (r#"{"sections":null,"scopes":"A"}"#, Ok((1, 0, 0))),
+    (r#"{"scopes":["A"]}"#, Err(ScopesError::NotText)),
+    (r#"{"scopes":0}"#, Err(ScopesError::NotText)),
+    (r#"{"scopes":true}"#, Err(ScopesError::NotText)),
+    (r#"{"scopes":{}}"#, Err(ScopesError::NotText)),
+    ("", Err(ScopesError::NotJson)),
+    (r#"{"scopes":"A"#, Err(ScopesError::NotJson)),
+    (r#"{"scopes":"A"},"#, Err(ScopesError::NotJson)),
+];
+
+#[test]
+fn maps_have_scopes(rt: HostRuntime) {
+    for (json, wanted) in MAPS {
+        let read = read_scopes(rt.alloc(), *json);
+        let found = read.map(|it| (it.source_count(), it.scope_count(), it.range_count()));
+        same(&rt, *json, found, *wanted);
+    }
 }
 
 /// A frame: the scope that names it, and its call site.
@@ -433,7 +478,7 @@ fn fault_of(alloc: Global, first: &str, item: &str, times: usize) -> Result<Opti
     repeat(&mut text, item, times)?;
     match decode_scopes(alloc, text.as_str(), 0) {
         Err(ScopesError::Fault(fault)) => Ok(Some(fault)),
-        Err(ScopesError::OutOfMemory) => Err(ScopesError::OutOfMemory),
+        Err(error) => Err(error),
         Ok(_) => Ok(None),
     }
 }

@@ -4,10 +4,11 @@ use super::fixtures::{
     FOUND_TEXT, INPUT_TEXT, LENT_TEXT, MENDED_TEXT, TEXT, full_json, full_map, full_owned_map, full_value, is_json, is_map,
     lent_map, lent_parts, shuffled_parts,
 };
-use super::memory::{nothing, refuse_each};
+use super::memory::{call_each, nothing, refuse_each};
 use oxc_sourcemap::{
     ConcatSourceMapBuilder, DataUrlError, Error, FaultPlace, FaultReason, FaultSpot, Field, JSONSourceMap, OwnedSourceMap, Plan, PlanError,
-    Result, SegmentPlace, SegmentReason, SourceIndex, SourceMap, SourceMapParts, SourcemapVisualizer, TextPositions, Token,
+    Result, Scopes, ScopesError, SegmentPlace, SegmentReason, SourceIndex, SourceMap, SourceMapParts, SourcemapVisualizer, TextPositions,
+    Token,
 };
 use oxc_sourcemap_compiled::CompiledMap;
 use serde_json::Value;
@@ -505,4 +506,39 @@ fn compile(rt: HostRuntime) {
 fn compiled_map_decompile(rt: HostRuntime) {
     let bytes = compiled(rt.alloc(), &full_parts(rt.alloc()).expect(&rt, "parts")).expect(&rt, "bytes");
     refuse_each(&rt, nothing, |alloc, ()| taken_apart(alloc, &bytes), |map| is_taken_apart(&rt, map));
+}
+
+/// A map with scopes and ranges, and the errors of its reading as those of a map.
+const SCOPES: &str = r#"{"names":["f"],"scopes":"BFAAA,BAAB,CAB,CEA,EGAA,EAB,IAAA,FB,FJ"}"#;
+
+fn as_error(error: ScopesError) -> Error {
+    match error {
+        ScopesError::OutOfMemory => Error::OutOfMemory,
+        _ => Error::TooLarge,
+    }
+}
+
+fn scopes(alloc: Global) -> Result<Scopes> {
+    oxc_sourcemap::read_scopes(alloc, SCOPES).map_err(as_error)
+}
+
+/// How many frames there are at 0:1, where a call was inlined.
+fn frames(alloc: Global, scopes: Scopes) -> Result<usize> {
+    Ok(scopes.frames_at(alloc, 0, 1)?.frames.len())
+}
+
+#[test]
+fn read_scopes(rt: HostRuntime) {
+    // It goes on without some of what it asks for.
+    let requests = call_each(&rt, nothing, |alloc, ()| scopes(alloc), |made| {
+        let counts = made.map(|it| (it.scope_count(), it.range_count()));
+        same(&rt, "counts", counts.unwrap_or((2, 2)), (2, 2));
+        same(&rt, "error", counts.err().unwrap_or(Error::OutOfMemory), Error::OutOfMemory);
+    });
+    assert!(rt; requests > 0, "no request");
+}
+
+#[test]
+fn scopes_frames_at(rt: HostRuntime) {
+    refuse_each(&rt, scopes, frames, |count| same(&rt, "frames", count, 2));
 }

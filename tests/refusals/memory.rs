@@ -41,6 +41,22 @@ fn run_each(rt: &(impl Abort + AllocGlobal), run: impl Fn()) -> u64 {
     requests
 }
 
+/// Makes a call in each run, and looks at what it gave. Returns how many requests it makes.
+pub fn call_each<G: Drop, T: Drop>(
+    rt: &(impl Abort + AllocGlobal),
+    make: impl Fn(Global) -> Result<G>,
+    call: impl Fn(Global, G) -> T,
+    look: impl Fn(T),
+) -> u64 {
+    run_each(rt, || {
+        let on = make(rt.alloc()).expect(rt, "what the call is made on");
+        begin_call();
+        let made = call(rt.alloc(), on);
+        end_call();
+        look(made);
+    })
+}
+
 /// What a call gave. There is nothing if a request was refused, and the error is then `OutOfMemory`.
 fn given<T: Drop, E: Drop>(rt: &(impl Abort + AllocGlobal), made: std::result::Result<T, E>) -> Option<T>
 where
@@ -69,11 +85,7 @@ pub fn refuse_each<G: Drop, T: Drop, E: Drop>(
 ) where
     RunError: From<E>,
 {
-    let requests = run_each(rt, || {
-        let on = make(rt.alloc()).expect(rt, "what the call is made on");
-        begin_call();
-        let made = call(rt.alloc(), on);
-        end_call();
+    let requests = call_each(rt, make, call, |made| {
         if let Some(given) = given(rt, made) {
             look(given);
         }
@@ -111,14 +123,7 @@ pub fn takes_none<G: Drop, T: Drop>(
     call: impl Fn(Global, G) -> T,
     look: impl Fn(T),
 ) {
-    let requests = run_each(rt, || {
-        let on = make(rt.alloc()).expect(rt, "what the call is made on");
-        begin_call();
-        let made = call(rt.alloc(), on);
-        end_call();
-        look(made);
-    });
-    assert_eq!(rt; requests, 0, "requests");
+    assert_eq!(rt; call_each(rt, make, call, look), 0, "requests");
 }
 
 /// Asserts that a call reports an error, also wherever a request is refused.
@@ -128,13 +133,7 @@ pub fn reports<G: Drop, T: Drop>(
     call: impl Fn(Global, G) -> Result<T>,
     error: Error,
 ) {
-    let _ = run_each(rt, || {
-        let on = make(rt.alloc()).expect(rt, "what the call is made on");
-        begin_call();
-        let made = call(rt.alloc(), on);
-        end_call();
-        assert_eq!(rt; made.err(), Some(error));
-    });
+    let _ = call_each(rt, make, call, |made| assert_eq!(rt; made.err(), Some(error)));
 }
 
 /// What a call is made on that needs nothing.

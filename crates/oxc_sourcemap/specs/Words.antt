@@ -63,10 +63,10 @@ pub use Rattle.oxc_sourcemap_parts.specs.Views.{contents_of, chunks_of}
 pub use Rattle.oxc_sourcemap_queries.specs.RangePieces.{place, pieces_of, DoCover}
 pub use Rattle.oxc_sourcemap_scopes.specs.Asking.{frames_at, frames_record, scope_at, range_at}
 pub use Rattle.oxc_sourcemap_scopes.specs.Asking.{function_at, scope_seen, range_seen}
-pub use Rattle.oxc_sourcemap_scopes.specs.Reading.{scopes_of, ScopesRecord, AreSound}
+pub use Rattle.oxc_sourcemap_scopes.specs.Reading.{scopes_of, read_scopes, ScopesRecord, AreSound}
 pub use Rattle.oxc_sourcemap_scopes.specs.Faults.{Reads}
 pub use Rattle.oxc_sourcemap_scopes.specs.Laws.{RangesAround, ScopesAround, FunctionsContain}
-pub use Rattle.oxc_sourcemap_scopes.specs.Laws.{FramesContain}
+pub use Rattle.oxc_sourcemap_scopes.specs.Laws.{FramesContain, NamesLead, SourcesLead}
 pub use Rattle.oxc_sourcemap_tokens.specs.PlaceMessages.{place_text, spot_text}
 pub use Rattle.oxc_sourcemap_json.specs.ValuePlaces.{value_spot, value_place, IsBytePlace}
 pub use Rattle.oxc_sourcemap_plan.specs.PlanPlaces.{texts_of as plan_texts_of, IsPlanPlace}

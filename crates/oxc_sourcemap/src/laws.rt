@@ -12,6 +12,6 @@ pub use oxc_sourcemap_laws::{
 };
 pub use oxc_sourcemap_map::{name_ids_unique, reverse_lookups, reverse_round_trip};
 pub use oxc_sourcemap_queries::range_pieces;
-pub use oxc_sourcemap_scopes::found_contain;
+pub use oxc_sourcemap_scopes::{found_contain, scopes_lead};
 pub use oxc_sourcemap_steps::{simplifying_harmless, sorting_harmless};
 pub use oxc_sourcemap_text::{appended_comment_found, positions_and_offsets_inverse};

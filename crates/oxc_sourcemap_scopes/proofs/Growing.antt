@@ -14,7 +14,7 @@ use Rattle.oxc_sourcemap_scopes.specs.Trees.{parent_rank, at_next_source, nothin
 use Rattle.oxc_sourcemap_scopes.specs.Trees.{IsOpen, AreWithin}
 
 -- what holds of each span, and of one more
-each-pushed : (spans : List Span) (s : Span) (P : ℕ → Span → Type 0) → ((i : ℕ) → i < length spans → P i (span_at spans i))
+pub each-pushed : (spans : List Span) (s : Span) (P : ℕ → Span → Type 0) → ((i : ℕ) → i < length spans → P i (span_at spans i))
     → P (length spans) s → (i : ℕ) → i < length (spans ++ s ∷ []) → P i (span_at (spans ++ s ∷ []) i)
 each-pushed spans s P all one i h = elim (cases_lt i (length spans)) [
   | inl l ↦ rw (get_or_append_left spans (s ∷ []) no_span i l) (all i l)
@@ -61,7 +61,7 @@ growing-started t here g h =
     }
 
 -- what holds of each span, where one gets another end
-each-set : (spans : List Span) (k : ℕ) (s : Span) (P : ℕ → Span → Type 0) → ((i : ℕ) → i < length spans → i ≢ k → P i (span_at spans i))
+pub each-set : (spans : List Span) (k : ℕ) (s : Span) (P : ℕ → Span → Type 0) → ((i : ℕ) → i < length spans → i ≢ k → P i (span_at spans i))
     → P k s → (i : ℕ) → i < length (set spans k s) → P i (span_at (set spans k s) i)
 each-set spans k s P all one i h =
     let l : i < length spans = omega (arith, length-set spans k s) in

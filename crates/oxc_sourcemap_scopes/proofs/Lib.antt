@@ -1,6 +1,8 @@
 pub mod Around
 pub mod Growing
 pub mod Innermost
+pub mod Kept
+pub mod Named
 pub mod Outward
 pub mod Pieces
 pub mod Spelled

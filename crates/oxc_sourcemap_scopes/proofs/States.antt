@@ -15,7 +15,7 @@ more-below None n m h d = tt
 more-below (Some i) n m h d = omega arith
 
 -- what holds of each item of a list and of one more
-each-more : {A : Type 0} (P : A → Type 0) (xs : List A) (x : A) → ((i : ℕ) (y : A) → slice_get xs i ≡ Some y → P y) → P x → (i : ℕ) (y : A) → slice_get (xs ++ x ∷ []) i ≡ Some y → P y
+pub each-more : {A : Type 0} (P : A → Type 0) (xs : List A) (x : A) → ((i : ℕ) (y : A) → slice_get xs i ≡ Some y → P y) → P x → (i : ℕ) (y : A) → slice_get (xs ++ x ∷ []) i ≡ Some y → P y
 each-more P [] x all one zero y e = let q : x ≡ y = cc in subst P q one
 each-more P [] x all one (suc i) y e = absurd (let q : None ≡ Some y = e in cc)
 each-more P (z ∷ zs) x all one zero y e = all zero y e

@@ -56,12 +56,12 @@ moved at p line column =
     else if nat_lt 4294967295 here.column then Err (error_at TooLarge at)
     else Ok here
 
--- An index moved by a signed number: forward by its half, or back if it is odd. It has to be below the count.
+-- An index moved by a signed number: forward by its half, or back if it is odd. It has to be below the count, and at most 4294967294.
 abbrev pub index_moved : ℕ → ℕ → ℕ → ℕ → Result ℕ ScopesError
 index_moved at last raw count =
     let by = raw / 2 in
-    if raw % 2 == 1 then (if nat_lt last by then Err (error_at BadIndex at) else if nat_lt (last - by) (min count 4294967296) then Ok (last - by) else Err (error_at BadIndex at))
-    else (if nat_lt (last + by) (min count 4294967296) then Ok (last + by) else Err (error_at BadIndex at))
+    if raw % 2 == 1 then (if nat_lt last by then Err (error_at BadIndex at) else if nat_lt (last - by) (min count 4294967295) then Ok (last - by) else Err (error_at BadIndex at))
+    else (if nat_lt (last + by) (min count 4294967295) then Ok (last + by) else Err (error_at BadIndex at))
 
 -- the index that an item has by its flags, relative to the last one
 abbrev pub index_if : Bool → ℕ → List ℕ → ℕ → ℕ → ℕ → Result (Option ℕ) ScopesError
@@ -152,10 +152,14 @@ no_range = record { definition = None; is_stack_frame = false; is_hidden = false
 abbrev pub small_at : ℕ → List ℕ → ℕ → Result ℕ ScopesError
 small_at at ns k = number_at at ns k >>= λ n. if nat_lt 4294967295 n then Err (error_at TooLarge at) else Ok n
 
+-- an index of a source, at most 4294967294
+abbrev pub source_at : ℕ → List ℕ → ℕ → Result ℕ ScopesError
+source_at at ns k = number_at at ns k >>= λ n. if nat_lt 4294967294 n then Err (error_at TooLarge at) else Ok n
+
 -- `I` SOURCE LINE COLUMN: the innermost range that is open is the body of a call there
 unfoldable pub call_site_read : ℕ → State → List ℕ → Result State ScopesError
 call_site_read at s ns = do
-  source ← small_at at ns 1
+  source ← source_at at ns 1
   line ← small_at at ns 2
   column ← small_at at ns 3
   elim s.ranges.current [

@@ -1,10 +1,10 @@
 -- Laws of scopes: what is found from the innermost outward is what contains a position.
 use Rattle.std.specs.Prelude.{◌≡◌, ℕ, zero, suc, false, List, [], ◌∷◌, length, get_or}
-use Rattle.std.specs.Prelude.{Option, Some, None}
+use Rattle.std.specs.Prelude.{Option, Some, None, ◌<◌, IfSome, IfOk, slice_get}
 use Rattle.std.specs.Prelude.{if◌then◌else◌}
 use Rattle.oxc_sourcemap_scopes.specs.declared.scopes.Span.{Span}
 use Rattle.oxc_sourcemap_scopes.specs.Trees.{rank, span_at, contains}
-use Rattle.oxc_sourcemap_scopes.specs.Reading.{ScopesRecord, AreSound}
+use Rattle.oxc_sourcemap_scopes.specs.Reading.{ScopesRecord, AreSound, scopes_of}
 use Rattle.oxc_sourcemap_scopes.specs.Asking.{place, scope_at, range_at, function_at, frames_at}
 use Rattle.oxc_sourcemap_scopes.specs.Asking.{no_scope, FramesRecord, with_frames, calling_frames}
 use Rattle.oxc_sourcemap_scopes.specs.Asking.{function_of}
@@ -71,3 +71,24 @@ frames_in s (i ∷ more) =
 abbrev pub FramesContain : Type 0
 FramesContain = (s : ScopesRecord) (line column : ℕ) → AreSound s
     → frames_at s line column ≡ frames_in s (containing s.ranges 0 (place line column))
+
+-- a scope's name and its kind, if it has them, are among so many names
+pub record IsNamed (names : ℕ) (info : ScopeInfo) : Type 0 where
+  pub name : IfSome info.name (λ i. i < names)
+  pub kind : IfSome info.kind (λ i. i < names)
+
+-- those of all scopes
+abbrev pub AreNamed : ℕ → List ScopeInfo → Type 0
+AreNamed names infos = (i : ℕ) → (info : ScopeInfo) → slice_get infos i ≡ Some info → IsNamed names info
+
+-- each scope lies in one of the sources that are counted
+abbrev pub AreCounted : ScopesRecord → Type 0
+AreCounted s = (i : ℕ) → i < length s.scopes → (span_at s.scopes i).source < s.sources
+
+-- The sources of scopes that were read are below their number.
+abbrev pub SourcesLead : Type 0
+SourcesLead = (text : List ℕ) (names : ℕ) → IfOk (scopes_of text names) AreCounted
+
+-- The names and the kinds of scopes that were read are below the number of names.
+abbrev pub NamesLead : Type 0
+NamesLead = (text : List ℕ) (names : ℕ) → IfOk (scopes_of text names) (λ s. AreNamed names s.scope_infos)

@@ -3,6 +3,8 @@ use Rattle.std.specs.Prelude.{ℕ, List, ◌++◌, codes}
 use Rattle.std.specs.Fmt.{decimal}
 use Rattle.oxc_sourcemap_scopes.specs.declared.errors.ScopesError.{ScopesError}
 use Rattle.oxc_sourcemap_scopes.specs.declared.errors.ScopesError.TheVariants.{OutOfMemory, Fault}
+use Rattle.oxc_sourcemap_scopes.specs.declared.errors.ScopesError.TheVariants.{NotJson, NotText}
+use Rattle.oxc_sourcemap_scopes.specs.declared.errors.ScopesError.TheVariants.{Indexed}
 use Rattle.oxc_sourcemap_scopes.specs.declared.errors.ScopesFaultKind.{ScopesFaultKind}
 use Rattle.oxc_sourcemap_scopes.specs.declared.errors.ScopesFaultKind.TheVariants.{NotADigit}
 use Rattle.oxc_sourcemap_scopes.specs.declared.errors.ScopesFaultKind.TheVariants.{CutShort}
@@ -29,4 +31,7 @@ fault_text LeftOpen = codes "a scope or a range has no end"
 -- the message of an error
 abbrev pub error_text : ScopesError → List ℕ
 error_text OutOfMemory = codes "Out of memory"
+error_text NotJson = codes "the text is not JSON"
+error_text NotText = codes "`scopes` is no text"
+error_text Indexed = codes "the scopes of an indexed map are not read"
 error_text (Fault fault) = codes "scopes, byte " ++ decimal fault.byte ++ codes ": " ++ fault_text fault.kind

@@ -2,8 +2,16 @@
 use Rattle.std.specs.Prelude.{◌≡◌, ℕ, ◌+◌, ◌||◌, ◌==◌, Bool, List, [], ◌∷◌, length, slice_get, Some}
 use Rattle.std.specs.Prelude.{Result, Ok, Err}
 use Rattle.std.specs.Prelude.{if◌then◌else◌, is_some}
+use Rattle.std.specs.Prelude.{Option, None, codes, true, false}
+use Rattle.std.specs.Option.{option_map_or, option_and_then}
 use Rattle.std.specs.List.{slice_split}
+use Rattle.serde_json.specs.Data.{Data, null, boolean, number, string, array, object}
+use Rattle.serde_json.specs.Find.{get, as_array}
+use Rattle.serde_json.specs.Events.{items_len}
+use Rattle.serde_json.specs.Read.{read}
 use Rattle.oxc_sourcemap_scopes.specs.declared.errors.ScopesError.{ScopesError}
+use Rattle.oxc_sourcemap_scopes.specs.declared.errors.ScopesError.TheVariants.{NotJson, NotText}
+use Rattle.oxc_sourcemap_scopes.specs.declared.errors.ScopesError.TheVariants.{Indexed}
 use Rattle.oxc_sourcemap_scopes.specs.declared.errors.ScopesFaultKind.TheVariants.{LeftOpen}
 use Rattle.oxc_sourcemap_scopes.specs.declared.scopes.Span.{Span}
 use Rattle.oxc_sourcemap_scopes.specs.declared.scopes.ScopeInfo.{ScopeInfo}
@@ -55,3 +63,43 @@ items_of (byte ∷ bytes) = slice_split is_comma (byte ∷ bytes)
 -- the scopes that a text means, where there are so many names, or its first fault
 unfoldable pub scopes_of : List ℕ → ℕ → Result ScopesRecord ScopesError
 scopes_of text names = items_read names 0 nothing_read (items_of text) >>= finished (length text)
+
+-- the text of the scopes of a map, by that member of its JSON value; none, or null, is the empty text
+abbrev pub scopes_text : Option Data → Result (List ℕ) ScopesError
+scopes_text None = Ok []
+scopes_text (Some null) = Ok []
+scopes_text (Some (boolean b)) = Err NotText
+scopes_text (Some (number n)) = Err NotText
+scopes_text (Some (string s)) = Ok s
+scopes_text (Some (array ds)) = Err NotText
+scopes_text (Some (object ms)) = Err NotText
+
+-- how many names a map has, by its JSON value
+abbrev pub name_count : Data → ℕ
+name_count d = option_map_or items_len (option_and_then as_array (get (codes "names") d)) 0
+
+-- whether a JSON value is an indexed map: it has a member `sections` that is not null
+abbrev pub has_sections : Option Data → Bool
+has_sections None = false
+has_sections (Some null) = false
+has_sections (Some (boolean b)) = true
+has_sections (Some (number n)) = true
+has_sections (Some (string s)) = true
+has_sections (Some (array ds)) = true
+has_sections (Some (object ms)) = true
+
+-- the scopes of a map, by its JSON value; those of an indexed map stand in its sections, and are not read
+abbrev pub scopes_of_value : Data → Result ScopesRecord ScopesError
+scopes_of_value d =
+    if has_sections (get (codes "sections") d) then Err Indexed
+    else scopes_text (get (codes "scopes") d) >>= λ text. scopes_of text (name_count d)
+
+-- the scopes of a map, by its JSON text
+abbrev pub scopes_of_json : Option Data → Result ScopesRecord ScopesError
+scopes_of_json None = Err NotJson
+scopes_of_json (Some d) = scopes_of_value d
+
+-- The scopes of a map, by its JSON text, or what is wrong with it, the first of these: it is not JSON, it is an indexed map, its member
+-- `scopes` is no text, or that text has a fault.
+unfoldable pub read_scopes : List ℕ → Result ScopesRecord ScopesError
+read_scopes json = scopes_of_json (read json)

@@ -6,12 +6,15 @@ pub use Rattle.oxc_sourcemap_scopes.specs.Trees.{at_next_source}
 pub use Rattle.oxc_sourcemap_scopes.specs.Trees.{nothing_grown, AreNested, AreWithin, start_key}
 pub use Rattle.oxc_sourcemap_scopes.specs.Trees.{key}
 pub use Rattle.oxc_sourcemap_scopes.specs.Items.{number_at, number_if, moved, index_moved, index_if}
-pub use Rattle.oxc_sourcemap_scopes.specs.Items.{has_flag, small_at, range_end, room_in}
+pub use Rattle.oxc_sourcemap_scopes.specs.Items.{has_flag, small_at, source_at, range_end, room_in}
 pub use Rattle.oxc_sourcemap_scopes.specs.Items.{nothing_read, scope_started, next_if_closed}
 pub use Rattle.oxc_sourcemap_scopes.specs.Items.{source_passed, scope_ended, range_started}
 pub use Rattle.oxc_sourcemap_scopes.specs.Items.{range_ended}
 pub use Rattle.oxc_sourcemap_scopes.specs.Items.{call_site_read, item_read}
 pub use Rattle.oxc_sourcemap_scopes.specs.Reading.{items_read, items_of, finished, scopes_of}
+pub use Rattle.oxc_sourcemap_scopes.specs.Reading.{read_scopes, scopes_text, name_count}
+pub use Rattle.oxc_sourcemap_scopes.specs.Reading.{scopes_of_value, has_sections}
+pub use Rattle.serde_json.specs.View.{view}
 pub use Rattle.oxc_sourcemap_scopes.specs.Asking.{place, scope_at, range_at, function_of}
 pub use Rattle.oxc_sourcemap_scopes.specs.Asking.{function_at}
 pub use Rattle.oxc_sourcemap_scopes.specs.Asking.{callers_of, frames_of, frames_at, frames_record}

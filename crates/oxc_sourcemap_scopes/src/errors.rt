@@ -5,11 +5,17 @@ ghost use Rattle.oxc_sourcemap_scopes.specs.Words.{OutOfMemory, error_at, fault_
 use std::alloc::{AllocError, AllocFailed};
 use std::fmt;
 
-/// Why a text was not read.
+/// Why the scopes of a map were not read.
 #[derive(Clone, Copy, Debug, PartialEq, Eq)]
 pub enum ScopesError {
     /// An allocation failed.
     OutOfMemory,
+    /// The text of the map is not JSON.
+    NotJson,
+    /// The map is an indexed one, whose scopes stand in its sections: they are not read.
+    Indexed,
+    /// The member `scopes` of the map is neither a text nor null.
+    NotText,
     /// The text has this fault, its first.
     Fault(ScopesFault),
 }
@@ -30,11 +36,12 @@ pub enum ScopesFaultKind {
     NotADigit,
     /// Its last number ends in a digit after which another has to follow.
     CutShort,
-    /// One of its numbers has more than seven digits; or with it a line, a column or a source is above 4294967295.
+    /// One of its numbers has more than seven digits; or with it a line or a column is above 4294967295, or a source above 4294967294.
     TooLarge,
     /// It is empty, or lacks a number that its tag and flags ask for.
     MissingNumber,
-    /// Its index of a name or of a scope is below 0, past the last one, or above 4294967295.
+    /// Its index of a name or of a scope is below 0, past the last one (of scopes, the last that starts before it in the text), or above
+    /// 4294967294.
     BadIndex,
     /// It is an end, or a call site, and nothing that it could belong to is open.
     NothingOpen,
@@ -70,6 +77,9 @@ impl fmt::Display for ScopesError {
     fn fmt<W: fmt::Write>(&self, f: &mut fmt::Formatter<W>) -> fmt::Result {
         match self {
             ScopesError::OutOfMemory => write!(f, "Out of memory"),
+            ScopesError::NotJson => write!(f, "the text is not JSON"),
+            ScopesError::Indexed => write!(f, "the scopes of an indexed map are not read"),
+            ScopesError::NotText => write!(f, "`scopes` is no text"),
             ScopesError::Fault(fault) => {
                 write!(f, "scopes, byte {}: {}", fault.byte, fault.kind)
             }

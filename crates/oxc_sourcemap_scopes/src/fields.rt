@@ -3,7 +3,8 @@ ghost use Rattle.std.specs.Prelude.{◌≡◌, ◌≤◌, ◌<◌, ℕ, length, 
 ghost use Rattle.std.specs.Prelude.{OnOk};
 ghost use Rattle.std.specs.Prelude.{string_bytes, is_some, slice_get};
 ghost use Rattle.oxc_sourcemap_scopes.specs.Words.{Reads, number_at, number_if, moved, index_moved};
-ghost use Rattle.oxc_sourcemap_scopes.specs.Words.{index_if, has_flag, small_at, range_end};
+ghost use Rattle.oxc_sourcemap_scopes.specs.Words.{index_if, has_flag, small_at, source_at};
+ghost use Rattle.oxc_sourcemap_scopes.specs.Words.{range_end};
 ghost use Rattle.oxc_sourcemap_scopes.specs.Words.{room_in};
 ghost use Rattle.oxc_sourcemap_scopes.specs.Words.{place_of};
 
@@ -29,6 +30,17 @@ pub(crate) fn small_at(at: usize, numbers: &[u64], k: usize) -> Result<u32, Scop
 {
     let number = number_at(at, numbers, k)?;
     if number > 4294967295 {
+        return Err(ScopesError::at(ScopesFaultKind::TooLarge, at));
+    }
+    Ok(number as u32)
+}
+
+/// The index of a source, at most 4294967294.
+pub(crate) fn source_at(at: usize, numbers: &[u64], k: usize) -> Result<u32, ScopesError>
+    ensures { Reads (λ n. n) result (source_at at numbers.now k) }
+{
+    let number = number_at(at, numbers, k)?;
+    if number > 4294967294 {
         return Err(ScopesError::at(ScopesFaultKind::TooLarge, at));
     }
     Ok(number as u32)
@@ -76,7 +88,7 @@ pub(crate) fn moved(
     })
 }
 
-/// An index moved by a signed number, below a count.
+/// An index moved by a signed number, below a count, and at most 4294967294.
 pub(crate) fn index_moved(at: usize, last: u32, raw: u64, count: usize) -> Result<u32, ScopesError>
     ensures index { Reads (λ i. i) result (index_moved at last raw count) }
     ensures below { IfOk result (λ i. i < count) }
@@ -89,7 +101,7 @@ pub(crate) fn index_moved(at: usize, last: u32, raw: u64, count: usize) -> Resul
         last.checked_add(by)
     };
     match index {
-        Some(index) if index < (count as u64).min(4294967296) => Ok(index as u32),
+        Some(index) if index < (count as u64).min(4294967295) => Ok(index as u32),
         _ => Err(ScopesError::at(ScopesFaultKind::BadIndex, at)),
     }
 }

@@ -8,7 +8,7 @@ ghost use Rattle.oxc_sourcemap_scopes.specs.Words.{finished};
 
 use crate::errors::{ScopesError, ScopesFaultKind};
 use crate::fields::{
-    has_flag, index_if, moved, number_at, number_if, range_end, room_in, small_at,
+    has_flag, index_if, moved, number_at, number_if, range_end, room_in, small_at, source_at,
 };
 use crate::scopes::{CallSite, RangeInfo, ScopeInfo, Scopes};
 use crate::trees::Tree;
@@ -176,7 +176,7 @@ impl Read {
     fn read_call_site(mut self, at: usize, numbers: &[u64]) -> Result<Self, ScopesError>
         ensures { Reads (λ r. r) result (call_site_read at self numbers.now) }
     {
-        let source = small_at(at, numbers, 1)?;
+        let source = source_at(at, numbers, 1)?;
         let line = small_at(at, numbers, 2)?;
         let column = small_at(at, numbers, 3)?;
         let Some(index) = self.ranges.current() else {

@@ -13,8 +13,8 @@ mod numbers;
 mod scopes;
 mod trees;
 
-pub use decoding::decode_scopes;
+pub use decoding::{decode_scopes, read_scopes};
 pub use errors::{ScopesError, ScopesFault, ScopesFaultKind};
 pub use frames::{Frames, GeneratedRange, OriginalScope};
-pub use laws::found_contain;
+pub use laws::{found_contain, scopes_lead};
 pub use scopes::{CallSite, ScopeFrame, Scopes};

@@ -1,0 +1,115 @@
+-- What each item keeps, all keep: of what items say, and of what was read at the end.
+use Rattle.std.proofs.Common.{◌≡◌, ℕ, ◌+◌, ◌-◌, ◌/◌, ◌%◌, ◌==◌, ◌<◌, Bool, true, false, List, []}
+use Rattle.std.proofs.Common.{◌∷◌, ◌++◌, length, Option, Some, None, Result, Ok, Err}
+use Rattle.std.proofs.Common.{min, nat_lt, if◌then◌else◌, is_some, arith, refl, ◌||◌}
+use Rattle.std.specs.Option.{IfSome}
+use Rattle.std.specs.Result.{IfOk}
+use Rattle.std.proofs.lemmas.Bool.Decides.{nat_tests}
+use Rattle.oxc_sourcemap_tokens.specs.declared.position.Position.{Position}
+use Rattle.oxc_sourcemap_scopes.specs.declared.errors.ScopesError.{ScopesError}
+use Rattle.oxc_sourcemap_scopes.specs.declared.scopes.ScopeInfo.{ScopeInfo}
+use Rattle.oxc_sourcemap_scopes.specs.declared.scopes.RangeInfo.{RangeInfo}
+use Rattle.oxc_sourcemap_scopes.specs.Faults.{◌>>=◌}
+use Rattle.oxc_sourcemap_scopes.specs.Numbers.{numbers_of}
+use Rattle.oxc_sourcemap_scopes.specs.Trees.{Grown, started, ended}
+use Rattle.oxc_sourcemap_scopes.specs.Items.{State, nothing_read, number_at, number_if, moved}
+use Rattle.oxc_sourcemap_scopes.specs.Items.{index_moved, index_if, has_flag, room_in}
+use Rattle.oxc_sourcemap_scopes.specs.Items.{scope_started}
+use Rattle.oxc_sourcemap_scopes.specs.Items.{next_if_closed, source_passed, scope_ended}
+use Rattle.oxc_sourcemap_scopes.specs.Items.{range_started, range_end, range_ended, small_at}
+use Rattle.oxc_sourcemap_scopes.specs.Items.{source_at, call_site_read, item_read}
+use Rattle.oxc_sourcemap_scopes.specs.Reading.{ScopesRecord, items_read, items_of, finished}
+use Rattle.oxc_sourcemap_scopes.specs.Reading.{scopes_of}
+use Rattle.oxc_sourcemap_scopes.specs.Laws.{IsNamed}
+
+-- what holds of what is read next
+bound : {A B : Type 0} (r : Result A ScopesError) (f : A → Result B ScopesError) (P : A → Type 0) (Q : B → Type 0) → IfOk r P → ((x : A) → P x → IfOk (f x) Q) → IfOk (r >>= f) Q
+bound (Ok x) f P Q h k = k x h
+bound (Err e) f P Q h k = tt
+
+-- the same where nothing has to hold before
+bound-any : {A B : Type 0} (r : Result A ScopesError) (f : A → Result B ScopesError) (Q : B → Type 0) → ((x : A) → IfOk (f x) Q) → IfOk (r >>= f) Q
+bound-any (Ok x) f Q k = k x
+bound-any (Err e) f Q k = tt
+
+-- what holds of either branch
+pub branched : {A : Type 0} (b : Bool) (x y : Result A ScopesError) (P : A → Type 0) → IfOk x P → IfOk y P → IfOk (if b then x else y) P
+branched true x y P h k = h
+branched false x y P h k = k
+
+-- what holds of what is read where there is an index
+opened : {A : Type 0} (o : Option ℕ) (e : ScopesError) (f : ℕ → Result A ScopesError) (P : A → Type 0) → ((i : ℕ) → IfOk (f i) P) → IfOk (elim o [ None ↦ Err e | Some i ↦ f i ]) P
+opened None e f P k = tt
+opened (Some i) e f P k = k i
+
+below-test : (x count : ℕ) (e : ScopesError) → IfOk (if nat_lt x (min count 4294967295) then Ok x else Err e) (λ i. i < count)
+below-test x count e = elim (nat_lt x (min count 4294967295)) as (λ b. nat_lt x (min count 4294967295) ≡ b → IfOk (if b then Ok x else Err e) (λ i. i < count)) [
+  | true ↦ (λ is. grind (arith, nat_tests, is))
+  | false ↦ (λ _. tt)
+] refl
+
+index-below : (at last raw count : ℕ) → IfOk (index_moved at last raw count) (λ i. i < count)
+index-below at last raw count =
+    branched (raw % 2 == 1) _ _ (λ i. i < count) (branched (nat_lt last (raw / 2)) _ _ (λ i. i < count) tt (below-test (last - raw / 2) count _)) (below-test (last + raw / 2) count _)
+
+-- an index that an item may have is below the count
+index-if-below : (is_there : Bool) (at : ℕ) (ns : List ℕ) (k last count : ℕ) → IfOk (index_if is_there at ns k last count) (λ o. IfSome o (λ i. i < count))
+index-if-below true at ns k last count =
+    bound-any (number_at at ns k) _ (λ o. IfSome o (λ i. i < count)) (λ raw. bound (index_moved at last raw count) _ (λ i. i < count) (λ o. IfSome o (λ i. i < count)) (index-below at last raw count) (λ i l. l))
+index-if-below false at ns k last count = tt
+
+-- what a start, an end and what is said of ranges keep
+module _ (names : ℕ) (P : State → Type 0)
+    (starts : (s : State) (here : Position) (info : ScopeInfo) (name kind : ℕ) → P s → IsNamed names info
+    → P (record s { scopes = started s.scopes here; scope_infos = s.scope_infos ++ info ∷ []; name = name; kind = kind }))
+    (closes : (at : ℕ) (s : State) → P s → IfOk (next_if_closed at s) P)
+    (ends : (at : ℕ) (s : State) (i : ℕ) (here : Position) → P s → IfOk (next_if_closed at (record s { scopes = ended s.scopes i here })) P)
+    (ranges : (s : State) (t : Grown) (infos : List RangeInfo) (definition : ℕ) → P s → P (record s { ranges = t; range_infos = infos; definition = definition })) where
+  start-kept : (at : ℕ) (s : State) (ns : List ℕ) → P s → IfOk (scope_started names at s ns) P
+  unfolding scope_started
+  start-kept at s ns h =
+      bound-any (number_at at ns 1) _ P (λ flags. bound-any (number_at at ns 2) _ P (λ line. bound-any (number_at at ns 3) _ P (λ column. bound-any (moved at s.scopes.position line column) _ P (λ here.
+      bound (index_if (has_flag flags 1) at ns 4 s.name names) _ (λ o. IfSome o (λ i. i < names)) P (index-if-below (has_flag flags 1) at ns 4 s.name names) (λ name n.
+      bound (index_if (has_flag flags 2) at ns (if has_flag flags 1 then 5 else 4) s.kind names) _ (λ o. IfSome o (λ i. i < names)) P (index-if-below (has_flag flags 2) at ns (if has_flag flags 1 then 5 else 4) s.kind names) (λ kind k.
+      bound-any (room_in at s.scopes) _ P (λ room. starts s here _ _ _ h (record { name = n; kind = k }))))))))
+
+  pass-kept : (at : ℕ) (s : State) → P s → IfOk (source_passed at s) P
+  unfolding source_passed
+  pass-kept at s h = branched (is_some s.scopes.current) _ _ P tt (closes at s h)
+
+  end-kept : (at : ℕ) (s : State) (ns : List ℕ) → P s → IfOk (scope_ended at s ns) P
+  unfolding scope_ended
+  end-kept at s ns h =
+      bound-any (number_at at ns 1) _ P (λ line. bound-any (number_at at ns 2) _ P (λ column. bound-any (moved at s.scopes.position line column) _ P (λ here. opened s.scopes.current _ _ P (λ i. ends at s i here h))))
+
+  range-start-kept : (at : ℕ) (s : State) (ns : List ℕ) → P s → IfOk (range_started at s ns) P
+  unfolding range_started
+  range-start-kept at s ns h =
+      bound-any (number_at at ns 1) _ P (λ flags. bound-any (number_if (has_flag flags 1) at ns 2) _ P (λ line. bound-any (number_at at ns (if has_flag flags 1 then 3 else 2)) _ P (λ column.
+      bound-any (moved at s.ranges.position line column) _ P (λ here. bound-any (index_if (has_flag flags 2) at ns (if has_flag flags 1 then 4 else 3) s.definition (length s.scopes.spans)) _ P (λ definition.
+      bound-any (room_in at s.ranges) _ P (λ room. ranges s _ _ _ h))))))
+
+  range-end-kept : (at : ℕ) (s : State) (ns : List ℕ) → P s → IfOk (range_ended at s ns) P
+  unfolding range_ended
+  range-end-kept at s ns h = bound-any (range_end at s.ranges.position ns) _ P (λ here. opened s.ranges.current _ _ P (λ i. ranges s _ s.range_infos s.definition h))
+
+  call-kept : (at : ℕ) (s : State) (ns : List ℕ) → P s → IfOk (call_site_read at s ns) P
+  unfolding call_site_read
+  call-kept at s ns h =
+      bound-any (source_at at ns 1) _ P (λ source. bound-any (small_at at ns 2) _ P (λ line. bound-any (small_at at ns 3) _ P (λ column. opened s.ranges.current _ _ P (λ i. ranges s s.ranges _ s.definition h))))
+
+  item-kept : (at : ℕ) (s : State) (ns : List ℕ) → P s → IfOk (item_read names at s ns) P
+  unfolding item_read
+  item-kept at s ns h =
+      bound-any (number_at at ns 0) _ P (λ tag. branched (tag == 0) _ _ P (pass-kept at s h) (branched (tag == 1) _ _ P (start-kept at s ns h) (branched (tag == 2) _ _ P (end-kept at s ns h)
+      (branched (tag == 4) _ _ P (range-start-kept at s ns h) (branched (tag == 5) _ _ P (range-end-kept at s ns h) (branched (tag == 8) _ _ P (call-kept at s ns h) h))))))
+
+  items-kept : (items : List (List ℕ)) (at : ℕ) (s : State) → P s → IfOk (items_read names at s items) P
+  items-kept [] at s h = h
+  items-kept (item ∷ more) at s h =
+      bound-any (numbers_of at item) _ P (λ ns. bound (item_read names at s ns) _ P P (item-kept at s ns h) (λ next n. items-kept more (at + length item + 1) next n))
+
+  -- what holds before the first item, and of what was read at the end where nothing is open, holds of what a text means
+  pub all-kept : (Q : ScopesRecord → Type 0) (text : List ℕ) → P nothing_read → ((s : State) → P s → IfOk (finished (length text) s) Q) → IfOk (scopes_of text names) Q
+  unfolding scopes_of
+  all-kept Q text first last = bound (items_read names 0 nothing_read (items_of text)) (finished (length text)) P Q (items-kept (items_of text) 0 nothing_read first) last

@@ -19,7 +19,7 @@
 #include <sys/mman.h>
 
 static uint64_t state, seed;
-static unsigned long read_maps, refused_maps, damaged_bytes, damaged_maps, taken_apart;
+static unsigned long read_maps, refused_maps, damaged_bytes, damaged_maps, taken_apart, read_scopes, refused_scopes;
 
 #define MUST(condition) must(condition, __LINE__, #condition)
 static void must(int is_so, int line, const char *condition) {
@@ -525,6 +525,124 @@ static void evaluate(const buffer *text) {
     MADE(smap_evaluate(words, len, texts, 2, &out, &fault));
 }
 
+/* ---- scopes ---- */
+
+/* Texts of scopes, whole ones and single items. */
+static const char *const SCOPES[] = {
+    "BFAAA,BHCAGA,CCA,BACA,CCA,CJA,", "A,BCCDA,CAG,", "EGAA,ECKC,IAFC,FK,FU,", "EMA,ECCA,FE,FC,", "BAAA,DAC,CJA,",
+    "BFAAA,CJA,",                     "BABA,",         "CBA,",                  "ECAC,",           "EBBA,",
+    "EAC,",                           "FBA,",          "FC,",                   "IACB,",           "IBED,",
+};
+
+/* A text of such, or of digits at random, without the last comma. */
+static buffer scopes_text(char *room) {
+    buffer it = { room, 0 };
+    for (size_t n = below(12); n; n--) {
+        const char *piece = SCOPES[below(sizeof SCOPES / sizeof *SCOPES)];
+        replace(&it, it.len, 0, piece, strlen(piece));
+    }
+    if (it.len && below(16)) it.len--;
+    for (size_t n = below(3) ? 0 : below(3); n; n--) {
+        char byte = "ABCDEFGHIJKLgh/,;"[below(17)];
+        replace(&it, below(it.len + 1), below(2), &byte, 1);
+    }
+    return it;
+}
+
+static int is_before(smap_position one, smap_position other) {
+    return one.line < other.line || (one.line == other.line && one.column < other.column);
+}
+
+static int is_within(smap_position at, smap_position start, smap_position end) {
+    return !is_before(at, start) && is_before(at, end);
+}
+
+/* Scopes and ranges lie in those around them, which come before them, and their ids are those of something. */
+static void are_sound(const smap_scopes *scopes, const smap_scopes_counts *counts, size_t names) {
+    smap_scope scope, outer;
+    smap_range range, around;
+    for (uint32_t i = 0; i < counts->scopes; i++) {
+        MUST(smap_get_scope(scopes, i, &scope) == SMAP_OK && scope.source < counts->sources && !is_before(scope.end, scope.start));
+        MUST((scope.name == SMAP_NO_ID || scope.name < names) && (scope.kind == SMAP_NO_ID || scope.kind < names));
+        MUST(scope.is_stack_frame < 2);
+        if (scope.parent == SMAP_NO_ID) continue;
+        MUST(scope.parent < i && smap_get_scope(scopes, scope.parent, &outer) == SMAP_OK && outer.source == scope.source);
+        MUST(!is_before(scope.start, outer.start) && !is_before(outer.end, scope.end));
+    }
+    for (uint32_t i = 0; i < counts->ranges; i++) {
+        MUST(smap_get_range(scopes, i, &range) == SMAP_OK && !is_before(range.end, range.start));
+        MUST(range.is_stack_frame < 2 && range.is_hidden < 2);
+        MUST(range.definition == SMAP_NO_ID || range.definition < counts->scopes);
+        if (range.parent == SMAP_NO_ID) continue;
+        MUST(range.parent < i && smap_get_range(scopes, range.parent, &around) == SMAP_OK);
+        MUST(!is_before(range.start, around.start) && !is_before(around.end, range.end));
+    }
+    MUST(smap_get_scope(scopes, (uint32_t)counts->scopes, &scope) == SMAP_NO_ENTRY);
+    MUST(smap_get_range(scopes, (uint32_t)counts->ranges, &range) == SMAP_NO_ENTRY);
+}
+
+/* A position of a source, and then of the code. */
+static void ask_scopes(const smap_scopes *scopes, const smap_scopes_counts *counts) {
+    smap_counts most = { 0, 0, 0, 0, 0, 9, 0 };
+    smap_position at = any_position(&most);
+    smap_scope scope;
+    smap_range range;
+    uint32_t index, source = (uint32_t)below(counts->sources + 1), is_hidden = 7;
+    size_t count, few = below(3);
+    if (!smap_scope_at(scopes, source, at.line, at.column, &index))
+        MUST(smap_get_scope(scopes, index, &scope) == SMAP_OK && scope.source == source && is_within(at, scope.start, scope.end));
+    if (!smap_function_at(scopes, source, at.line, at.column, &index))
+        MUST(smap_get_scope(scopes, index, &scope) == SMAP_OK && scope.is_stack_frame && is_within(at, scope.start, scope.end));
+    uint32_t code = smap_range_at(scopes, at.line, at.column, &index);
+    if (!code) MUST(smap_get_range(scopes, index, &range) == SMAP_OK && is_within(at, range.start, range.end));
+    MUST(smap_frames_at(scopes, at.line, at.column, NULL, 0, &count, &is_hidden) == SMAP_OK);
+    MUST(is_hidden < 2 && (count == 0) == (code != SMAP_OK));
+    smap_frame *frames = exact(OUT, count * sizeof *frames);
+    MUST(smap_frames_at(scopes, at.line, at.column, frames, count, &count, NULL) == SMAP_OK);
+    for (size_t i = 0; i < count; i++) {
+        MUST((frames[i].call.source == SMAP_NO_ID) == (i == 0));
+        if (frames[i].scope == SMAP_NO_ID) MUST(frames[i].name == SMAP_NO_ID);
+        else MUST(smap_get_scope(scopes, frames[i].scope, &scope) == SMAP_OK && scope.is_stack_frame && scope.name == frames[i].name);
+    }
+    frames = exact(OUT, few * sizeof *frames);
+    MUST(smap_frames_at(scopes, at.line, at.column, frames, few, &count, &is_hidden) == SMAP_OK);
+}
+
+/* Scopes that were read, or a fault. */
+static void use_scopes(uint32_t code, smap_scopes *scopes, const smap_fault *fault, size_t names) {
+    smap_scopes_counts counts;
+    told(code, fault);
+    if (code) {
+        refused_scopes++;
+        return;
+    }
+    read_scopes++;
+    MUST(smap_scopes_get_counts(scopes, &counts) == SMAP_OK);
+    are_sound(scopes, &counts, names);
+    for (int i = 0; i < 8; i++) ask_scopes(scopes, &counts);
+    smap_free_scopes(scopes);
+}
+
+/* Scopes alone, and those that a text has. */
+static void try_scopes(const buffer *text) {
+    static char room[4096];
+    buffer it = scopes_text(room);
+    smap_scopes *scopes = NULL;
+    smap_fault fault;
+    size_t names = below(4) ? 9 : below(3);
+    uint32_t code = smap_decode_scopes(copied(it.at, it.len), it.len, names, &scopes, &fault);
+    MUST(code != SMAP_BAD_SCOPES || fault.detail <= it.len);
+    MUST(code != SMAP_BAD_SCOPES || (fault.field >= SMAP_SCOPES_NOT_A_DIGIT && fault.field <= SMAP_SCOPES_LEFT_OPEN));
+    use_scopes(code, scopes, &fault, names);
+    /* (a map of a file has no scopes, unless they came there by chance) */
+    code = smap_read_scopes(copied(text->at, text->len), text->len, &scopes, &fault);
+    use_scopes(code, scopes, &fault, MOST);
+    char *json = exact(INPUT, it.len + 13);
+    memcpy(json, "{\"scopes\":\"", 11), memcpy(json + 11, it.at, it.len), memcpy(json + 11 + it.len, "\"}", 2);
+    code = smap_read_scopes(json, it.len + 13, &scopes, &fault);
+    use_scopes(code, scopes, &fault, 0);
+}
+
 /* Every call on a map that was read. */
 static void use(smap_map *map, const smap_map *other, const buffer *text, const buffer *code) {
     smap_counts counts;
@@ -571,6 +689,7 @@ static void try_text(const buffer *text, smap_map **kept) {
     smap_counts counts;
     if (map && smap_get_counts(map, &counts) == SMAP_OK) change(map, &counts, text);
     if (!below(4)) evaluate(text);
+    try_scopes(text);
     smap_free_mends(mends);
     smap_free_map(map);
     if (found) smap_free_map(*kept), *kept = found;
@@ -606,6 +725,8 @@ int main(int argc, char **argv) {
     }
     printf("%lu texts read, %lu refused; %lu compiled maps damaged, %lu of them opened, %lu taken apart\n", read_maps, refused_maps, damaged_bytes,
            damaged_maps, taken_apart);
+    printf("%lu texts of scopes read, %lu refused\n", read_scopes, refused_scopes);
+    MUST(rounds < 1000 || (read_scopes > rounds / 2 && refused_scopes > rounds / 2));
     MUST(rounds < 1000 || (taken_apart > rounds && damaged_maps > taken_apart && damaged_bytes > damaged_maps));
     smap_free_map(kept);
     for (size_t i = 0; i < files_len; i++) free(files[i].at);

@@ -6,8 +6,7 @@
  *  - an array of texts with null entries, and one of maps, is copied;
  *  - of the contents of sources, those that are told not to be known get a null address. */
 #define _POSIX_C_SOURCE 200809L
-#include "oxc_sourcemap.h"
-#include "proved.h"
+#include "layer.h"
 
 #include <stdlib.h>
 #include <string.h>
@@ -20,14 +19,6 @@
 #include <sys/stat.h>
 #include <unistd.h>
 #endif
-
-/* A pointer, or what stands for null. */
-#define OR(at, own) ((at) ? (at) : (own))
-/* What a proved call changes or frees, and what it reads: the address of a copy of the pointer, which is that call's alone. */
-#define HANDLE(at) (&(proved_handle){ at })
-#define LENT(at) (&(proved_lent){ at })
-/* What a call reads that lends texts, by value. */
-#define LOAN(at) ((proved_lent){ at })
 
 /* Stand for arrays of no entries. */
 static const smap_token no_token;
@@ -787,6 +778,9 @@ const char *smap_code_name(uint32_t code) {
         NAMED(SMAP_COMPILED_VERSION);
         NAMED(SMAP_COMPILED_LENGTH);
         NAMED(SMAP_COMPILED_SIZES);
+        NAMED(SMAP_BAD_SCOPES);
+        NAMED(SMAP_SCOPES_NOT_TEXT);
+        NAMED(SMAP_SCOPES_INDEXED);
         NAMED(SMAP_NULL_HANDLE);
         NAMED(SMAP_NOT_UTF8);
         NAMED(SMAP_LENGTHS);

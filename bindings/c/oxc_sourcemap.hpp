@@ -45,6 +45,11 @@ using Piece = smap_piece;
 using Mend = smap_mend;
 using Counts = smap_counts;
 using CompiledCounts = smap_compiled_counts;
+using ScopesCounts = smap_scopes_counts;
+using Scope = smap_scope;
+using Range = smap_range;
+using Call = smap_call;
+using Frame = smap_frame;
 
 enum class Bias : std::uint32_t { Before = SMAP_BEFORE, Clamped = SMAP_CLAMPED, After = SMAP_AFTER };
 enum class Direction : std::uint32_t { At = SMAP_AT, For = SMAP_FOR, From = SMAP_FROM, OnLine = SMAP_ON_LINE };
@@ -661,6 +666,70 @@ class CompiledFile {
 
     Owner file_; /* (freed after the map that is open in it) */
     CompiledMap map_;
+};
+
+/* The frames of the source that a position of the generated code stands for, from the inside out, and whether the source has none such. */
+struct Frames {
+    std::vector<Frame> frames;
+    bool is_hidden;
+};
+
+/* The scopes of a map, which have the functions of its sources, and what was inlined where. What is not there is SMAP_NO_ID.
+ *
+ *     auto scopes = oxc_sourcemap::Scopes::read(json);
+ *     for (const auto &frame : scopes.frames_at(0, 25).frames) std::cout << map.name(frame.name).value_or("anonymous") << '\n';
+ */
+class Scopes {
+  public:
+    Scopes() noexcept = default;
+    explicit Scopes(smap_scopes *handle) noexcept : own_(handle) {}
+
+    /* By the JSON text of the map. */
+    static Scopes read(std::string_view json) {
+        return detail::made<Scopes, smap_scopes>(
+            [&](smap_scopes **out, smap_fault *fault) { return smap_read_scopes(json.data(), json.size(), out, fault); });
+    }
+
+    /* By its member `scopes` alone, where it has so many names. */
+    static Scopes decode(std::string_view text, std::size_t names) {
+        return detail::made<Scopes, smap_scopes>(
+            [&](smap_scopes **out, smap_fault *fault) { return smap_decode_scopes(text.data(), text.size(), names, out, fault); });
+    }
+
+    ScopesCounts counts() const {
+        return *detail::entry<ScopesCounts>([&](ScopesCounts *out) { return smap_scopes_get_counts(get(), out); });
+    }
+    std::optional<Scope> scope(std::uint32_t index) const {
+        return detail::entry<Scope>([&](Scope *out) { return smap_get_scope(get(), index, out); });
+    }
+    std::optional<Range> range(std::uint32_t index) const {
+        return detail::entry<Range>([&](Range *out) { return smap_get_range(get(), index, out); });
+    }
+
+    /* Indices. */
+    std::optional<std::uint32_t> scope_at(std::uint32_t source, std::uint32_t line, std::uint32_t column) const {
+        return detail::entry<std::uint32_t>([&](std::uint32_t *out) { return smap_scope_at(get(), source, line, column, out); });
+    }
+    std::optional<std::uint32_t> function_at(std::uint32_t source, std::uint32_t line, std::uint32_t column) const {
+        return detail::entry<std::uint32_t>([&](std::uint32_t *out) { return smap_function_at(get(), source, line, column, out); });
+    }
+    std::optional<std::uint32_t> range_at(std::uint32_t line, std::uint32_t column) const {
+        return detail::entry<std::uint32_t>([&](std::uint32_t *out) { return smap_range_at(get(), line, column, out); });
+    }
+
+    /* The frames at a position of the generated code. The first is where the map's `trace` leads. */
+    Frames frames_at(std::uint32_t line, std::uint32_t column) const {
+        std::uint32_t is_hidden = 0;
+        auto frames = detail::list<Frame>([&](Frame *out, std::size_t len, std::size_t *count) {
+            return smap_frames_at(get(), line, column, out, len, count, &is_hidden);
+        });
+        return {std::move(frames), is_hidden != 0};
+    }
+
+    const smap_scopes *get() const noexcept { return own_.get(); }
+
+  private:
+    detail::Owner<smap_scopes, smap_free_scopes> own_;
 };
 
 /* The mappings text of tokens. */

@@ -180,6 +180,55 @@ void compiles(const std::string &path) {
     CHECK(thrown([&] { CompiledFile file(path); }) == SMAP_NO_FILE);
 }
 
+/* inner was inlined into outer, at columns 20 to 30. */
+const char *const INLINED = R"({"version":3,"sources":["a.js"],"names":["n0","global","outer","function","a","inner","x"],)"
+                            R"("mappings":"AAAA","scopes":"BCAAC,BHBAEE,DI,CDB,BHBAGA,CCB,CBA,ECAA,EGKC,GH,ECKC,IADE,FK,FK,FBA"})";
+
+bool is(const Frame &frame, std::uint32_t name, std::uint32_t scope, std::uint32_t source, std::uint32_t line, std::uint32_t column) {
+    return frame.name == name && frame.scope == scope && frame.call.source == source && frame.call.line == line && frame.call.column == column;
+}
+
+void scopes() {
+    auto scopes = Scopes::read(INLINED);
+    CHECK(scopes.counts().sources == 1 && scopes.counts().scopes == 3 && scopes.counts().ranges == 3);
+    auto outer = *scopes.scope(1);
+    CHECK(outer.source == 0 && outer.start.line == 1 && outer.start.column == 0 && outer.end.line == 4 && outer.end.column == 1);
+    CHECK(outer.name == 2 && outer.kind == 3 && outer.is_stack_frame == 1 && outer.parent == 0 && scopes.scope(0)->parent == SMAP_NO_ID);
+    auto inlined = *scopes.range(2);
+    CHECK(inlined.start.column == 20 && inlined.end.column == 30 && inlined.definition == 2 && inlined.parent == 1 && !scopes.range(3));
+    CHECK(inlined.call.source == 0 && inlined.call.line == 3 && inlined.call.column == 4 && !inlined.is_stack_frame && !inlined.is_hidden);
+    CHECK(scopes.scope_at(0, 4, 0) == 1u && scopes.scope_at(0, 4, 1) == 0u && !scopes.scope_at(0, 8, 0) && !scopes.scope_at(1, 4, 0));
+    CHECK(scopes.function_at(0, 5, 0) == 2u && !scopes.function_at(0, 4, 1) && !scopes.scope(3));
+    CHECK(scopes.range_at(0, 29) == 2u && scopes.range_at(0, 30) == 1u && !scopes.range_at(1, 0));
+    auto found = scopes.frames_at(0, 25);
+    CHECK(found.frames.size() == 2 && is(found.frames[0], 5, 2, SMAP_NO_ID, SMAP_NO_ID, SMAP_NO_ID) && is(found.frames[1], 2, 1, 0, 3, 4));
+    CHECK(!found.is_hidden && SourceMap::from_json(INLINED).name(found.frames[1].name) == "outer" && scopes.frames_at(1, 0).frames.empty());
+    auto helper = Scopes::decode("ENDC,FCH", 0);
+    CHECK(helper.frames_at(4, 0).is_hidden && !helper.frames_at(5, 7).is_hidden && helper.range(0)->is_hidden == 1 && helper.range(0)->is_stack_frame == 1);
+    CHECK(Scopes::decode("A,A", 0).counts().sources == 2 && Scopes::decode({}, 0).counts().sources == 0 && Scopes::read("{}").counts().scopes == 0);
+    try {
+        Scopes::decode("A,BBAAC", 1);
+        CHECK(false);
+    } catch (const Error &error) {
+        CHECK(error.code() == SMAP_BAD_SCOPES && error.fault().field == SMAP_SCOPES_BAD_INDEX && error.detail() == 2 && error.place().empty());
+        CHECK(error.what() == std::string_view("scopes, byte 2: an index leads to no name or scope"));
+    }
+    CHECK(Scopes::decode("BBAAC,CAA", 2).scope(0)->name == 1 && thrown([] { Scopes::read(R"({"scopes":1})"); }) == SMAP_SCOPES_NOT_TEXT);
+    CHECK(thrown([] { Scopes::read("{"); }) == SMAP_JSON_READING && thrown([] { Scopes::decode("\xff", 0); }) == SMAP_NOT_UTF8);
+    bool is_refused = false;
+    refuses = true;
+    try {
+        scopes.frames_at(0, 25);
+    } catch (const std::bad_alloc &) {
+        is_refused = true;
+    }
+    refuses = false;
+    CHECK(is_refused);
+    auto moved = std::move(scopes);
+    CHECK(thrown([&] { scopes.counts(); }) == SMAP_NULL_HANDLE && thrown([&] { scopes.frames_at(0, 0); }) == SMAP_NULL_HANDLE);
+    CHECK(moved.get() && !scopes.get() && moved.counts().scopes == 3);
+}
+
 void fails() {
     try {
         SourceMap::from_json(R"({"version":3,"sources":["a.js"],"names":[],"mappings":"AAAA,DAAA"})");
@@ -220,6 +269,7 @@ template <class> std::false_type opens(...);
 static_assert(decltype(opens<const Text &>(0))::value && !decltype(opens<Text>(0))::value && !decltype(opens<std::string>(0))::value);
 static_assert(!std::is_constructible_v<JoinPart, SourceMap, Position> && !std::is_constructible_v<RemapInput, const char *, SourceMap>);
 static_assert(!std::is_copy_constructible_v<SourceMap> && std::is_nothrow_move_constructible_v<SourceMap>);
+static_assert(!std::is_copy_constructible_v<Scopes> && std::is_nothrow_move_constructible_v<Scopes>);
 static_assert(std::is_nothrow_move_constructible_v<CompiledFile> && std::is_nothrow_copy_constructible_v<Error>);
 
 } // namespace
@@ -230,6 +280,7 @@ int main(int, char **words) {
     writes();
     makes_of_others();
     compiles(words[1]);
+    scopes();
     fails();
     std::puts("passed");
 }

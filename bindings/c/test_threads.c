@@ -1,6 +1,6 @@
-/* Threads: eight read one map, one string, one list of mends and one compiled map at once, by every call that takes a `const` handle, and
- * each gets the answers that one thread gets; and maps are made, changed and freed by threads that hand them on. It is run under
- * helgrind, and built with a thread sanitizer. The last line says how many threads answered otherwise.
+/* Threads: eight read one map, one string, one list of mends, one compiled map and the scopes of one at once, by every call that
+ * takes a `const` handle, and each gets the answers that one thread gets; and maps are made, changed and freed by threads that hand
+ * them on. It is run under helgrind, and built with a thread sanitizer. The last line says how many threads answered otherwise.
  *
  *   test_threads [ROUNDS | race]
  *
@@ -25,6 +25,7 @@ static const smap_map *map, *input;
 static const smap_string *string;
 static const smap_mends *mends;
 static const smap_compiled *compiled;
+static const smap_scopes *scopes;
 static int rounds = 100;
 
 static void must(uint32_t code) {
@@ -149,6 +150,25 @@ static void add_compiled(uint64_t *sum) {
     add_map(sum, back);
 }
 
+/* What scopes hold, and what they answer. */
+static void add_scopes(uint64_t *sum) {
+    smap_scopes_counts counts;
+    smap_scope scope;
+    smap_range range;
+    smap_frame frames[2];
+    uint32_t found[3], is_hidden;
+    size_t count;
+    must(smap_scopes_get_counts(scopes, &counts));
+    must(smap_get_scope(scopes, 1, &scope));
+    must(smap_get_range(scopes, 1, &range));
+    must(smap_scope_at(scopes, 0, 3, 0, &found[0]));
+    must(smap_function_at(scopes, 0, 5, 0, &found[1]));
+    must(smap_range_at(scopes, 0, 12, &found[2]));
+    must(smap_frames_at(scopes, 0, 12, frames, 2, &count, &is_hidden));
+    add(sum, counts.scopes + scope.end.line + range.end.column + found[0] + found[1] + found[2] + count + is_hidden);
+    for (size_t i = 0; i < count; i++) add(sum, frames[i].name), add(sum, frames[i].scope), add(sum, frames[i].call.line);
+}
+
 /* What is made of a map. */
 static void add_made(uint64_t *sum) {
     const smap_map *maps[2] = { map, input };
@@ -188,6 +208,7 @@ static void *reads(void *out) {
         add_held(&sum);
         add_lookups(&sum);
         add_compiled(&sum);
+        add_scopes(&sum);
         add_made(&sum);
     }
     *(uint64_t *)out = sum;
@@ -249,6 +270,7 @@ int main(int argc, char **argv) {
     smap_string *text, *bytes;
     smap_mends *told;
     smap_compiled *opened;
+    smap_scopes *of_map;
     smap_text lent;
     uint64_t wanted, sums[THREADS];
     int numbers[THREADS], wrong = 0;
@@ -265,7 +287,8 @@ int main(int argc, char **argv) {
     must(smap_compile(made, 7, NULL, &bytes, NULL));
     must(smap_get_text(bytes, &lent));
     must(smap_open_compiled(lent.at, lent.len, &opened, NULL));
-    map = made, input = other, string = text, mends = told, compiled = opened;
+    must(smap_decode_scopes(TEXT("BFAAA,BFCAC,CCA,CFA,EGAA,ECKC,IAFC,FK,FU"), 2, &of_map, NULL));
+    map = made, input = other, string = text, mends = told, compiled = opened, scopes = of_map;
     reads(&wanted);
     run(reads, sums, sizeof *sums);
     for (int i = 0; i < THREADS; i++) wrong += sums[i] != wanted, numbers[i] = i;
@@ -277,6 +300,7 @@ int main(int argc, char **argv) {
     smap_free_string(text);
     smap_free_mends(told);
     smap_free_compiled(opened);
+    smap_free_scopes(of_map);
     smap_free_string(bytes);
     printf("%d threads answered otherwise, %d of %d maps arrived\n", wrong, freed, handed);
     return wrong || freed != handed;

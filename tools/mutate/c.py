@@ -17,7 +17,9 @@ from pathlib import Path
 from tools.mutate.planting import TOP, chosen, listed, try_all
 from tools.over_libraries import kit
 
-LAYER = (TOP / "bindings/c/oxc_sourcemap.c").read_text()
+# The files of the layer, which are tried as one.
+SCOPES = (TOP / "bindings/c/scopes.c").read_text()
+LAYER = (TOP / "bindings/c/oxc_sourcemap.c").read_text() + SCOPES
 HEADER = (TOP / "bindings/c/oxc_sourcemap.h").read_text()
 FUNCTION = re.compile(r"^(uint32_t|size_t|void|const char \*)\s*(smap_\w+)\([^{]*\) \{\n(.*?)^\}\n", re.M | re.S)
 NOTHING = {"uint32_t": "    return SMAP_OK;\n", "size_t": "    return 0;\n", "void": "", "const char *": '    return "";\n'}
@@ -59,7 +61,7 @@ def bugs_of_lists():
         if ") & begin_" in found[3]:
             yield f"{found[2]}: lists that are not begun", in_layer(found, found[3].replace(") & begin_", ") && begin_")), HEADER
     for bug in listed(TOP / "tools/mutate/c.txt", TOP / "bindings/c"):
-        yield bug.name, bug.text, HEADER
+        yield bug.name, bug.text + SCOPES, HEADER
 
 
 def bugs_of_constants():
@@ -88,6 +90,7 @@ def found_by(bug, library, common):
         room = Path(folder)
         tests = sorted(shutil.copytree(TOP / "bindings/c/tests", room / "tests").glob("*.c"))
         (room / "oxc_sourcemap.h").write_text(header)
+        shutil.copy(TOP / "bindings/c/layer.h", room)
         build = ["cc", "-std=c99", "-O1", "-w", WRAPS, f"-I{room}", f"-I{common}", "-o", "test", *tests]
         if name.endswith("on the stack"):
             build.append("-fsanitize=address")  # as ./check c tries it
@@ -119,4 +122,5 @@ def mutate(words):
             subprocess.run([TOP / "tools/build/prototypes"], capture_output=True, text=True, check=True).stdout
         )
         subprocess.run(["ar", "x", kit() / "c/liblibc_c.a", "heap.pic.o"], cwd=common, check=True)
-        return try_all(("none", LAYER, HEADER), bugs, lambda bug: found_by(bug, library, common), os.cpu_count() or 1)
+        jobs = int(os.environ.get("JOBS", os.cpu_count() or 1))
+        return try_all(("none", LAYER, HEADER), bugs, lambda bug: found_by(bug, library, common), jobs)

@@ -1,7 +1,7 @@
 /* Codes of errors, fields, and places. */
 #include "tests.h"
 
-/* (the words of SMAP_NO_FILE are those of the system: files.c) */
+/* (the words of SMAP_BAD_SCOPES are those of its field: scopes.c; those of SMAP_NO_FILE are the system's: files.c) */
 static const struct {
     uint32_t code, number;
     const char *name, *message;
@@ -33,6 +33,9 @@ static const struct {
     { SMAP_COMPILED_VERSION, 24, "SMAP_COMPILED_VERSION", "unsupported version of a compiled source map: 7" },
     { SMAP_COMPILED_LENGTH, 25, "SMAP_COMPILED_LENGTH", "a compiled source map has another length than it says" },
     { SMAP_COMPILED_SIZES, 26, "SMAP_COMPILED_SIZES", "the sizes in a compiled source map do not add up" },
+    { SMAP_BAD_SCOPES, 27, "SMAP_BAD_SCOPES", NULL },
+    { SMAP_SCOPES_NOT_TEXT, 28, "SMAP_SCOPES_NOT_TEXT", "`scopes` is no text" },
+    { SMAP_SCOPES_INDEXED, 29, "SMAP_SCOPES_INDEXED", "the scopes of an indexed map are not read" },
     { SMAP_NULL_HANDLE, 100, "SMAP_NULL_HANDLE", "The handle is null" },
     { SMAP_NOT_UTF8, 101, "SMAP_NOT_UTF8", "Byte 7 is not UTF-8" },
     { SMAP_LENGTHS, 102, "SMAP_LENGTHS", "The lengths of two lists differ" },

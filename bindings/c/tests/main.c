@@ -12,6 +12,7 @@ int main(void) {
     test_holding();
     test_lookups();
     test_compiled();
+    test_scopes();
     test_files();
     test_queries();
     test_making();

@@ -6,6 +6,7 @@ typedef struct made_all {
     smap_map *maps[13];
     smap_string *strings[12];
     smap_compiled *compiled;
+    smap_scopes *scopes[2];
     smap_builder *builder;
     smap_join *join;
     smap_mends *mends;
@@ -74,6 +75,16 @@ static uint32_t compile_all(made_all *m, smap_fault *f) {
     return SMAP_OK;
 }
 
+/* A function into which another was inlined. */
+#define SCOPES "BFAAA,BFCAC,CCA,CFA,EGAA,ECKC,IAFC,FK,FU"
+
+/* Each call that reads scopes. */
+static uint32_t scope_all(made_all *m, smap_fault *f) {
+    MAKES(smap_read_scopes(TEXT("{\"names\":[\"f\",\"g\"],\"scopes\":\"" SCOPES "\"}"), &m->scopes[0], f));
+    MAKES(smap_decode_scopes(TEXT(SCOPES), 2, &m->scopes[1], f));
+    return SMAP_OK;
+}
+
 /* One call of each kind that makes something, in a row; the first code that is not SMAP_OK. */
 static uint32_t make_all(made_all *m, smap_fault *f) {
     MAKES(smap_from_json_string(TEXT(B), &m->maps[0], f));
@@ -85,6 +96,7 @@ static uint32_t make_all(made_all *m, smap_fault *f) {
     MAKES(smap_decode_mappings(TEXT("AAAA"), 0, 1, &m->maps[8], f));
     uint32_t code = make_of_lists(m, f);
     if (!code) code = write_all(m, f);
+    if (!code) code = scope_all(m, f);
     return code ? code : compile_all(m, f);
 }
 
@@ -145,6 +157,7 @@ static uint32_t run_all(long n) {
     CHECK(code == SMAP_OK || is_fault(&fault, SMAP_OUT_OF_MEMORY, 0));
     for (size_t i = 0; i < LEN(m.maps); i++) smap_free_map(m.maps[i]);
     smap_free_compiled(m.compiled);
+    for (size_t i = 0; i < LEN(m.scopes); i++) smap_free_scopes(m.scopes[i]);
     for (size_t i = 0; i < LEN(m.strings); i++) smap_free_string(m.strings[i]);
     smap_free_builder(m.builder);
     smap_free_join(m.join);
@@ -218,6 +231,27 @@ static void nothing_is_compiled(void) {
     smap_free_map(map);
 }
 
+/* Scopes are read, or *out stays, whichever request is refused with all after it (alone the first of smap_decode_scopes is done without);
+ * frames are written, or none, nor how many there are. */
+static void nothing_is_read_of_scopes(void) {
+    smap_scopes *read = (smap_scopes *)&failed, *scopes = (smap_scopes *)&failed;
+    smap_frame frames[2];
+    uint32_t is_hidden = 77;
+    size_t count = 77;
+    long n;
+    refuses_on = 1;
+    UNTIL_MADE(read, smap_read_scopes(TEXT("{\"names\":[\"f\",\"g\"],\"scopes\":\"" SCOPES "\"}"), &read, NULL));
+    UNTIL_MADE(scopes, smap_decode_scopes(TEXT(SCOPES), 2, &scopes, NULL));
+    frames[0].name = frames[1].name = 77;
+    for (n = 0; left = n, smap_frames_at(scopes, 0, 12, LIST(frames), &count, &is_hidden) == SMAP_OUT_OF_MEMORY && n < 1000; n++)
+        CHECK(count == 77 && is_hidden == 77 && frames[0].name == 77 && frames[1].name == 77);
+    left = -1, refuses_on = 0;
+    CHECK(n > 0 && n < 1000 && count == 2 && is_hidden == 0 && frames[0].name == 1 && frames[1].name == 0);
+    smap_free_scopes(scopes);
+    smap_free_scopes(read);
+    CHECK(kept == 0);
+}
+
 /* Lookups, counts and lists take no memory. */
 static void no_memory_is_taken(void) {
     smap_map *map = read_map(A);
@@ -231,8 +265,13 @@ static void no_memory_is_taken(void) {
     smap_counts counts;
     smap_token tokens[4];
     smap_text texts[4];
+    smap_scopes *scopes;
+    smap_scopes_counts scopes_held;
+    smap_scope scope;
+    smap_range range;
     uint32_t n;
     size_t count;
+    CHECK(smap_decode_scopes(TEXT(SCOPES), 2, &scopes, NULL) == SMAP_OK);
     CHECK(smap_index_sources(map, NULL) == SMAP_OK);
     CHECK(smap_compile(map, 0, NULL, &string, NULL) == SMAP_OK && smap_get_text(string, texts) == SMAP_OK);
     CHECK(smap_open_compiled(texts[0].at, texts[0].len, &compiled, NULL) == SMAP_OK);
@@ -256,8 +295,12 @@ static void no_memory_is_taken(void) {
           smap_compiled_find_all(compiled, &one, 1, SMAP_CLAMPED, &n, 1) == SMAP_OK);
     CHECK(smap_compiled_get_counts(compiled, &held) == SMAP_OK && smap_compiled_get_token(compiled, 1, tokens) == SMAP_OK);
     CHECK(smap_compiled_get_text(compiled, SMAP_TEXT_FILE, 0, texts) == SMAP_OK && smap_compiled_is_ignored(compiled, 1, &n) == SMAP_OK);
+    CHECK(smap_scopes_get_counts(scopes, &scopes_held) == SMAP_OK && smap_get_scope(scopes, 1, &scope) == SMAP_OK);
+    CHECK(smap_get_range(scopes, 1, &range) == SMAP_OK && smap_scope_at(scopes, 0, 3, 0, &n) == SMAP_OK);
+    CHECK(smap_function_at(scopes, 0, 3, 0, &n) == SMAP_OK && smap_range_at(scopes, 0, 12, &n) == SMAP_OK);
     CHECK(left == 0);
     left = -1;
+    smap_free_scopes(scopes);
     smap_free_compiled(turned);
     free(bytes);
     smap_free_compiled(compiled);
@@ -270,5 +313,6 @@ void test_memory(void) {
     places_without_memory();
     nothing_is_made();
     nothing_is_compiled();
+    nothing_is_read_of_scopes();
     no_memory_is_taken();
 }

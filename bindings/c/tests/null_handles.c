@@ -6,10 +6,15 @@ static void null_readers(void) {
     smap_text text = text_of("kept");
     smap_token token;
     smap_mend mend;
+    smap_scopes_counts held;
+    smap_scope scope;
+    smap_range range;
+    smap_frame frame;
     uint32_t n = 77;
     size_t count = 77;
     counts.tokens = 77;
     token.dst_line = 77;
+    held.scopes = 77, scope.source = 77, range.definition = 77, frame.name = 77;
 #define NULL_HANDLE(call) CHECK((call) == SMAP_NULL_HANDLE)
     NULL_HANDLE(smap_get_counts(NULL, &counts));
     NULL_HANDLE(smap_is_sorted(NULL, &n));
@@ -34,13 +39,23 @@ static void null_readers(void) {
     NULL_HANDLE(smap_compiled_get_text(NULL, 9, 0, &text));
     NULL_HANDLE(smap_compiled_get_stamp(NULL, &text));
     NULL_HANDLE(smap_compiled_is_ignored(NULL, 0, &n));
+    NULL_HANDLE(smap_scopes_get_counts(NULL, &held));
+    NULL_HANDLE(smap_get_scope(NULL, 0, &scope));
+    NULL_HANDLE(smap_get_range(NULL, 0, &range));
+    NULL_HANDLE(smap_scope_at(NULL, 0, 0, 0, &n));
+    NULL_HANDLE(smap_function_at(NULL, 0, 0, 0, &n));
+    NULL_HANDLE(smap_range_at(NULL, 0, 0, &n));
+    NULL_HANDLE(smap_frames_at(NULL, 0, 0, &frame, 1, &count, &n));
+    NULL_HANDLE(smap_frames_at(NULL, 0, 0, NULL, 0, &count, NULL));
     CHECK(counts.tokens == 77 && n == 77 && count == 77 && token.dst_line == 77 && is(&text, "kept"));
+    CHECK(held.scopes == 77 && scope.source == 77 && range.definition == 77 && frame.name == 77);
     smap_free_map(NULL);
     smap_free_mends(NULL);
     smap_free_join(NULL);
     smap_free_builder(NULL);
     smap_free_string(NULL);
     smap_free_compiled(NULL);
+    smap_free_scopes(NULL);
     smap_free_file(NULL);
 }
 

@@ -70,6 +70,7 @@ void test_reading(void);
 void test_holding(void);
 void test_lookups(void);
 void test_compiled(void);
+void test_scopes(void);
 void test_files(void);
 void test_queries(void);
 void test_making(void);

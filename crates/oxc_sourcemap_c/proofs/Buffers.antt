@@ -3,7 +3,7 @@ use Rattle.std.proofs.Common.{◌≡◌, ℕ, inl, inr, List, ◌++◌, length, 
 use Rattle.std.proofs.Common.{◌∙◌, arith}
 use Rattle.std.proofs.lemmas.List.{take-append-drop, take-map, take_min, drop_all, length-map}
 use Rattle.std.proofs.lemmas.Bool.{cases_lt}
-use Rattle.oxc_sourcemap_handles.specs.Listed.{filled}
+use Rattle.oxc_sourcemap_c.specs.Listed.{filled}
 
 back_is : {B : Type 0} (old : List B) (n i : ℕ) → i ≡ min n (length old) → drop i old ≡ drop n old
 back_is old n i e = elim (cases_lt n (length old)) [

@@ -6,9 +6,9 @@ use Rattle.std.proofs.lemmas.Str.{chars-encodes}
 use Rattle.oxc_sourcemap_parts.specs.Record.{Text}
 use Rattle.oxc_sourcemap_text.specs.MappingUrls.{mapping_url}
 use Rattle.oxc_sourcemap_text.specs.declared.url.language.Language.{Language}
-use Rattle.oxc_sourcemap_handles.specs.declared.numbers.call_error.CallError.TheVariants.{NoEntry}
-use Rattle.oxc_sourcemap_handles.specs.declared.numbers.call_error.CallError.TheVariants.{BadOption}
-use Rattle.oxc_sourcemap_handles.specs.declared.texts.text.Text.{Text as LentText}
+use Rattle.oxc_sourcemap_c.specs.declared.numbers.call_error.CallError.TheVariants.{NoEntry}
+use Rattle.oxc_sourcemap_c.specs.declared.numbers.call_error.CallError.TheVariants.{BadOption}
+use Rattle.oxc_sourcemap_c.specs.declared.texts.text.Text.{Text as LentText}
 use Rattle.oxc_sourcemap_c.specs.Writing.{language_of, HasCharacters, IsUrlIn}
 
 text_of_chars : (bytes : List ℕ) → IsUtf8 bytes → encode_utf8_all (chars bytes) ≡ bytes

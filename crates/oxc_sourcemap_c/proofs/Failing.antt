@@ -1,11 +1,11 @@
 -- Calls that fail, by what was made for them.
 use Rattle.std.proofs.Common.{◌≡◌, ℕ, Option, None, Result, Ok, Err, IfErr, MatchResult, refl}
 use Rattle.oxc_sourcemap_tokens.specs.declared.errors.fault.FaultPlace.{FaultPlace}
-use Rattle.oxc_sourcemap_handles.specs.declared.numbers.call_error.CallError.{CallError}
+use Rattle.oxc_sourcemap_c.specs.declared.numbers.call_error.CallError.{CallError}
 use Rattle.oxc_sourcemap_c.specs.declared.making.failure.Failure.{Failure}
-use Rattle.oxc_sourcemap_handles.specs.declared.numbers.fault.Fault.{Fault}
-use Rattle.oxc_sourcemap_handles.specs.CallErrors.{out_of_memory}
-use Rattle.oxc_sourcemap_handles.specs.Codes.{fault_of, fault_at, code_of}
+use Rattle.oxc_sourcemap_c.specs.declared.numbers.fault.Fault.{Fault}
+use Rattle.oxc_sourcemap_c.specs.CallErrors.{out_of_memory}
+use Rattle.oxc_sourcemap_c.specs.Codes.{fault_of, fault_at, code_of}
 use Rattle.oxc_sourcemap_c.specs.Failures.{IsFailure, IsErrorAt}
 
 -- the code and the fault of a call whose map was not made, or found no memory for its handle

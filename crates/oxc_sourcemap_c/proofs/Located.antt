@@ -23,8 +23,8 @@ use Rattle.oxc_sourcemap_plan.specs.PlanPlaces.{IsTextPlace, IsTold, fault_place
 use Rattle.oxc_sourcemap_plan.specs.Evaluated.{are_among}
 use Rattle.oxc_sourcemap_plan.proofs.Numbered.{told_place}
 use Rattle.oxc_sourcemap_plan.proofs.Realizing.{memory_or_not}
-use Rattle.oxc_sourcemap_handles.specs.declared.numbers.call_error.CallError.{CallError}
-use Rattle.oxc_sourcemap_handles.specs.CallErrors.{out_of_memory, of_map}
+use Rattle.oxc_sourcemap_c.specs.declared.numbers.call_error.CallError.{CallError}
+use Rattle.oxc_sourcemap_c.specs.CallErrors.{out_of_memory, of_map}
 use Rattle.oxc_sourcemap_c.specs.declared.making.failure.Failure.{Failure}
 use Rattle.oxc_sourcemap_c.specs.Failures.{IsFailure, IsTextErrorAt, IsFoundTextErrorAt}
 use Rattle.oxc_sourcemap_c.specs.Plans.{of_plan, IsOutcomeErrorAt}

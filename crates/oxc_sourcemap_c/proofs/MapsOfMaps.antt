@@ -11,18 +11,18 @@ use Rattle.oxc_sourcemap_steps.specs.Inputs.{lent_inputs}
 use Rattle.oxc_sourcemap_tokens.specs.declared.errors.error.Error.{Error}
 use Rattle.oxc_sourcemap_parts.specs.Record.{Text, MapRecord}
 use Rattle.oxc_sourcemap_steps.specs.Remapped.{SomeRemapping}
-use Rattle.oxc_sourcemap_handles.specs.declared.holding.lent.Lent.{Lent}
-use Rattle.oxc_sourcemap_handles.specs.Holding.{held_map}
+use Rattle.oxc_sourcemap_c.specs.declared.holding.lent.Lent.{Lent}
+use Rattle.oxc_sourcemap_c.specs.Holding.{held_map}
 use Rattle.oxc_sourcemap_tokens.specs.declared.errors.error.Error.TheVariants.{TooLarge}
 use Rattle.oxc_sourcemap_tokens.specs.declared.position.Position.{Position}
 use Rattle.oxc_sourcemap_join.specs.Joined.{added, added_all, joined, nothing_joined}
 use Rattle.oxc_sourcemap_join.specs.Joined.{IsWithinLimits}
 use Rattle.oxc_sourcemap_join.proofs.Adding.{front-within}
-use Rattle.oxc_sourcemap_handles.specs.declared.holding.held.Held.{Held}
-use Rattle.oxc_sourcemap_handles.specs.declared.numbers.call_error.CallError.{CallError}
-use Rattle.oxc_sourcemap_handles.specs.declared.numbers.call_error.CallError.TheVariants.{NullHandle}
-use Rattle.oxc_sourcemap_handles.specs.declared.numbers.call_error.CallError.TheVariants.{Lengths}
-use Rattle.oxc_sourcemap_handles.specs.CallErrors.{of_map}
+use Rattle.oxc_sourcemap_c.specs.declared.holding.held.Held.{Held}
+use Rattle.oxc_sourcemap_c.specs.declared.numbers.call_error.CallError.{CallError}
+use Rattle.oxc_sourcemap_c.specs.declared.numbers.call_error.CallError.TheVariants.{NullHandle}
+use Rattle.oxc_sourcemap_c.specs.declared.numbers.call_error.CallError.TheVariants.{Lengths}
+use Rattle.oxc_sourcemap_c.specs.CallErrors.{of_map}
 use Rattle.oxc_sourcemap_c.specs.MapsOfMaps.{all_lent, all_maps, at_places, by_path}
 use Rattle.oxc_sourcemap_c.specs.MapsOfMaps.{IsAddErrorOf, IsSureJoinError}
 use Rattle.oxc_sourcemap_c.specs.MapsOfMaps.{IsSureRemapError, IsRemapError, IsRemappingError}

@@ -7,13 +7,13 @@ use Rattle.std.proofs.lemmas.List.{take-append-le, drop-drop, length-drop, lengt
 use Rattle.oxc_sourcemap_tokens.specs.Token.{TokenRecord}
 use Rattle.oxc_sourcemap_map.specs.Reverse.{passing_from, passing, is_at, is_into, indices_beside}
 use Rattle.oxc_sourcemap_map.specs.Reverse.{generated_for, generated_from}
-use Rattle.oxc_sourcemap_handles.specs.declared.numbers.options.Direction.{Direction}
-use Rattle.oxc_sourcemap_handles.specs.declared.numbers.options.Direction.TheVariants.{At, For}
-use Rattle.oxc_sourcemap_handles.specs.declared.numbers.options.Direction.TheVariants.{From, OnLine}
+use Rattle.oxc_sourcemap_c.specs.declared.numbers.options.Direction.{Direction}
+use Rattle.oxc_sourcemap_c.specs.declared.numbers.options.Direction.TheVariants.{At, For}
+use Rattle.oxc_sourcemap_c.specs.declared.numbers.options.Direction.TheVariants.{From, OnLine}
 use Rattle.oxc_sourcemap_c.specs.declared.reading.reverse.SourcePlace.{SourcePlace}
 use Rattle.oxc_sourcemap_c.specs.Reverse.{answering}
-use Rattle.oxc_sourcemap_handles.specs.Listed.{filled}
-use Rattle.oxc_sourcemap_handles.proofs.Filling.{filled-by}
+use Rattle.oxc_sourcemap_c.specs.Listed.{filled}
+use Rattle.oxc_sourcemap_c.proofs.Filling.{filled-by}
 
 module _ {A : Type 0} (p : A → Bool) where
   -- the index of an item, if it passes

@@ -4,7 +4,7 @@ use Rattle.oxc_sourcemap_parts.specs.Record.{Text, MapRecord}
 use Rattle.oxc_sourcemap_plan.specs.PlanArguments.{parsed_plan}
 use Rattle.oxc_sourcemap_c.specs.declared.making.failure.Failure.{Failure}
 use Rattle.oxc_sourcemap_c.specs.Failures.{IsFailure}
-use Rattle.oxc_sourcemap_handles.specs.Lists.{AreTexts}
+use Rattle.oxc_sourcemap_c.specs.Lists.{AreTexts}
 use Rattle.oxc_sourcemap_c.specs.Plans.{IsPlanMap, IsEvaluationErrorAt, IsPlanErrorAt}
 
 pub map_of_bytes : (words texts w t : List Text) (result : Result MapRecord Failure) → w ≡ words → t ≡ texts → IfOk result (IsPlanMap (parsed_plan t w)) → IfOk result (IsPlanMap (parsed_plan texts words))

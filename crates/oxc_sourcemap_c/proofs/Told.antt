@@ -1,9 +1,9 @@
 -- Answers that are written.
 use Rattle.std.proofs.Common.{◌≡◌, ℕ, Result, Ok, Err, MatchResult}
-use Rattle.oxc_sourcemap_handles.specs.declared.numbers.call_error.CallError.{CallError}
-use Rattle.oxc_sourcemap_handles.specs.declared.numbers.fault.Fault.{Fault}
-use Rattle.oxc_sourcemap_handles.specs.declared.texts.text.Text.{Text as LentText}
-use Rattle.oxc_sourcemap_handles.specs.Codes.{fault_of, code_of, no_fault}
+use Rattle.oxc_sourcemap_c.specs.declared.numbers.call_error.CallError.{CallError}
+use Rattle.oxc_sourcemap_c.specs.declared.numbers.fault.Fault.{Fault}
+use Rattle.oxc_sourcemap_c.specs.declared.texts.text.Text.{Text as LentText}
+use Rattle.oxc_sourcemap_c.specs.Codes.{fault_of, code_of, no_fault}
 use Rattle.oxc_sourcemap_c.specs.Exports.{IsToldAs}
 
 pub told_as : (answer : Result LentText CallError) (code : ℕ) (out old : LentText) (fault : Fault)

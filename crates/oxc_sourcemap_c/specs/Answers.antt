@@ -3,17 +3,17 @@ use Rattle.std.specs.Prelude.{◌≡◌, ℕ, ◌⊎◌, Option, Result, Err, Ma
 use Rattle.std.specs.Prelude.{is_some, map, List, Bool, true, false}
 use Rattle.oxc_sourcemap_parts.specs.Record.{Text, MapRecord}
 use Rattle.oxc_sourcemap_map.specs.View.{content_at}
-use Rattle.oxc_sourcemap_handles.specs.declared.numbers.call_error.CallError.{CallError}
-use Rattle.oxc_sourcemap_handles.specs.declared.numbers.call_error.CallError.TheVariants.{NullHandle}
-use Rattle.oxc_sourcemap_handles.specs.declared.numbers.call_error.CallError.TheVariants.{NoEntry}
-use Rattle.oxc_sourcemap_handles.specs.declared.holding.held.Held.{Held}
+use Rattle.oxc_sourcemap_c.specs.declared.numbers.call_error.CallError.{CallError}
+use Rattle.oxc_sourcemap_c.specs.declared.numbers.call_error.CallError.TheVariants.{NullHandle}
+use Rattle.oxc_sourcemap_c.specs.declared.numbers.call_error.CallError.TheVariants.{NoEntry}
+use Rattle.oxc_sourcemap_c.specs.declared.holding.held.Held.{Held}
 use Rattle.oxc_sourcemap_c.specs.declared.reading.asked.Asked.{Asked}
 use Rattle.oxc_sourcemap_c.specs.declared.reading.asked.Asked.TheVariants.{Name, Source}
 use Rattle.oxc_sourcemap_c.specs.declared.reading.asked.Asked.TheVariants.{SourceContent, File}
 use Rattle.oxc_sourcemap_c.specs.declared.reading.asked.Asked.TheVariants.{SourceRoot, DebugId}
-use Rattle.oxc_sourcemap_handles.specs.Holding.{held_map, HoldsMap}
-use Rattle.oxc_sourcemap_handles.specs.Traces.{HasBias, IsTraceOf}
-use Rattle.oxc_sourcemap_handles.specs.declared.texts.text.Original.{Original}
+use Rattle.oxc_sourcemap_c.specs.Holding.{held_map, HoldsMap}
+use Rattle.oxc_sourcemap_c.specs.Traces.{HasBias, IsTraceOf}
+use Rattle.oxc_sourcemap_c.specs.declared.texts.text.Original.{Original}
 use Rattle.oxc_sourcemap_tokens.specs.LineOrder.{IsInLineOrder}
 use Rattle.oxc_sourcemap_tokens.specs.declared.position.Position.{Position}
 

@@ -8,15 +8,15 @@ use Rattle.oxc_sourcemap_tokens.specs.Token.{TokenRecord}
 use Rattle.oxc_sourcemap_parts.specs.Texts.{index_of}
 use Rattle.oxc_sourcemap_map.specs.Built.{Built, nothing_built}
 use Rattle.oxc_sourcemap_map.specs.Building.{with_name, with_path, with_bare_path}
-use Rattle.oxc_sourcemap_handles.specs.declared.holding.held.Held.{Held}
+use Rattle.oxc_sourcemap_c.specs.declared.holding.held.Held.{Held}
 use Rattle.oxc_sourcemap_c.specs.declared.making.builders.Step.{Step}
 use Rattle.oxc_sourcemap_c.specs.declared.making.builders.Step.TheVariants.{Name, Source, Tokens}
 use Rattle.oxc_sourcemap_c.specs.declared.making.builders.Step.TheVariants.{SourceAndContent, File}
-use Rattle.oxc_sourcemap_handles.specs.declared.numbers.call_error.CallError.{CallError}
-use Rattle.oxc_sourcemap_handles.specs.declared.numbers.call_error.CallError.TheVariants.{NullHandle}
-use Rattle.oxc_sourcemap_handles.specs.Holding.{held_builder, held_map}
-use Rattle.oxc_sourcemap_handles.specs.CallErrors.{of_map, IsNotText}
-use Rattle.oxc_sourcemap_handles.specs.Lists.{token_of}
+use Rattle.oxc_sourcemap_c.specs.declared.numbers.call_error.CallError.{CallError}
+use Rattle.oxc_sourcemap_c.specs.declared.numbers.call_error.CallError.TheVariants.{NullHandle}
+use Rattle.oxc_sourcemap_c.specs.Holding.{held_builder, held_map}
+use Rattle.oxc_sourcemap_c.specs.CallErrors.{of_map, IsNotText}
+use Rattle.oxc_sourcemap_c.specs.Lists.{token_of}
 
 -- a builder with these tokens after its others
 abbrev pub with_tokens : Built → List TokenRecord → Built

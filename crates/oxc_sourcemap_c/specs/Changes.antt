@@ -6,8 +6,8 @@ use Rattle.oxc_sourcemap_parts.specs.Roots.{rooted}
 use Rattle.oxc_sourcemap_parts.specs.Sorted.{are_tokens_sorted}
 use Rattle.oxc_sourcemap_steps.specs.Sorting.{sorted_map}
 use Rattle.oxc_sourcemap_steps.specs.Simplified.{simplification}
-use Rattle.oxc_sourcemap_handles.specs.declared.numbers.call_error.CallError.{CallError}
-use Rattle.oxc_sourcemap_handles.specs.declared.numbers.call_error.CallError.TheVariants.{NullHandle}
+use Rattle.oxc_sourcemap_c.specs.declared.numbers.call_error.CallError.{CallError}
+use Rattle.oxc_sourcemap_c.specs.declared.numbers.call_error.CallError.TheVariants.{NullHandle}
 use Rattle.oxc_sourcemap_c.specs.declared.making.changing.Change.{Change}
 use Rattle.oxc_sourcemap_c.specs.declared.making.changing.Change.TheVariants.{File, SourceRoot}
 use Rattle.oxc_sourcemap_c.specs.declared.making.changing.Change.TheVariants.{DebugId, IgnoreList}
@@ -15,12 +15,12 @@ use Rattle.oxc_sourcemap_c.specs.declared.making.changing.Change.TheVariants.{So
 use Rattle.oxc_sourcemap_c.specs.declared.making.changing.Change.TheVariants.{SourceContents}
 use Rattle.oxc_sourcemap_c.specs.declared.making.changing.Change.TheVariants.{ApplySourceRoot, Sort}
 use Rattle.oxc_sourcemap_c.specs.declared.making.changing.Change.TheVariants.{Simplify}
-use Rattle.oxc_sourcemap_handles.specs.declared.holding.held.Held.{Held}
-use Rattle.oxc_sourcemap_handles.specs.CallErrors.{IsNotText, IsSimplifyError, IsUnsorted}
-use Rattle.oxc_sourcemap_handles.specs.Holding.{held_map, held_loaded}
-use Rattle.oxc_sourcemap_handles.specs.Indices.{Loaded}
-use Rattle.oxc_sourcemap_handles.specs.Lists.{AreTexts, IsNotTexts, known_texts, AreContents}
-use Rattle.oxc_sourcemap_handles.specs.Lists.{IsNotContents}
+use Rattle.oxc_sourcemap_c.specs.declared.holding.held.Held.{Held}
+use Rattle.oxc_sourcemap_c.specs.CallErrors.{IsNotText, IsSimplifyError, IsUnsorted}
+use Rattle.oxc_sourcemap_c.specs.Holding.{held_map, held_loaded}
+use Rattle.oxc_sourcemap_c.specs.Indices.{Loaded}
+use Rattle.oxc_sourcemap_c.specs.Lists.{AreTexts, IsNotTexts, known_texts, AreContents}
+use Rattle.oxc_sourcemap_c.specs.Lists.{IsNotContents}
 
 -- a handle holds a map before a call and one after it, and this holds of the two
 abbrev pub Changes : Option Held → Option Held → (Loaded → Loaded → Type 0) → Type 0

@@ -14,21 +14,21 @@ use Rattle.oxc_sourcemap_compiled.specs.Words.{checked_map, compiled_fault, comp
 use Rattle.oxc_sourcemap_compiled.specs.Words.{compiled_meaning, compiled_of, header_in, FitsFormat}
 use Rattle.oxc_sourcemap_compiled.specs.Words.{DoesNotGoBack}
 use Rattle.oxc_sourcemap_compiled.specs.declared.errors.CompiledError.{CompiledError}
-use Rattle.oxc_sourcemap_handles.specs.CallErrors.{IsUnsorted}
-use Rattle.oxc_sourcemap_handles.specs.Codes.{code_of}
-use Rattle.oxc_sourcemap_handles.specs.Holding.{held_compiled}
-use Rattle.oxc_sourcemap_handles.specs.Options.{bias_of}
-use Rattle.oxc_sourcemap_handles.specs.Structs.{LendsText, numbers_of}
-use Rattle.oxc_sourcemap_handles.specs.declared.holding.held.Held.{Held}
-use Rattle.oxc_sourcemap_handles.specs.declared.numbers.call_error.CallError.{CallError}
-use Rattle.oxc_sourcemap_handles.specs.declared.numbers.call_error.CallError.TheVariants.{NullHandle}
-use Rattle.oxc_sourcemap_handles.specs.declared.numbers.call_error.CallError.TheVariants.{NoEntry}
-use Rattle.oxc_sourcemap_handles.specs.declared.numbers.call_error.CallError.TheVariants.{Lengths}
-use Rattle.oxc_sourcemap_handles.specs.declared.numbers.call_error.CallError.TheVariants.{BadOption}
-use Rattle.oxc_sourcemap_handles.specs.declared.numbers.call_error.CallError.TheVariants.{Plan}
-use Rattle.oxc_sourcemap_handles.specs.declared.numbers.call_error.CallError.TheVariants.{Compiled}
-use Rattle.oxc_sourcemap_handles.specs.declared.texts.text.Text.{Text as LentText}
-use Rattle.oxc_sourcemap_handles.specs.declared.texts.text.TokenNumbers.{TokenNumbers}
+use Rattle.oxc_sourcemap_c.specs.CallErrors.{IsUnsorted}
+use Rattle.oxc_sourcemap_c.specs.Codes.{code_of}
+use Rattle.oxc_sourcemap_c.specs.Holding.{held_compiled}
+use Rattle.oxc_sourcemap_c.specs.Options.{bias_of}
+use Rattle.oxc_sourcemap_c.specs.Structs.{LendsText, numbers_of}
+use Rattle.oxc_sourcemap_c.specs.declared.holding.held.Held.{Held}
+use Rattle.oxc_sourcemap_c.specs.declared.numbers.call_error.CallError.{CallError}
+use Rattle.oxc_sourcemap_c.specs.declared.numbers.call_error.CallError.TheVariants.{NullHandle}
+use Rattle.oxc_sourcemap_c.specs.declared.numbers.call_error.CallError.TheVariants.{NoEntry}
+use Rattle.oxc_sourcemap_c.specs.declared.numbers.call_error.CallError.TheVariants.{Lengths}
+use Rattle.oxc_sourcemap_c.specs.declared.numbers.call_error.CallError.TheVariants.{BadOption}
+use Rattle.oxc_sourcemap_c.specs.declared.numbers.call_error.CallError.TheVariants.{Plan}
+use Rattle.oxc_sourcemap_c.specs.declared.numbers.call_error.CallError.TheVariants.{Compiled}
+use Rattle.oxc_sourcemap_c.specs.declared.texts.text.Text.{Text as LentText}
+use Rattle.oxc_sourcemap_c.specs.declared.texts.text.TokenNumbers.{TokenNumbers}
 use Rattle.oxc_sourcemap_tokens.specs.declared.position.Position.{Position}
 use Rattle.oxc_sourcemap_c.specs.Answers.{text_at, IsFlagOf, flag_of}
 use Rattle.oxc_sourcemap_c.specs.declared.compiled.asking.CompiledCounts.{CompiledCounts}

@@ -3,16 +3,16 @@ use Rattle.std.specs.Prelude.{◌≡◌, ℕ, List, Option, Some, None, Result, 
 use Rattle.std.specs.Prelude.{MatchResult}
 use Rattle.oxc_sourcemap_tokens.specs.declared.errors.error.Error.{Error}
 use Rattle.oxc_sourcemap_parts.specs.Record.{Text, MapRecord}
-use Rattle.oxc_sourcemap_handles.specs.declared.numbers.call_error.CallError.{CallError}
-use Rattle.oxc_sourcemap_handles.specs.declared.numbers.call_error.CallError.TheVariants.{NullHandle}
-use Rattle.oxc_sourcemap_handles.specs.declared.numbers.call_error.CallError.TheVariants.{NoEntry}
-use Rattle.oxc_sourcemap_handles.specs.declared.numbers.fault.Fault.{Fault}
-use Rattle.oxc_sourcemap_handles.specs.CallErrors.{of_map}
-use Rattle.oxc_sourcemap_handles.specs.Codes.{fault_of, code_of, no_fault}
-use Rattle.oxc_sourcemap_handles.specs.declared.holding.held.Held.{Held}
-use Rattle.oxc_sourcemap_handles.specs.declared.texts.text.Text.{Text as LentText}
-use Rattle.oxc_sourcemap_handles.specs.Holding.{held_map, held_text, HoldsMap}
-use Rattle.oxc_sourcemap_handles.specs.Structs.{LendsText}
+use Rattle.oxc_sourcemap_c.specs.declared.numbers.call_error.CallError.{CallError}
+use Rattle.oxc_sourcemap_c.specs.declared.numbers.call_error.CallError.TheVariants.{NullHandle}
+use Rattle.oxc_sourcemap_c.specs.declared.numbers.call_error.CallError.TheVariants.{NoEntry}
+use Rattle.oxc_sourcemap_c.specs.declared.numbers.fault.Fault.{Fault}
+use Rattle.oxc_sourcemap_c.specs.CallErrors.{of_map}
+use Rattle.oxc_sourcemap_c.specs.Codes.{fault_of, code_of, no_fault}
+use Rattle.oxc_sourcemap_c.specs.declared.holding.held.Held.{Held}
+use Rattle.oxc_sourcemap_c.specs.declared.texts.text.Text.{Text as LentText}
+use Rattle.oxc_sourcemap_c.specs.Holding.{held_map, held_text, HoldsMap}
+use Rattle.oxc_sourcemap_c.specs.Structs.{LendsText}
 use Rattle.oxc_sourcemap_c.specs.Writing.{IsUrlOf}
 
 -- A call that takes no memory fails: its code and its fault are those of one of these errors.

@@ -10,11 +10,11 @@ use Rattle.oxc_sourcemap_tokens.specs.declared.errors.fault.FaultPlace.{FaultPla
 use Rattle.oxc_sourcemap_found.specs.FoundMaps.{found}
 use Rattle.oxc_sourcemap_found.specs.FoundPlaces.{IsFoundPlace, HasPlaceIfRefused}
 use Rattle.oxc_sourcemap_plan.specs.PlanPlaces.{IsTextPlace}
-use Rattle.oxc_sourcemap_handles.specs.declared.numbers.call_error.CallError.{CallError}
+use Rattle.oxc_sourcemap_c.specs.declared.numbers.call_error.CallError.{CallError}
 use Rattle.oxc_sourcemap_c.specs.declared.making.failure.Failure.{Failure}
-use Rattle.oxc_sourcemap_handles.specs.declared.numbers.fault.Fault.{Fault}
-use Rattle.oxc_sourcemap_handles.specs.CallErrors.{out_of_memory, of_map, IsNotText}
-use Rattle.oxc_sourcemap_handles.specs.Codes.{code_of, fault_at}
+use Rattle.oxc_sourcemap_c.specs.declared.numbers.fault.Fault.{Fault}
+use Rattle.oxc_sourcemap_c.specs.CallErrors.{out_of_memory, of_map, IsNotText}
+use Rattle.oxc_sourcemap_c.specs.Codes.{code_of, fault_at}
 
 -- a failure for want of memory, which has no place, or with one of these errors and places
 abbrev pub IsFailure : (CallError → Option FaultPlace → Type 0) → Failure → Type 0

@@ -5,11 +5,11 @@ use Rattle.oxc_sourcemap_tokens.specs.declared.errors.error.Error.TheVariants.{T
 use Rattle.oxc_sourcemap_tokens.specs.declared.position.Position.{Position}
 use Rattle.oxc_sourcemap_parts.specs.Record.{MapRecord}
 use Rattle.oxc_sourcemap_join.specs.Joined.{added, nothing_joined, IsWithinLimits}
-use Rattle.oxc_sourcemap_handles.specs.declared.holding.held.Held.{Held}
-use Rattle.oxc_sourcemap_handles.specs.declared.numbers.call_error.CallError.{CallError}
-use Rattle.oxc_sourcemap_handles.specs.declared.numbers.call_error.CallError.TheVariants.{NullHandle}
-use Rattle.oxc_sourcemap_handles.specs.CallErrors.{of_map}
-use Rattle.oxc_sourcemap_handles.specs.Holding.{held_join, held_map}
+use Rattle.oxc_sourcemap_c.specs.declared.holding.held.Held.{Held}
+use Rattle.oxc_sourcemap_c.specs.declared.numbers.call_error.CallError.{CallError}
+use Rattle.oxc_sourcemap_c.specs.declared.numbers.call_error.CallError.TheVariants.{NullHandle}
+use Rattle.oxc_sourcemap_c.specs.CallErrors.{of_map}
+use Rattle.oxc_sourcemap_c.specs.Holding.{held_join, held_map}
 
 -- a handle holds a join before a call and one after it, to which the map of another handle is added at a position
 abbrev pub IsJoined : Option Held → Option Held → Option Held → Position → Type 0

@@ -11,14 +11,14 @@ use Rattle.oxc_sourcemap_steps.specs.Composed.{composition, SomeComposition, NoC
 use Rattle.oxc_sourcemap_steps.specs.Composed.{composition_fault}
 use Rattle.oxc_sourcemap_steps.specs.Inputs.{NoInputColumnGoesBack}
 use Rattle.oxc_sourcemap_steps.specs.Remapped.{remapping, SomeRemapping}
-use Rattle.oxc_sourcemap_handles.specs.declared.numbers.call_error.CallError.{CallError}
-use Rattle.oxc_sourcemap_handles.specs.declared.numbers.call_error.CallError.TheVariants.{NullHandle}
-use Rattle.oxc_sourcemap_handles.specs.declared.numbers.call_error.CallError.TheVariants.{Lengths}
-use Rattle.oxc_sourcemap_handles.specs.declared.holding.held.Held.{Held}
-use Rattle.oxc_sourcemap_handles.specs.declared.holding.lent.Lent.{Lent}
-use Rattle.oxc_sourcemap_handles.specs.CallErrors.{of_map}
-use Rattle.oxc_sourcemap_handles.specs.Holding.{held_map}
-use Rattle.oxc_sourcemap_handles.specs.Lists.{AreTexts, IsNotTexts}
+use Rattle.oxc_sourcemap_c.specs.declared.numbers.call_error.CallError.{CallError}
+use Rattle.oxc_sourcemap_c.specs.declared.numbers.call_error.CallError.TheVariants.{NullHandle}
+use Rattle.oxc_sourcemap_c.specs.declared.numbers.call_error.CallError.TheVariants.{Lengths}
+use Rattle.oxc_sourcemap_c.specs.declared.holding.held.Held.{Held}
+use Rattle.oxc_sourcemap_c.specs.declared.holding.lent.Lent.{Lent}
+use Rattle.oxc_sourcemap_c.specs.CallErrors.{of_map}
+use Rattle.oxc_sourcemap_c.specs.Holding.{held_map}
+use Rattle.oxc_sourcemap_c.specs.Lists.{AreTexts, IsNotTexts}
 use Rattle.oxc_sourcemap_c.specs.Joining.{IsPartsError}
 
 -- what each of these handles holds

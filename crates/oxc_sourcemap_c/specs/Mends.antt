@@ -17,7 +17,7 @@ use Rattle.oxc_sourcemap_found.specs.declared.mending.mend.MendKind.TheVariants.
 use Rattle.oxc_sourcemap_found.specs.declared.mending.mend.MendKind.TheVariants.{SourceIds, NameIds}
 use Rattle.oxc_sourcemap_found.specs.declared.mending.mend.MendKind.TheVariants.{Unsorted, Cut}
 use Rattle.oxc_sourcemap_c.specs.declared.reading.mends.MendNumbers.{MendNumbers}
-use Rattle.oxc_sourcemap_handles.specs.PlaceNumbers.{number_told, told_number}
+use Rattle.oxc_sourcemap_c.specs.PlaceNumbers.{number_told, told_number}
 
 -- the numbers of a mend of this kind
 abbrev pub kind_numbers : ℕ → ℕ → MendNumbers

@@ -8,12 +8,12 @@ use Rattle.oxc_sourcemap_queries.specs.Differences.{HaveSameTraceEverywhere, IsF
 use Rattle.oxc_sourcemap_queries.specs.Differences.{IfBothSorted}
 use Rattle.oxc_sourcemap_queries.specs.RangePieces.{place, pieces_of, DoCover}
 use Rattle.oxc_sourcemap_queries.specs.declared.pieces.cuts.Piece.{Piece}
-use Rattle.oxc_sourcemap_handles.specs.declared.numbers.call_error.CallError.{CallError}
-use Rattle.oxc_sourcemap_handles.specs.declared.numbers.call_error.CallError.TheVariants.{NullHandle}
-use Rattle.oxc_sourcemap_handles.specs.declared.numbers.call_error.CallError.TheVariants.{NoEntry}
-use Rattle.oxc_sourcemap_handles.specs.declared.texts.text.PieceNumbers.{PieceNumbers}
-use Rattle.oxc_sourcemap_handles.specs.Listed.{filled}
-use Rattle.oxc_sourcemap_handles.specs.Structs.{piece_numbers}
+use Rattle.oxc_sourcemap_c.specs.declared.numbers.call_error.CallError.{CallError}
+use Rattle.oxc_sourcemap_c.specs.declared.numbers.call_error.CallError.TheVariants.{NullHandle}
+use Rattle.oxc_sourcemap_c.specs.declared.numbers.call_error.CallError.TheVariants.{NoEntry}
+use Rattle.oxc_sourcemap_c.specs.declared.texts.text.PieceNumbers.{PieceNumbers}
+use Rattle.oxc_sourcemap_c.specs.Listed.{filled}
+use Rattle.oxc_sourcemap_c.specs.Structs.{piece_numbers}
 
 -- Pieces that cover a range are written, and their number is told. If the tokens of the map are sorted, they are those of the map.
 pub record ArePieces (m : MapRecord) (begin end : Position) (answer : Result ℕ CallError) (old new : List PieceNumbers) : Type 0 where

@@ -6,16 +6,16 @@ use Rattle.oxc_sourcemap_parts.specs.Record.{MapRecord}
 use Rattle.oxc_sourcemap_queries.specs.Differences.{HaveSameTraceEverywhere, IsFirstDifference}
 use Rattle.oxc_sourcemap_queries.specs.Differences.{IfBothSorted}
 use Rattle.oxc_sourcemap_map.specs.Places.{no_token}
-use Rattle.oxc_sourcemap_handles.specs.declared.numbers.call_error.CallError.TheVariants.{NullHandle}
-use Rattle.oxc_sourcemap_handles.specs.declared.numbers.call_error.CallError.TheVariants.{NoEntry}
-use Rattle.oxc_sourcemap_handles.specs.declared.holding.held.Held.{Held}
+use Rattle.oxc_sourcemap_c.specs.declared.numbers.call_error.CallError.TheVariants.{NullHandle}
+use Rattle.oxc_sourcemap_c.specs.declared.numbers.call_error.CallError.TheVariants.{NoEntry}
+use Rattle.oxc_sourcemap_c.specs.declared.holding.held.Held.{Held}
 use Rattle.oxc_sourcemap_c.specs.declared.reading.reverse.SourcePlace.{SourcePlace}
-use Rattle.oxc_sourcemap_handles.specs.declared.texts.text.TokenNumbers.{TokenNumbers}
-use Rattle.oxc_sourcemap_handles.specs.Codes.{code_of}
-use Rattle.oxc_sourcemap_handles.specs.Holding.{held_map}
-use Rattle.oxc_sourcemap_handles.specs.Indices.{Loaded}
-use Rattle.oxc_sourcemap_handles.specs.Listed.{filled, AreFilled}
-use Rattle.oxc_sourcemap_handles.specs.Structs.{numbers_of}
+use Rattle.oxc_sourcemap_c.specs.declared.texts.text.TokenNumbers.{TokenNumbers}
+use Rattle.oxc_sourcemap_c.specs.Codes.{code_of}
+use Rattle.oxc_sourcemap_c.specs.Holding.{held_map}
+use Rattle.oxc_sourcemap_c.specs.Indices.{Loaded}
+use Rattle.oxc_sourcemap_c.specs.Listed.{filled, AreFilled}
+use Rattle.oxc_sourcemap_c.specs.Structs.{numbers_of}
 use Rattle.oxc_sourcemap_c.specs.Reverse.{generated_in, tokens_in}
 
 -- the result of asking for a list of a handle's map: the code of an empty handle, or 0, as many entries as there is room for, and

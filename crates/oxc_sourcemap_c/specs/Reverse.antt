@@ -6,21 +6,21 @@ use Rattle.oxc_sourcemap_tokens.specs.Token.{TokenRecord}
 use Rattle.oxc_sourcemap_map.specs.Places.{no_token}
 use Rattle.oxc_sourcemap_map.specs.Reverse.{indices_at, indices_for, indices_from, indices_on}
 use Rattle.oxc_sourcemap_map.specs.Reverse.{index_fault}
-use Rattle.oxc_sourcemap_handles.specs.declared.numbers.call_error.CallError.{CallError}
-use Rattle.oxc_sourcemap_handles.specs.declared.numbers.call_error.CallError.TheVariants.{NullHandle}
-use Rattle.oxc_sourcemap_handles.specs.declared.numbers.call_error.CallError.TheVariants.{BadOption}
-use Rattle.oxc_sourcemap_handles.specs.declared.numbers.call_error.CallError.TheVariants.{NoEntry}
-use Rattle.oxc_sourcemap_handles.specs.declared.numbers.call_error.CallError.TheVariants.{NoIndex}
+use Rattle.oxc_sourcemap_c.specs.declared.numbers.call_error.CallError.{CallError}
+use Rattle.oxc_sourcemap_c.specs.declared.numbers.call_error.CallError.TheVariants.{NullHandle}
+use Rattle.oxc_sourcemap_c.specs.declared.numbers.call_error.CallError.TheVariants.{BadOption}
+use Rattle.oxc_sourcemap_c.specs.declared.numbers.call_error.CallError.TheVariants.{NoEntry}
+use Rattle.oxc_sourcemap_c.specs.declared.numbers.call_error.CallError.TheVariants.{NoIndex}
 use Rattle.oxc_sourcemap_c.specs.declared.reading.reverse.SourcePlace.{SourcePlace}
 use Rattle.oxc_sourcemap_c.specs.declared.reading.reverse.FoundToken.{FoundToken}
-use Rattle.oxc_sourcemap_handles.specs.declared.numbers.options.Direction.{Direction}
-use Rattle.oxc_sourcemap_handles.specs.declared.numbers.options.Direction.TheVariants.{At, For}
-use Rattle.oxc_sourcemap_handles.specs.declared.numbers.options.Direction.TheVariants.{From, OnLine}
-use Rattle.oxc_sourcemap_handles.specs.CallErrors.{of_map}
-use Rattle.oxc_sourcemap_handles.specs.Indices.{Loaded}
-use Rattle.oxc_sourcemap_handles.specs.Listed.{filled}
-use Rattle.oxc_sourcemap_handles.specs.Options.{direction_of}
-use Rattle.oxc_sourcemap_handles.specs.Structs.{numbers_of}
+use Rattle.oxc_sourcemap_c.specs.declared.numbers.options.Direction.{Direction}
+use Rattle.oxc_sourcemap_c.specs.declared.numbers.options.Direction.TheVariants.{At, For}
+use Rattle.oxc_sourcemap_c.specs.declared.numbers.options.Direction.TheVariants.{From, OnLine}
+use Rattle.oxc_sourcemap_c.specs.CallErrors.{of_map}
+use Rattle.oxc_sourcemap_c.specs.Indices.{Loaded}
+use Rattle.oxc_sourcemap_c.specs.Listed.{filled}
+use Rattle.oxc_sourcemap_c.specs.Options.{direction_of}
+use Rattle.oxc_sourcemap_c.specs.Structs.{numbers_of}
 
 -- the indices of the tokens that answer for an original position
 abbrev pub answering : Direction → SourcePlace → List TokenRecord → List ℕ

@@ -2,26 +2,26 @@
 pub use Rattle.oxc_sourcemap_json.specs.JsonText.{map_text, map_url}
 pub use Rattle.oxc_sourcemap_json.specs.Within.{map_text_within, map_url_within, mappings_within}
 pub use Rattle.oxc_sourcemap_found.specs.MendText.{mend_text}
-pub use Rattle.oxc_sourcemap_handles.specs.CallErrors.{call_error_text, out_of_memory, IsNotText}
-pub use Rattle.oxc_sourcemap_handles.specs.CallErrors.{of_map, IsSimplifyError, IsUnsorted}
-pub use Rattle.oxc_sourcemap_handles.specs.Codes.{call_error_of, code_of, fault_of, no_fault}
-pub use Rattle.oxc_sourcemap_handles.specs.Codes.{IsErrorAs, fault_at, IsSmall}
-pub use Rattle.oxc_sourcemap_handles.specs.Holding.{HoldsMap, HoldsOrder, held_loaded, held_map}
-pub use Rattle.oxc_sourcemap_handles.specs.Holding.{held_mends, held_text, held_builder, held_join}
-pub use Rattle.oxc_sourcemap_handles.specs.Listed.{AreFilled, IsListed, IsListedBy, IsOptionListed}
-pub use Rattle.oxc_sourcemap_handles.specs.Listed.{cow_options, filled}
-pub use Rattle.oxc_sourcemap_handles.specs.Lists.{token_of, AreTexts, known_texts, AreContents}
-pub use Rattle.oxc_sourcemap_handles.specs.Lists.{IsNotContents, IsNotTexts}
-pub use Rattle.oxc_sourcemap_handles.specs.PlaceNumbers.{place_of_numbers}
-pub use Rattle.oxc_sourcemap_handles.specs.Structs.{LendsText, IsContentText, bytes_of_options}
-pub use Rattle.oxc_sourcemap_handles.specs.Structs.{bytes_of_texts}
-pub use Rattle.oxc_sourcemap_handles.specs.Structs.{capped, counts_of, map_bytes, numbers_of}
-pub use Rattle.oxc_sourcemap_handles.specs.Structs.{piece_numbers, token_numbers}
-pub use Rattle.oxc_sourcemap_handles.specs.Traces.{AreFoundIn, AreTracesOf, HasBias}
-pub use Rattle.oxc_sourcemap_handles.specs.Traces.{IsTraceAllError, IsTraceError, IsTraceOf}
-pub use Rattle.oxc_sourcemap_handles.specs.declared.numbers.call_error.CallError.TheVariants.{Lengths}
-pub use Rattle.oxc_sourcemap_handles.specs.declared.numbers.call_error.CallError.TheVariants.{NullHandle}
-pub use Rattle.oxc_sourcemap_handles.specs.declared.numbers.options.Direction.TheVariants.{OnLine}
+pub use Rattle.oxc_sourcemap_c.specs.CallErrors.{call_error_text, out_of_memory, IsNotText}
+pub use Rattle.oxc_sourcemap_c.specs.CallErrors.{of_map, IsSimplifyError, IsUnsorted}
+pub use Rattle.oxc_sourcemap_c.specs.Codes.{call_error_of, code_of, fault_of, no_fault}
+pub use Rattle.oxc_sourcemap_c.specs.Codes.{IsErrorAs, fault_at, IsSmall}
+pub use Rattle.oxc_sourcemap_c.specs.Holding.{HoldsMap, HoldsOrder, held_loaded, held_map}
+pub use Rattle.oxc_sourcemap_c.specs.Holding.{held_mends, held_text, held_builder, held_join}
+pub use Rattle.oxc_sourcemap_c.specs.Listed.{AreFilled, IsListed, IsListedBy, IsOptionListed}
+pub use Rattle.oxc_sourcemap_c.specs.Listed.{cow_options, filled}
+pub use Rattle.oxc_sourcemap_c.specs.Lists.{token_of, AreTexts, known_texts, AreContents}
+pub use Rattle.oxc_sourcemap_c.specs.Lists.{IsNotContents, IsNotTexts}
+pub use Rattle.oxc_sourcemap_c.specs.PlaceNumbers.{place_of_numbers}
+pub use Rattle.oxc_sourcemap_c.specs.Structs.{LendsText, IsContentText, bytes_of_options}
+pub use Rattle.oxc_sourcemap_c.specs.Structs.{bytes_of_texts}
+pub use Rattle.oxc_sourcemap_c.specs.Structs.{capped, counts_of, map_bytes, numbers_of}
+pub use Rattle.oxc_sourcemap_c.specs.Structs.{piece_numbers, token_numbers}
+pub use Rattle.oxc_sourcemap_c.specs.Traces.{AreFoundIn, AreTracesOf, HasBias}
+pub use Rattle.oxc_sourcemap_c.specs.Traces.{IsTraceAllError, IsTraceError, IsTraceOf}
+pub use Rattle.oxc_sourcemap_c.specs.declared.numbers.call_error.CallError.TheVariants.{Lengths}
+pub use Rattle.oxc_sourcemap_c.specs.declared.numbers.call_error.CallError.TheVariants.{NullHandle}
+pub use Rattle.oxc_sourcemap_c.specs.declared.numbers.options.Direction.TheVariants.{OnLine}
 pub use Rattle.oxc_sourcemap_lookup.specs.Lookup.{lines_through}
 pub use Rattle.oxc_sourcemap_mappings.specs.Canonical.{canonical}
 pub use Rattle.oxc_sourcemap_mappings.specs.ChunkTexts.{writing_fault}
@@ -44,7 +44,7 @@ pub use Rattle.oxc_sourcemap_map.specs.Built.{nothing_built}
 pub use Rattle.oxc_sourcemap_json.specs.Decoded.{first_not_below}
 pub use Rattle.oxc_sourcemap_json.specs.ReadMap.{read_map}
 pub use Rattle.oxc_sourcemap_found.specs.FoundMaps.{found, found_record}
-pub use Rattle.oxc_sourcemap_handles.specs.declared.numbers.call_error.CallError.{CallError}
+pub use Rattle.oxc_sourcemap_c.specs.declared.numbers.call_error.CallError.{CallError}
 pub use Rattle.oxc_sourcemap_join.specs.Joined.{IsWithinLimits, added, nothing_joined, position}
 pub use Rattle.oxc_sourcemap_mappings.specs.Reading.{reading}
 pub use Rattle.oxc_sourcemap_plan.specs.Outcome.{outcome}
@@ -99,12 +99,12 @@ pub use Rattle.oxc_sourcemap_c.specs.Exports.{IsError, IsUrlAnswer, IsWritingErr
 pub use Rattle.oxc_sourcemap_c.specs.Reading.{DifferFrom, HasAll, HasFirst, Lists, ListsBy}
 pub use Rattle.oxc_sourcemap_c.specs.Reading.{ListsOption, position_at, source_place}
 pub use Rattle.oxc_sourcemap_tokens.specs.declared.errors.error.Error.{Error}
-pub use Rattle.oxc_sourcemap_compiled.specs.Words.{checked_map, compiled_fault, compiled_in}
-pub use Rattle.oxc_sourcemap_handles.specs.CompiledTraces.{IsCompiledIndex, IsCompiledTrace}
-pub use Rattle.oxc_sourcemap_handles.specs.Holding.{held_compiled}
-pub use Rattle.oxc_sourcemap_handles.specs.declared.numbers.call_error.CallError.TheVariants.{BadOption}
-pub use Rattle.oxc_sourcemap_handles.specs.declared.texts.text.Text.{Text as LentText}
-pub use Rattle.oxc_sourcemap_handles.specs.declared.texts.text.TokenNumbers.{TokenNumbers}
+pub use Rattle.oxc_sourcemap_compiled.specs.Words.{compiled_fault, compiled_in}
+pub use Rattle.oxc_sourcemap_c.specs.CompiledTraces.{IsCompiledIndex, IsCompiledTrace}
+pub use Rattle.oxc_sourcemap_c.specs.Holding.{held_compiled}
+pub use Rattle.oxc_sourcemap_c.specs.declared.numbers.call_error.CallError.TheVariants.{BadOption}
+pub use Rattle.oxc_sourcemap_c.specs.declared.texts.text.Text.{Text as LentText}
+pub use Rattle.oxc_sourcemap_c.specs.declared.texts.text.TokenNumbers.{TokenNumbers}
 pub use Rattle.oxc_sourcemap_c.specs.Compiled.{HoldsCompiled, IsCompileError, IsCompiledAllError}
 pub use Rattle.oxc_sourcemap_c.specs.Compiled.{IsCompiledError, IsCompiledFrom, IsCompiledText}
 pub use Rattle.oxc_sourcemap_c.specs.Compiled.{IsCompiledToken, IsDecompileError, IsIgnoredFlag}
@@ -112,3 +112,44 @@ pub use Rattle.oxc_sourcemap_c.specs.Compiled.{IsOpenError, IsStamp, IsWrittenOu
 pub use Rattle.oxc_sourcemap_c.specs.Compiled.{compiled_counts_of}
 pub use Rattle.oxc_sourcemap_c.specs.Compiled.{IsUncompiled, IsSureCompileError, IsTakenApart}
 pub use Rattle.oxc_sourcemap_c.specs.Compiled.{IsSureDecompileError}
+pub use Rattle.oxc_sourcemap_lookup.specs.Biased.{index_by}
+pub use Rattle.oxc_sourcemap_lookup.specs.LineSpans.{IsIndexOf, IsUsualIndexOf}
+pub use Rattle.oxc_sourcemap_map.specs.View.{view_of, view_name, view_original}
+pub use Rattle.oxc_sourcemap_parts.specs.DecodedMap.{name_of}
+pub use Rattle.oxc_sourcemap_map.specs.Reverse.{index_fault}
+pub use Rattle.oxc_sourcemap_tokens.specs.Results.{FailsBy, OnlyMemory, Reports}
+pub use Rattle.oxc_sourcemap_tokens.specs.Token.{id_of}
+pub use Rattle.oxc_sourcemap_tokens.specs.declared.errors.plan_error.PlanError.TheVariants.{Map}
+pub use Rattle.std_alloc.specs.Box.Ownership.{box_owns}
+pub use Rattle.oxc_sourcemap_lookup.specs.declared.bias.Bias.TheVariants.{Before}
+pub use Rattle.oxc_sourcemap_c.specs.Codes.{error_of}
+pub use Rattle.oxc_sourcemap_c.specs.Codes.{fault_of_error, fault_of_json}
+pub use Rattle.oxc_sourcemap_c.specs.Codes.{fault_of_plan_error, fault_of_compiled}
+pub use Rattle.oxc_sourcemap_c.specs.FieldNumbers.{field_of, number_of_field}
+pub use Rattle.oxc_sourcemap_c.specs.Indices.{IsOutOfOrder, IsIndexed}
+pub use Rattle.oxc_sourcemap_c.specs.Lists.{IsContent, IsNotContent}
+pub use Rattle.oxc_sourcemap_c.specs.Lists.{known_text}
+pub use Rattle.oxc_sourcemap_c.specs.Options.{bias_of, direction_of}
+pub use Rattle.oxc_sourcemap_c.specs.PlaceNumbers.{no_place, number_told, numbers_of_place}
+pub use Rattle.oxc_sourcemap_c.specs.PlaceNumbers.{numbers_of_spot}
+pub use Rattle.oxc_sourcemap_c.specs.PlaceNumbers.{spot_of_numbers, told_number}
+pub use Rattle.oxc_sourcemap_c.specs.Structs.{HasOriginal, IsSeen, IsShown, kind_by}
+pub use Rattle.oxc_sourcemap_c.specs.Structs.{index_number, no_numbers, number_or_none}
+pub use Rattle.oxc_sourcemap_c.specs.declared.numbers.call_error.CallError.TheVariants.{Compiled}
+pub use Rattle.oxc_sourcemap_c.specs.declared.numbers.call_error.CallError.TheVariants.{NoIndex}
+pub use Rattle.oxc_sourcemap_c.specs.declared.numbers.call_error.CallError.TheVariants.{Plan}
+pub use Rattle.oxc_sourcemap_c.specs.CallErrors.{of_scopes}
+pub use Rattle.oxc_sourcemap_c.specs.Holding.{held_scopes}
+pub use Rattle.oxc_sourcemap_c.specs.ScopesKinds.{number_of_fault_kind, fault_kind_of}
+pub use Rattle.oxc_sourcemap_c.specs.ScopeNumbers.{scopes_counts_of, scope_numbers, range_numbers}
+pub use Rattle.oxc_sourcemap_c.specs.ScopeNumbers.{call_numbers, frame_numbers, name_of_scope}
+pub use Rattle.oxc_sourcemap_c.specs.Scopes.{HoldsScopes, IsReadScopesError, IsDecodeScopesError}
+pub use Rattle.oxc_sourcemap_c.specs.Scopes.{IsScopesAnswer, IsIndexAnswer, IsIndexWritten}
+pub use Rattle.oxc_sourcemap_c.specs.Scopes.{index_as_number}
+pub use Rattle.oxc_sourcemap_c.specs.Scopes.{ListsFrames, AreFrames}
+pub use Rattle.oxc_sourcemap_c.specs.declared.texts.scopes.ScopeNumbers.{ScopeNumbers}
+pub use Rattle.oxc_sourcemap_c.specs.declared.texts.scopes.RangeNumbers.{RangeNumbers}
+pub use Rattle.oxc_sourcemap_c.specs.declared.numbers.call_error.CallError.TheVariants.{NoEntry}
+pub use Rattle.oxc_sourcemap_scopes.specs.Reading.{scopes_of, read_scopes, AreSound}
+pub use Rattle.oxc_sourcemap_scopes.specs.Asking.{scope_seen, range_seen, scope_at, range_at}
+pub use Rattle.oxc_sourcemap_scopes.specs.Asking.{function_at, frames_record}

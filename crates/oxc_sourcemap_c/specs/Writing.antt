@@ -17,17 +17,17 @@ use Rattle.oxc_sourcemap_text.specs.declared.url.language.Language.TheVariants.{
 use Rattle.oxc_sourcemap_json.specs.Within.{mappings_within}
 use Rattle.oxc_sourcemap_map.specs.Link.{map_link}
 use Rattle.oxc_sourcemap_map.specs.VisualText.{visual_text}
-use Rattle.oxc_sourcemap_handles.specs.declared.numbers.call_error.CallError.{CallError}
-use Rattle.oxc_sourcemap_handles.specs.declared.numbers.call_error.CallError.TheVariants.{NullHandle}
-use Rattle.oxc_sourcemap_handles.specs.declared.numbers.call_error.CallError.TheVariants.{NoEntry}
-use Rattle.oxc_sourcemap_handles.specs.declared.numbers.call_error.CallError.TheVariants.{BadOption}
-use Rattle.oxc_sourcemap_handles.specs.declared.numbers.call_error.CallError.TheVariants.{BadBase64}
-use Rattle.oxc_sourcemap_handles.specs.declared.numbers.call_error.CallError.TheVariants.{BadDataUtf8}
-use Rattle.oxc_sourcemap_handles.specs.declared.holding.held.Held.{Held}
-use Rattle.oxc_sourcemap_handles.specs.declared.texts.text.Text.{Text as LentText}
-use Rattle.oxc_sourcemap_handles.specs.Structs.{LendsText}
-use Rattle.oxc_sourcemap_handles.specs.CallErrors.{of_map, out_of_memory, IsNotText}
-use Rattle.oxc_sourcemap_handles.specs.Holding.{held_map}
+use Rattle.oxc_sourcemap_c.specs.declared.numbers.call_error.CallError.{CallError}
+use Rattle.oxc_sourcemap_c.specs.declared.numbers.call_error.CallError.TheVariants.{NullHandle}
+use Rattle.oxc_sourcemap_c.specs.declared.numbers.call_error.CallError.TheVariants.{NoEntry}
+use Rattle.oxc_sourcemap_c.specs.declared.numbers.call_error.CallError.TheVariants.{BadOption}
+use Rattle.oxc_sourcemap_c.specs.declared.numbers.call_error.CallError.TheVariants.{BadBase64}
+use Rattle.oxc_sourcemap_c.specs.declared.numbers.call_error.CallError.TheVariants.{BadDataUtf8}
+use Rattle.oxc_sourcemap_c.specs.declared.holding.held.Held.{Held}
+use Rattle.oxc_sourcemap_c.specs.declared.texts.text.Text.{Text as LentText}
+use Rattle.oxc_sourcemap_c.specs.Structs.{LendsText}
+use Rattle.oxc_sourcemap_c.specs.CallErrors.{of_map, out_of_memory, IsNotText}
+use Rattle.oxc_sourcemap_c.specs.Holding.{held_map}
 
 -- the mappings text of tokens, or the fault for which they cannot be written
 abbrev pub tokens_text : List TokenRecord → Result Text Error

@@ -2,7 +2,7 @@
 ghost use Rattle.std.specs.Prelude.{◌≡◌, Ok, Err, MatchResult, ◌<◌};
 ghost use Rattle.oxc_sourcemap_c.specs.Words.{fault_of, code_of, no_fault};
 
-use oxc_sourcemap_handles::{CallError, Fault};
+use crate::numbers::{CallError, Fault};
 
 /// Writes what was found, or nothing on an error, and returns the code.
 pub fn write_found<T: Drop>(answer: Result<T, CallError>, out: &mut T) -> u32

@@ -1,7 +1,7 @@
 //! Giving back what handles hold.
 ghost use Rattle.std.specs.Prelude.{◌≡◌, None, map};
 
-use oxc_sourcemap_handles::Handle;
+use crate::holding::Handle;
 use std::alloc::Global;
 
 /// Frees a map. The handle is then empty.
@@ -34,4 +34,12 @@ pub extern "C" fn proved_free_compiled(alloc: Global, compiled: &mut Handle)
     ensures { compiled.new.held ≡ None }
 {
     drop(compiled.take(alloc));
+}
+
+/// Frees scopes. The handle is then empty.
+#[unsafe(no_mangle)]
+pub extern "C" fn proved_free_scopes(alloc: Global, scopes: &mut Handle)
+    ensures { scopes.new.held ≡ None }
+{
+    drop(scopes.take(alloc));
 }

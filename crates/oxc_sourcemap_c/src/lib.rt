@@ -7,5 +7,9 @@
 mod answers;
 mod compiled;
 mod freeing;
+mod holding;
 mod making;
+mod numbers;
 mod reading;
+mod scopes;
+mod texts;

@@ -11,14 +11,13 @@ ghost use Rattle.oxc_sourcemap_c.specs.Words.{asked_of, text_at, lent_item, Null
 ghost use Rattle.oxc_sourcemap_c.specs.Words.{CallError, LentText, TokenNumbers};
 
 use crate::answers::write_found;
+use crate::holding::{Lent, find_all_compiled, trace_all_compiled, trace_compiled};
+use crate::numbers::{CallError, Fault, bias_from};
 use crate::reading::asked::Asked;
 use crate::reading::getters::flag;
 use crate::reading::lookups::have_one_length;
+use crate::texts::{Original, Text, TokenNumbers};
 use oxc_sourcemap_compiled::CompiledMap;
-use oxc_sourcemap_handles::{
-    CallError, Fault, Lent, Original, Text, TokenNumbers, bias_from, find_all_compiled,
-    trace_all_compiled, trace_compiled,
-};
 use oxc_sourcemap_tokens::Position;
 
 /// Writes what a compiled map says of a generated position, by the bias of this number, and nothing on an error.

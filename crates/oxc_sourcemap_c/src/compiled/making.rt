@@ -7,8 +7,9 @@ ghost use Rattle.oxc_sourcemap_c.specs.Words.{held_compiled, held_map, compiled_
 ghost use Rattle.oxc_sourcemap_c.specs.Words.{code_of, CallError, IsTakenApart, IsUncompiled};
 ghost use Rattle.oxc_sourcemap_c.specs.Words.{IsSureDecompileError, IsSureCompileError, IsUnsorted};
 
+use crate::holding::{Handle, Lent, put_bytes, put_compiled, put_map};
+use crate::numbers::{CallError, Fault};
 use oxc_sourcemap_compiled::{CompiledMap, compile};
-use oxc_sourcemap_handles::{CallError, Fault, Handle, Lent, put_bytes, put_compiled, put_map};
 use oxc_sourcemap_map::{OwnedSourceMap, SourceMap, parts_of};
 use oxc_sourcemap_parts::owned_parts;
 use std::alloc::Global;

@@ -9,10 +9,9 @@ ghost use Rattle.oxc_sourcemap_c.specs.Words.{IsSourceError, IsPathError, IsNotT
 ghost use Rattle.oxc_sourcemap_c.specs.Words.{IsBuilderError, IsFinished, CallError, code_of};
 
 use crate::answers::write_told;
-use oxc_sourcemap_handles::{
-    CallError, Fault, Handle, Held, LoadedMap, TokenNumbers, empty_box, index_of, put, text_of,
-    tokens_of,
-};
+use crate::holding::{Handle, Held, LoadedMap, empty_box, index_of, put};
+use crate::numbers::{CallError, Fault};
+use crate::texts::{TokenNumbers, text_of, tokens_of};
 use oxc_sourcemap_map::{OwnedSourceMap, SourceMapBuilder};
 use std::alloc::Global;
 use std::mem;

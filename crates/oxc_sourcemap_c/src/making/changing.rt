@@ -10,7 +10,8 @@ ghost use Rattle.oxc_sourcemap_c.specs.Words.{simplification, NeedsNoMemory, Hol
 ghost use Rattle.oxc_sourcemap_c.specs.Words.{are_tokens_sorted};
 
 use crate::answers::write_fault;
-use oxc_sourcemap_handles::{CallError, Fault, Handle, Held, LoadedMap};
+use crate::holding::{Handle, Held, LoadedMap};
+use crate::numbers::{CallError, Fault};
 use std::alloc::Global;
 
 /// A change of a map. Texts are bytes, which have to be UTF-8.

@@ -2,7 +2,7 @@
 ghost use Rattle.std.specs.Prelude.{◌≡◌, ◌≢◌, None};
 ghost use Rattle.oxc_sourcemap_c.specs.Words.{out_of_memory, OutOfMemory, of_map};
 
-use oxc_sourcemap_handles::CallError;
+use crate::numbers::CallError;
 use oxc_sourcemap_tokens::{Error, Fault, FaultPlace};
 
 /// Why a call fails, and where in the input the fault is.

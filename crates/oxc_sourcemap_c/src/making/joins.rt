@@ -8,9 +8,8 @@ ghost use Rattle.oxc_sourcemap_c.specs.Words.{IsJoinFinished, IsNullJoin, CallEr
 ghost use Rattle.oxc_sourcemap_c.specs.Words.{code_of, position};
 
 use crate::answers::write_fault;
-use oxc_sourcemap_handles::{
-    CallError, Fault, Handle, Held, Lent, LoadedMap, empty_box, index_of, put,
-};
+use crate::holding::{Handle, Held, Lent, LoadedMap, empty_box, index_of, put};
+use crate::numbers::{CallError, Fault};
 use oxc_sourcemap_map::{ConcatSourceMapBuilder, OwnedSourceMap};
 use oxc_sourcemap_tokens::Position;
 use std::alloc::Global;

@@ -13,7 +13,9 @@ ghost use Rattle.oxc_sourcemap_c.specs.Words.{CallError, Error, IsSureComposeErr
 ghost use Rattle.oxc_sourcemap_c.specs.Words.{IsSureJoinError, IsSureRemapError};
 ghost use Rattle.oxc_sourcemap_c.specs.Words.{composition_fault, of_map};
 
-use oxc_sourcemap_handles::{CallError, Fault, Handle, Lent, put_map, texts_of};
+use crate::holding::{Handle, Lent, put_map};
+use crate::numbers::{CallError, Fault};
+use crate::texts::texts_of;
 use oxc_sourcemap_join::{JoinedParts, Lengths, with_lengths, with_room};
 use oxc_sourcemap_map::{OwnedSourceMap, parts_of};
 use oxc_sourcemap_steps::compose_lent_parts;

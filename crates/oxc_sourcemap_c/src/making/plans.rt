@@ -6,9 +6,11 @@ ghost use Rattle.oxc_sourcemap_c.specs.Words.{IsOutcomeErrorAt, lent_items, outc
 ghost use Rattle.oxc_sourcemap_c.specs.Words.{HoldsMap, IsErrorAt, no_fault, are_among};
 ghost use Rattle.oxc_sourcemap_c.specs.Words.{fault_place_in};
 
+use crate::holding::Handle;
 use crate::making::failure::Failure;
 use crate::making::reading_texts::put_read;
-use oxc_sourcemap_handles::{CallError, Fault, Handle, texts_of};
+use crate::numbers::{CallError, Fault};
+use crate::texts::texts_of;
 use oxc_sourcemap_map::OwnedSourceMap;
 use oxc_sourcemap_plan::{Plan, PlanFault, RunError, evaluate_where, read_plan};
 use oxc_sourcemap_tokens::{Error, Memory, PlanError};

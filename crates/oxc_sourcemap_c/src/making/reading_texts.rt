@@ -8,9 +8,11 @@ ghost use Rattle.oxc_sourcemap_c.specs.Words.{IsSegmentErrorAt, found, IsMapping
 ghost use Rattle.oxc_sourcemap_c.specs.Words.{reading, map_of_tokens, found_record, IsFoundErrorAt};
 ghost use Rattle.oxc_sourcemap_c.specs.Words.{IsFoundTextErrorAt, HoldsMap, IsErrorAt};
 
+use crate::holding::{Handle, Held, box_map};
 use crate::making::failure::Failure;
+use crate::numbers::{CallError, Fault};
+use crate::texts::text_of;
 use oxc_sourcemap_found::{Mend, mending_harmless, read_located};
-use oxc_sourcemap_handles::{CallError, Fault, Handle, Held, box_map, text_of};
 use oxc_sourcemap_json::read_parts_from_string;
 use oxc_sourcemap_map::OwnedSourceMap;
 use oxc_sourcemap_mappings::read_mappings;
@@ -135,7 +137,7 @@ pub fn put_read(
         × (result ≡ code_of f.error)) }
 {
     match made {
-        Ok(map) => oxc_sourcemap_handles::put(alloc, box_map(alloc, map), handle, fault),
+        Ok(map) => crate::holding::put(alloc, box_map(alloc, map), handle, fault),
         Err(failure) => write_failure(failure, fault),
     }
 }

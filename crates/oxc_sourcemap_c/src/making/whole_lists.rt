@@ -8,9 +8,9 @@ ghost use Rattle.oxc_sourcemap_c.specs.Words.{cow_texts, record_of_parts, IsNotT
 ghost use Rattle.oxc_sourcemap_c.specs.Words.{IsListsError, HasTexts, no_fault, IsErrorAs};
 ghost use Rattle.oxc_sourcemap_c.specs.Words.{held_map};
 
-use oxc_sourcemap_handles::{
-    CallError, Fault, Handle, TokenNumbers, contents_of, put_map, texts_of, tokens_of,
-};
+use crate::holding::{Handle, put_map};
+use crate::numbers::{CallError, Fault};
+use crate::texts::{TokenNumbers, contents_of, texts_of, tokens_of};
 use oxc_sourcemap_map::OwnedSourceMap;
 use oxc_sourcemap_parts::{SourceMapParts, owned_contents, owned_text};
 use oxc_sourcemap_tokens::{Error, Memory, Token};

@@ -14,8 +14,10 @@ ghost use Rattle.oxc_sourcemap_c.specs.Words.{token_numbers, code_of, content_at
 ghost use Rattle.oxc_sourcemap_c.specs.Words.{Lists, ListsBy, ListsOption, known_flag, known_flags};
 
 use crate::answers::write_found;
+use crate::holding::{Lent, LoadedMap};
+use crate::numbers::CallError;
 use crate::reading::asked::Asked;
-use oxc_sourcemap_handles::{CallError, Counts, Lent, LoadedMap, Text, TokenNumbers};
+use crate::texts::{Counts, Text, TokenNumbers};
 use oxc_sourcemap_map::{OwnedSourceMap, parts_of};
 use oxc_sourcemap_tokens::Token;
 use std::borrow::CowStr;

@@ -9,10 +9,10 @@ ghost use Rattle.oxc_sourcemap_c.specs.Words.{IsDifference, Piece, filled, IsErr
 ghost use Rattle.oxc_sourcemap_c.specs.Words.{position_at, IsCodeOf, lent_item};
 
 use crate::answers::{write_fault, write_found};
+use crate::holding::{Held, Lent, LoadedMap};
+use crate::numbers::{CallError, Fault, bias_from};
 use crate::reading::reverse::generated;
-use oxc_sourcemap_handles::{
-    CallError, Fault, Held, Lent, LoadedMap, Original, PieceNumbers, bias_from,
-};
+use crate::texts::{Original, PieceNumbers};
 use oxc_sourcemap_queries::Pieces;
 use oxc_sourcemap_tokens::Position;
 

@@ -5,8 +5,9 @@ ghost use Rattle.oxc_sourcemap_c.specs.Words.{numbers_of_kind, numbers_of_mend, 
 ghost use Rattle.oxc_sourcemap_c.specs.Words.{mend_of_numbers, filled, kind_numbers, held_mends};
 ghost use Rattle.oxc_sourcemap_c.specs.Words.{lent_item, NullHandle, found, code_of};
 
+use crate::holding::{Held, Lent};
+use crate::numbers::{CallError, Fault, number_told, told_number};
 use oxc_sourcemap_found::{Mend, MendKind};
-use oxc_sourcemap_handles::{CallError, Fault, Held, Lent, number_told, told_number};
 
 /// The kind of a mend, the number of the section, and the number that the kind has; 18446744073709551615 stands for no section.
 #[repr(C)]

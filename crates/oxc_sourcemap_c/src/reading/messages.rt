@@ -5,9 +5,9 @@ ghost use Rattle.oxc_sourcemap_c.specs.Words.{call_error_text, call_error_of, fi
 ghost use Rattle.oxc_sourcemap_c.specs.Words.{place_text, place_of_numbers, mend_text};
 ghost use Rattle.oxc_sourcemap_c.specs.Words.{mend_of_numbers, CallError, IsSmall, fault_of};
 
+use crate::numbers::{Fault, PlaceNumbers};
 use crate::reading::mends::MendNumbers;
 use oxc_sourcemap_found::fault_reason;
-use oxc_sourcemap_handles::{Fault, PlaceNumbers};
 use oxc_sourcemap_json::FaultReason;
 use std::alloc::Global;
 

@@ -11,8 +11,10 @@ ghost use Rattle.oxc_sourcemap_c.specs.Words.{source_place};
 ghost use Rattle.oxc_sourcemap_c.specs.Words.{CallError, IsMapMissing};
 
 use crate::answers::{write_fault, write_found};
+use crate::holding::{Handle, Held, Lent};
+use crate::numbers::{CallError, Direction, Fault};
 use crate::reading::getters::write_numbers;
-use oxc_sourcemap_handles::{CallError, Direction, Fault, Handle, Held, Lent, TokenNumbers};
+use crate::texts::TokenNumbers;
 use oxc_sourcemap_map::SourceOrder;
 use oxc_sourcemap_tokens::Token;
 use std::alloc::Global;

@@ -6,7 +6,9 @@ ghost use Rattle.oxc_sourcemap_c.specs.Words.{no_fault, IsErrorAs, IsUrlAnswer, 
 ghost use Rattle.oxc_sourcemap_c.specs.Words.{call_error_of, HoldsString};
 
 use crate::answers::write_told;
-use oxc_sourcemap_handles::{CallError, Fault, Handle, Text, put_text, text_of};
+use crate::holding::{Handle, put_text};
+use crate::numbers::{CallError, Fault};
+use crate::texts::{Text, text_of};
 use oxc_sourcemap_text::{DataUrlError, Language};
 use std::alloc::Global;
 

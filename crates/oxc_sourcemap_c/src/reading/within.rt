@@ -7,7 +7,9 @@ ghost use Rattle.oxc_sourcemap_c.specs.Words.{Answers, no_fault, IsErrorAs, held
 ghost use Rattle.oxc_sourcemap_c.specs.Words.{HoldsWritten, IsWritingError};
 ghost use Rattle.oxc_sourcemap_c.specs.Words.{CallError, IsMapMissing, code_of};
 
-use oxc_sourcemap_handles::{CallError, Fault, Handle, Lent, TokenNumbers, put_text, tokens_of};
+use crate::holding::{Handle, Lent, put_text};
+use crate::numbers::{CallError, Fault};
+use crate::texts::{TokenNumbers, tokens_of};
 use oxc_sourcemap_json::encode_mappings_within as encode_within;
 use oxc_sourcemap_map::{OwnedSourceMap, parts_of};
 use std::alloc::Global;

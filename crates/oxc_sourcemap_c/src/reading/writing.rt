@@ -9,9 +9,9 @@ ghost use Rattle.oxc_sourcemap_c.specs.Words.{no_fault, IsErrorAs, held_map, Hol
 ghost use Rattle.oxc_sourcemap_c.specs.Words.{IsWritingError, CallError, HoldsString};
 ghost use Rattle.oxc_sourcemap_c.specs.Words.{IsMapMissing, code_of};
 
-use oxc_sourcemap_handles::{
-    CallError, Fault, Handle, Lent, TokenNumbers, put_text, text_of, tokens_of,
-};
+use crate::holding::{Handle, Lent, put_text};
+use crate::numbers::{CallError, Fault};
+use crate::texts::{TokenNumbers, text_of, tokens_of};
 use oxc_sourcemap_map::{OwnedSourceMap, SourcemapVisualizer, parts_of};
 use oxc_sourcemap_tokens::{Token, TokenChunk};
 use std::alloc::Global;

@@ -1,5 +1,5 @@
 use Rattle.std.proofs.Common.{sym}
-use Rattle.oxc_sourcemap_handles.specs.declared.holding.held.Held.TheVariants.{Building}
+use Rattle.oxc_sourcemap_c.specs.declared.holding.held.Held.TheVariants.{Building}
 use Rattle.oxc_sourcemap_c.proofs.Building.{unchanged}
 use Rattle.oxc_sourcemap_c.proofs.making.builders.finish_held.Goals as goal
 

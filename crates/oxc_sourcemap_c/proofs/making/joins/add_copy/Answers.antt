@@ -1,7 +1,7 @@
 use Rattle.std.proofs.Common.{Err, inl, inr, ap, sym, subst, ◌∙◌}
 use Rattle.oxc_sourcemap_join.specs.Joined.{added, IsWithinLimits}
 use Rattle.oxc_sourcemap_tokens.proofs.Carried.{carried_error}
-use Rattle.oxc_sourcemap_handles.specs.CallErrors.{of_map}
+use Rattle.oxc_sourcemap_c.specs.CallErrors.{of_map}
 use Rattle.oxc_sourcemap_c.proofs.making.joins.add_copy.Goals as goal
 
 pub returns-in_err-add_sourcemap_copied_at-clause-error :

@@ -1,6 +1,6 @@
 use Rattle.std.proofs.Common.{arith, ap, sym, ◌∙◌}
-use Rattle.oxc_sourcemap_handles.specs.declared.holding.lent.Lent.{Lent}
-use Rattle.oxc_sourcemap_handles.specs.Holding.{held_map}
+use Rattle.oxc_sourcemap_c.specs.declared.holding.lent.Lent.{Lent}
+use Rattle.oxc_sourcemap_c.specs.Holding.{held_map}
 use Rattle.oxc_sourcemap_c.proofs.MapsOfMaps.{missing_more, there_more}
 use Rattle.oxc_sourcemap_c.proofs.making.maps_of_maps.all_lengths.Goals as goal
 

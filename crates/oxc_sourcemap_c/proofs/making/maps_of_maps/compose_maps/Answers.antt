@@ -3,8 +3,8 @@ use Rattle.oxc_sourcemap_tokens.specs.declared.errors.plan_error.PlanError.TheVa
 use Rattle.oxc_sourcemap_tokens.proofs.Carried.{carried_error}
 use Rattle.oxc_sourcemap_parts.specs.Views.{record_of_parts}
 use Rattle.oxc_sourcemap_steps.specs.Composed.{SomeComposition}
-use Rattle.oxc_sourcemap_handles.specs.declared.numbers.call_error.CallError.TheVariants.{Plan}
-use Rattle.oxc_sourcemap_handles.specs.CallErrors.{of_map}
+use Rattle.oxc_sourcemap_c.specs.declared.numbers.call_error.CallError.TheVariants.{Plan}
+use Rattle.oxc_sourcemap_c.specs.CallErrors.{of_map}
 use Rattle.oxc_sourcemap_c.specs.MapsOfMaps.{IsComposition}
 use Rattle.oxc_sourcemap_c.proofs.making.maps_of_maps.compose_maps.Goals as goal
 

@@ -4,8 +4,8 @@ use Rattle.oxc_sourcemap_tokens.specs.Results.{lent_items}
 use Rattle.oxc_sourcemap_steps.specs.Inputs.{lent_inputs}
 use Rattle.oxc_sourcemap_tokens.specs.declared.errors.plan_error.PlanError.TheVariants.{Map}
 use Rattle.oxc_sourcemap_tokens.proofs.Carried.{carried_error}
-use Rattle.oxc_sourcemap_handles.specs.declared.numbers.call_error.CallError.TheVariants.{Plan}
-use Rattle.oxc_sourcemap_handles.specs.CallErrors.{of_map}
+use Rattle.oxc_sourcemap_c.specs.declared.numbers.call_error.CallError.TheVariants.{Plan}
+use Rattle.oxc_sourcemap_c.specs.CallErrors.{of_map}
 use Rattle.oxc_sourcemap_c.specs.MapsOfMaps.{by_path}
 use Rattle.oxc_sourcemap_c.proofs.MapsOfMaps.{not_remapped}
 use Rattle.oxc_sourcemap_c.proofs.making.maps_of_maps.remap_map.Goals as goal

@@ -2,7 +2,7 @@ use Rattle.std.proofs.Common.{rules, ◌≢◌, ap}
 use Rattle.oxc_sourcemap_tokens.specs.Results.{lent_items}
 use Rattle.oxc_sourcemap_plan.specs.Meaning.{meaning}
 use Rattle.oxc_sourcemap_plan.specs.Outcome.{outcome}
-use Rattle.oxc_sourcemap_handles.specs.CallErrors.{out_of_memory}
+use Rattle.oxc_sourcemap_c.specs.CallErrors.{out_of_memory}
 use Rattle.oxc_sourcemap_c.specs.Plans.{of_plan}
 use Rattle.oxc_sourcemap_c.proofs.Located.{plan_failed}
 use Rattle.oxc_sourcemap_c.proofs.making.plans.evaluate_plan.Goals as goal

@@ -3,7 +3,7 @@ use Rattle.std.proofs.Common.{arith}
 use Rattle.std.proofs.lemmas.Bool.{cases_lt}
 use Rattle.std.proofs.lemmas.List.{drop-map, drop_all, length-drop, length-map, take_all}
 use Rattle.std.specs.Cow.{cow_str_bytes}
-use Rattle.oxc_sourcemap_handles.specs.Listed.{cow_options}
+use Rattle.oxc_sourcemap_c.specs.Listed.{cow_options}
 use Rattle.oxc_sourcemap_c.proofs.reading.getters.contents_from.Goals as goal
 
 -- an index past the end cuts off as much as the end

@@ -4,9 +4,9 @@ use Rattle.std.proofs.lemmas.Bool.{cases_lt}
 use Rattle.std.proofs.lemmas.Grind.{get_or-set_at}
 use Rattle.std.proofs.lemmas.List.{length-map, get_or-map, get_or-set_other}
 use Rattle.std.specs.Cow.{cow_str_bytes}
-use Rattle.oxc_sourcemap_handles.specs.Listed.{cow_options}
-use Rattle.oxc_sourcemap_handles.specs.Structs.{IsContentText}
-use Rattle.oxc_sourcemap_handles.proofs.Filling.{are_filled, left-next}
+use Rattle.oxc_sourcemap_c.specs.Listed.{cow_options}
+use Rattle.oxc_sourcemap_c.specs.Structs.{IsContentText}
+use Rattle.oxc_sourcemap_c.proofs.Filling.{are_filled, left-next}
 use Rattle.oxc_sourcemap_c.proofs.reading.getters.write_contents.Goals as goal
 
 pub loop-i-preserved : goal.loop-i-preserved

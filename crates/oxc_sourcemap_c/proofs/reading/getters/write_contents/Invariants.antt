@@ -1,7 +1,7 @@
 use Rattle.std.proofs.Common.{◌≡◌, ℕ, ◌<◌, List, Option, get_or, drop}
-use Rattle.oxc_sourcemap_handles.specs.Listed.{cow_options}
-use Rattle.oxc_sourcemap_handles.specs.declared.texts.text.Text.{Text}
-use Rattle.oxc_sourcemap_handles.specs.Structs.{IsContentText}
+use Rattle.oxc_sourcemap_c.specs.Listed.{cow_options}
+use Rattle.oxc_sourcemap_c.specs.declared.texts.text.Text.{Text}
+use Rattle.oxc_sourcemap_c.specs.Structs.{IsContentText}
 use Rattle.oxc_sourcemap_c.proofs.reading.getters.write_contents.Given as goal
 
 abbrev pub invariant-loop-i : goal.invariant-loop-i

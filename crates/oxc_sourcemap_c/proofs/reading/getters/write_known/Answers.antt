@@ -4,8 +4,8 @@ use Rattle.std.proofs.lemmas.Simd.{map-map}
 use Rattle.std.specs.Cow.{cow_str_bytes}
 use Rattle.std.specs.declared.alloc.Global.{Global}
 use Rattle.std.specs.declared.borrow.CowStr.{CowStr}
-use Rattle.oxc_sourcemap_handles.specs.Listed.{filled}
-use Rattle.oxc_sourcemap_handles.proofs.Filling.{filled-by, take_mapped}
+use Rattle.oxc_sourcemap_c.specs.Listed.{filled}
+use Rattle.oxc_sourcemap_c.proofs.Filling.{filled-by, take_mapped}
 use Rattle.oxc_sourcemap_c.specs.Answers.{known_flag}
 use Rattle.oxc_sourcemap_c.proofs.reading.getters.write_known.Goals as goal
 

@@ -2,8 +2,8 @@ use Rattle.std.proofs.Common.{arith}
 use Rattle.std.proofs.lemmas.List.{length-map}
 use Rattle.std.specs.Cow.{cow_str_bytes}
 use Rattle.oxc_sourcemap_parts.specs.Views.{cow_texts}
-use Rattle.oxc_sourcemap_handles.specs.Structs.{LendsText}
-use Rattle.oxc_sourcemap_handles.proofs.Filling.{are_filled}
+use Rattle.oxc_sourcemap_c.specs.Structs.{LendsText}
+use Rattle.oxc_sourcemap_c.proofs.Filling.{are_filled}
 use Rattle.oxc_sourcemap_c.proofs.reading.getters.write_texts.Goals as goal
 
 pub returns : goal.returns

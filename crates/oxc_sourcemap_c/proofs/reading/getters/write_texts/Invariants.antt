@@ -1,7 +1,7 @@
 use Rattle.std.proofs.Common.{◌≡◌, ℕ, ◌<◌, List, get_or, drop}
 use Rattle.oxc_sourcemap_parts.specs.Views.{cow_texts}
-use Rattle.oxc_sourcemap_handles.specs.declared.texts.text.Text.{Text}
-use Rattle.oxc_sourcemap_handles.specs.Structs.{LendsText}
+use Rattle.oxc_sourcemap_c.specs.declared.texts.text.Text.{Text}
+use Rattle.oxc_sourcemap_c.specs.Structs.{LendsText}
 use Rattle.oxc_sourcemap_c.proofs.reading.getters.write_texts.Given as goal
 
 abbrev pub invariant-loop-i : goal.invariant-loop-i

@@ -1,7 +1,7 @@
 use Rattle.std.proofs.Common.{◌∙◌, map, arith}
 use Rattle.std.proofs.lemmas.List.{length-map}
-use Rattle.oxc_sourcemap_handles.specs.Structs.{numbers_of}
-use Rattle.oxc_sourcemap_handles.proofs.Filling.{filled-by, take_mapped}
+use Rattle.oxc_sourcemap_c.specs.Structs.{numbers_of}
+use Rattle.oxc_sourcemap_c.proofs.Filling.{filled-by, take_mapped}
 use Rattle.oxc_sourcemap_c.proofs.reading.getters.write_tokens.Goals as goal
 
 pub returns : goal.returns

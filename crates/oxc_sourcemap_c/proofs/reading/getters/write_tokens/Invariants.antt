@@ -1,5 +1,5 @@
 use Rattle.std.proofs.Common.{◌≡◌, map, take, drop}
-use Rattle.oxc_sourcemap_handles.specs.Structs.{numbers_of}
+use Rattle.oxc_sourcemap_c.specs.Structs.{numbers_of}
 use Rattle.oxc_sourcemap_c.proofs.reading.getters.write_tokens.Given as goal
 
 abbrev pub invariant-loop-i : goal.invariant-loop-i

@@ -2,8 +2,8 @@ use Rattle.std.proofs.Common.{◌≡◌, ◌∙◌, ◌+◌, ◌<◌, ap, length
 use Rattle.std.proofs.Common.{None, arith}
 use Rattle.std.proofs.lemmas.List.{length-map, drop-drop, get_or-drop}
 use Rattle.oxc_sourcemap_queries.specs.declared.pieces.cuts.Piece.{Piece}
-use Rattle.oxc_sourcemap_handles.specs.Structs.{piece_numbers}
-use Rattle.oxc_sourcemap_handles.proofs.Filling.{filled-by, take_mapped, written-next, left-next}
+use Rattle.oxc_sourcemap_c.specs.Structs.{piece_numbers}
+use Rattle.oxc_sourcemap_c.proofs.Filling.{filled-by, take_mapped, written-next, left-next}
 use Rattle.oxc_sourcemap_c.proofs.reading.lookups.write_pieces.Goals as goal
 
 -- what stands for a piece past the end

@@ -1,5 +1,5 @@
 use Rattle.std.proofs.Common.{◌≡◌, map, take, drop}
-use Rattle.oxc_sourcemap_handles.specs.Structs.{piece_numbers}
+use Rattle.oxc_sourcemap_c.specs.Structs.{piece_numbers}
 use Rattle.oxc_sourcemap_c.proofs.reading.lookups.write_pieces.Given as goal
 
 abbrev pub invariant-loop-i : goal.invariant-loop-i

@@ -1,9 +1,9 @@
 use Rattle.std.proofs.Common.{◌≡◌, ap, subst, ◌∙◌}
 use Rattle.std.specs.Prelude.{MatchOption}
-use Rattle.oxc_sourcemap_handles.specs.CallErrors.{call_error_text}
-use Rattle.oxc_sourcemap_handles.specs.Codes.{call_error_of}
+use Rattle.oxc_sourcemap_c.specs.CallErrors.{call_error_text}
+use Rattle.oxc_sourcemap_c.specs.Codes.{call_error_of}
 use Rattle.oxc_sourcemap_c.specs.Messages.{IsMessage}
-use Rattle.oxc_sourcemap_handles.proofs.ReadBack.{read_back}
+use Rattle.oxc_sourcemap_c.proofs.ReadBack.{read_back}
 use Rattle.oxc_sourcemap_c.proofs.reading.messages.proved_message.Goals as goal
 
 pub returns-clause-message : goal.returns-clause-message

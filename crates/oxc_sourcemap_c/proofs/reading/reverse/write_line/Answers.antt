@@ -1,7 +1,7 @@
 use Rattle.std.proofs.Common.{◌≡◌, ◌∙◌, ◌+◌, ◌<◌, ◌++◌, ◌∷◌, [], ap, sym, cond, length, take, arith}
 use Rattle.std.proofs.lemmas.List.{length-append, append-nil, get_or-take, length-take}
 use Rattle.oxc_sourcemap_map.specs.Reverse.{is_into, passing}
-use Rattle.oxc_sourcemap_handles.specs.Listed.{filled}
+use Rattle.oxc_sourcemap_c.specs.Listed.{filled}
 use Rattle.oxc_sourcemap_c.proofs.Passing.{passing_next, none_passing, front_passing, outside_false}
 use Rattle.oxc_sourcemap_c.proofs.Passing.{filled_none}
 use Rattle.oxc_sourcemap_c.proofs.reading.reverse.write_line.Goals as goal

@@ -1,6 +1,6 @@
 use Rattle.std.proofs.Common.{◌≡◌, ◌≤◌, length, take}
 use Rattle.oxc_sourcemap_map.specs.Reverse.{passing, is_into}
-use Rattle.oxc_sourcemap_handles.specs.Listed.{filled}
+use Rattle.oxc_sourcemap_c.specs.Listed.{filled}
 use Rattle.oxc_sourcemap_c.proofs.reading.reverse.write_line.Given as goal
 
 abbrev pub invariant-loop-i : goal.invariant-loop-i

@@ -1,0 +1,66 @@
+-- Calls on scopes.
+use Rattle.std.specs.Prelude.{◌≡◌, ◌⊎◌, ℕ, List, length, map, min, Option, Result, Ok, Err}
+use Rattle.std.specs.Prelude.{IsUtf8, MatchOption, MatchResult, option_map}
+use Rattle.oxc_sourcemap_scopes.specs.Reading.{ScopesRecord, scopes_of, read_scopes}
+use Rattle.oxc_sourcemap_scopes.specs.Asking.{frames_at}
+use Rattle.oxc_sourcemap_scopes.specs.declared.errors.ScopesError.{ScopesError}
+use Rattle.oxc_sourcemap_c.specs.CallErrors.{IsNotText, of_scopes, out_of_memory}
+use Rattle.oxc_sourcemap_c.specs.Holding.{held_scopes}
+use Rattle.oxc_sourcemap_c.specs.Listed.{filled}
+use Rattle.oxc_sourcemap_c.specs.Answers.{flag_of}
+use Rattle.oxc_sourcemap_c.specs.Compiled.{IsWrittenOut}
+use Rattle.oxc_sourcemap_c.specs.ScopeNumbers.{frame_numbers}
+use Rattle.oxc_sourcemap_c.specs.declared.holding.held.Held.{Held}
+use Rattle.oxc_sourcemap_c.specs.declared.numbers.call_error.CallError.{CallError}
+use Rattle.oxc_sourcemap_c.specs.declared.numbers.call_error.CallError.TheVariants.{NullHandle}
+use Rattle.oxc_sourcemap_c.specs.declared.numbers.call_error.CallError.TheVariants.{NoEntry}
+use Rattle.oxc_sourcemap_c.specs.declared.texts.scopes.FrameNumbers.{FrameNumbers}
+
+-- a handle holds scopes of which this holds
+abbrev pub HoldsScopes : Option Held → (ScopesRecord → Type 0) → Type 0
+HoldsScopes held P = MatchOption (held_scopes held) ⊥ P
+
+-- an error of reading bytes as scopes, as defined by this: they are no text, or the first of the text
+abbrev pub IsScopesErrorBy : (List ℕ → Result ScopesRecord ScopesError) → List ℕ → CallError → Type 0
+IsScopesErrorBy read bytes r = IsNotText bytes r ⊎ (IsUtf8 bytes × ((e : ScopesError) × (read bytes ≡ Err e) × (r ≡ of_scopes e)))
+
+-- an error of reading the scopes of a map, by the bytes of its JSON text
+abbrev pub IsReadScopesError : List ℕ → CallError → Type 0
+IsReadScopesError json r = IsScopesErrorBy read_scopes json r
+
+-- an error of reading the bytes of a `scopes` text, where there are so many names
+abbrev pub IsDecodeScopesError : List ℕ → ℕ → CallError → Type 0
+IsDecodeScopesError text names r = IsScopesErrorBy (λ bytes. scopes_of bytes names) text r
+
+-- what scopes in a handle answer: `NullHandle`, `NoEntry`, or what they say
+abbrev pub IsScopesAnswer : {A : Type 0} → Option Held → (ScopesRecord → Option A) → Result A CallError → Type 0
+IsScopesAnswer held ask answer =
+    MatchOption (held_scopes held) (answer ≡ Err NullHandle) (λ s. MatchOption (ask s) (answer ≡ Err NoEntry) (λ found. answer ≡ Ok found))
+
+-- an index as a number, 4294967295 if it is not below that
+abbrev pub index_as_number : ℕ → ℕ
+index_as_number i = min i 4294967295
+
+-- what scopes in a handle answer where an index is asked for
+abbrev pub IsIndexAnswer : Option Held → (ScopesRecord → Option ℕ) → Result ℕ CallError → Type 0
+IsIndexAnswer held ask answer = IsScopesAnswer held (λ s. option_map index_as_number (ask s)) answer
+
+-- the code and the output for that
+abbrev pub IsIndexWritten : Option Held → (ScopesRecord → Option ℕ) → ℕ → ℕ → ℕ → Type 0
+IsIndexWritten held ask code old new = (answer : Result ℕ CallError) × IsIndexAnswer held ask answer × IsWrittenOut answer code old new
+
+-- the frames of scopes at a generated position, as many as there was room for, how many there are, and whether they are hidden
+pub record AreFramesOf (s : ScopesRecord) (line column : ℕ) (old new : List FrameNumbers) (count is_hidden : ℕ) : Type 0 where
+  pub written : new ≡ filled (map (frame_numbers s) (frames_at s line column).frames) old
+  pub counted : count ≡ length (frames_at s line column).frames
+  pub hidden : is_hidden ≡ flag_of (frames_at s line column).is_hidden
+
+-- the frames at a generated position of the scopes that a handle holds
+abbrev pub ListsFrames : Option Held → ℕ → ℕ → List FrameNumbers → List FrameNumbers → ℕ → ℕ → Type 0
+ListsFrames held line column old new count is_hidden = HoldsScopes held (λ s. AreFramesOf s line column old new count is_hidden)
+
+-- the result of asking what a handle holds for frames: `NullHandle`, want of memory, or the frames
+abbrev pub AreFrames : Option Held → ℕ → ℕ → Result (ℕ × ℕ) CallError → List FrameNumbers → List FrameNumbers → Type 0
+AreFrames held line column answer old new =
+    MatchOption (held_scopes held) ((answer ≡ Err NullHandle) × (new ≡ old))
+    (λ s. MatchResult answer (λ found. AreFramesOf s line column old new found.0 found.1) (λ r. (r ≡ out_of_memory) × (new ≡ old)))

@@ -1,0 +1,4 @@
+//! The scopes of maps: read, and asked for frames.
+
+mod asking;
+mod making;

@@ -1,7 +1,0 @@
-use Rattle.std.proofs.Common.{ℕ, ◌<◌, get_or}
-use Rattle.oxc_sourcemap_tokens.specs.declared.position.Position.{Position}
-use Rattle.oxc_sourcemap_handles.specs.CompiledTraces.{IsCompiledIndex}
-use Rattle.oxc_sourcemap_handles.proofs.holding.compiled.find_all_compiled.Given as goal
-
-abbrev pub invariant-loop-i : goal.invariant-loop-i
-invariant-loop-i l = (k : ℕ) (at : Position) (p : ℕ) → k < l.i → IsCompiledIndex l.fn.bias l.fn.map (get_or l.fn.positions k at) (get_or l.out k p)

@@ -1,8 +1,0 @@
-use Rattle.std.proofs.Common.{ℕ, ◌<◌, get_or}
-use Rattle.oxc_sourcemap_handles.specs.declared.texts.text.Original.{Original}
-use Rattle.oxc_sourcemap_tokens.specs.declared.position.Position.{Position}
-use Rattle.oxc_sourcemap_handles.specs.Traces.{IsTraceOf}
-use Rattle.oxc_sourcemap_handles.proofs.holding.held.LoadedMap.write_traces.Given as goal
-
-abbrev pub invariant-loop-i : goal.invariant-loop-i
-invariant-loop-i l = (k : ℕ) (at : Position) (p : Original) → k < l.i → IsTraceOf l.fn.bias l.fn.self.map (get_or l.fn.positions k at) (get_or l.out k p)

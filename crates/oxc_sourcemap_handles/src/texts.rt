@@ -1,9 +1,0 @@
-//! Texts and lists as C has them.
-
-pub(crate) mod lists;
-pub(crate) mod text;
-pub(crate) mod utf8;
-
-pub use lists::{contents_of, texts_of, tokens_of};
-pub use text::{Counts, Original, PieceNumbers, Text, TokenNumbers};
-pub use utf8::text_of;

@@ -8,10 +8,10 @@ import unittest
 
 import support
 import oxc_sourcemap
-from oxc_sourcemap import CompiledMap, SourceMap, SourceMapBuilder, SourceMapJoin
+from oxc_sourcemap import CompiledMap, Scopes, SourceMap, SourceMapBuilder, SourceMapJoin
 
 MODULES = ("", "._compiled", "._contents", "._contexts", "._errors", "._finding", "._handle", "._lookups", "._making", "._map", "._stores")
-MODULES += ("._texts", "._traces", "._values", ".distributed", ".resolver")
+MODULES += ("._scopes", "._texts", "._traces", "._values", ".distributed", ".resolver")
 
 
 def load_tests(loader: unittest.TestLoader, tests: unittest.TestSuite, pattern: object) -> unittest.TestSuite:
@@ -26,7 +26,7 @@ class Docs(unittest.TestCase):
         for name in oxc_sourcemap.__all__:
             value = getattr(oxc_sourcemap, name)
             self.assertTrue(name == "NO_ID" or value.__doc__, name)
-        for type in (CompiledMap, SourceMap, SourceMapBuilder, SourceMapJoin):
+        for type in (CompiledMap, Scopes, SourceMap, SourceMapBuilder, SourceMapJoin):
             for name, value in inspect.getmembers(type):
                 if not name.startswith("_"):
                     self.assertIn(">>>", value.__doc__, name)

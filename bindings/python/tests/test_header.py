@@ -13,11 +13,12 @@ import oxc_sourcemap
 from oxc_sourcemap import _library, _values
 
 HEADER = re.sub(r"/\*.*?\*/", "", (TOP / "bindings/c/oxc_sourcemap.h").read_text(encoding="utf-8"), flags=re.S)
-ENUMS = ("Code", "Field", "PlaceKind", "Bias", "Kind", "MendKind", "Direction", "TextKind", "Language")
-PREFIXES = {"Field": "FIELD_", "PlaceKind": "PLACE_", "MendKind": "MEND_", "TextKind": "TEXT_"}
+ENUMS = ("Code", "Field", "ScopesFault", "PlaceKind", "Bias", "Kind", "MendKind", "Direction", "TextKind", "Language")
+PREFIXES = {"Field": "FIELD_", "ScopesFault": "SCOPES_", "PlaceKind": "PLACE_", "MendKind": "MEND_", "TextKind": "TEXT_"}
 STRUCTS = {"text": "Text", "fault": "Fault", "fault_place": "FaultPlace", "counts": "Counts", "token": "Token", "position": "Position",
-           "original": "Original", "piece": "Piece", "mend": "Mend", "compiled_counts": "CompiledCounts"}  # fmt: skip
-HANDLES = ("smap_map*", "smap_builder*", "smap_join*", "smap_string*", "smap_mends*", "smap_compiled*", "smap_file*")
+           "original": "Original", "piece": "Piece", "mend": "Mend", "compiled_counts": "CompiledCounts",
+           "scopes_counts": "ScopesCounts", "scope": "Scope", "call": "Call", "range": "Range", "frame": "Frame"}  # fmt: skip
+HANDLES = ("smap_map*", "smap_builder*", "smap_join*", "smap_string*", "smap_mends*", "smap_compiled*", "smap_scopes*", "smap_file*")
 NUMBERS = {"uint32_t": c_uint32, "uint64_t": c_uint64, "size_t": c_size_t}
 
 
@@ -77,15 +78,18 @@ class Header(unittest.TestCase):
 
     def test_sizes(self):
         sizes = re.findall(r"SMAP_HAS_SIZE\(smap_(\w+), (\d+), (\d+)\);", HEADER)
-        self.assertEqual(len(sizes), 9)
+        self.assertEqual(len(sizes), 14)
         for name, words, more in sizes:
             self.assertEqual(ctypes.sizeof(struct(name)), int(words) * ctypes.sizeof(c_void_p) + int(more), name)
 
     def test_tuples(self):
-        for name in ("Counts", "Token", "Position", "Piece", "Mend"):
+        for name in ("Counts", "Token", "Position", "Piece", "Mend", "ScopesCounts", "Scope", "Call", "Range"):
             wanted = [it for it, *_ in getattr(_library, name)._fields_]
             said = [it.removeprefix("token_") if it == "token_index" else it for it in getattr(oxc_sourcemap, name)._fields]
+            if name in ("Scope", "Call"):
+                said = [it.removesuffix("_id") for it in said]
             self.assertEqual(said, wanted)
+        self.assertEqual([it for it, *_ in _library.Frame._fields_], [it.removesuffix("_id") for it in oxc_sourcemap.ScopeFrame._fields])
         place = [it for it, *_ in _library.FaultPlace._fields_]
         self.assertEqual(list(oxc_sourcemap.FaultPlace._fields), [*place, "message"])
 

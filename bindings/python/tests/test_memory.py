@@ -11,6 +11,7 @@ from support import BACK, FLAT, TEXT, Case, read, simple
 
 from oxc_sourcemap import (
     CompiledMap,
+    Scopes,
     SourceMap,
     SourceMapBuilder,
     SourceMapError,
@@ -115,6 +116,24 @@ class Memory(Case):
                 map.compile, lambda: self.assertRaises(SourceMapError, back.compile), compiled.decompile, lambda: compiled.trace(0, 4),
                 lambda: compiled.trace_all([(0, 4)]), lambda: compiled.find_all([(0, 4)]), lambda: compiled.sources, lambda: compiled.stamp,
                 lambda: self.assertRaises(SourceMapError, CompiledMap, b"{}"), lambda: Node(map=CompiledMap(data)),
+            ):  # fmt: skip
+                self.keeps_nothing(call)
+
+    def test_scopes(self):
+        text = "BFAAA,BFCAC,CCA,CFA,EGAA,ECKC,IAFC,FK,FU"
+        data = f'{{"names":["f","g"],"scopes":"{text}"}}'
+
+        def closed():
+            with Scopes.read(data) as it:
+                it.close()
+
+        self.keeps_nothing(lambda: Scopes.read(data), 10_000)
+        self.keeps_nothing(closed, 10_000)
+        with read() as map, Scopes.decode(text, 2) as it:
+            for call in (
+                it.counts, lambda: it.scopes, lambda: it.ranges, lambda: it.get_range(1), lambda: it.scope_at(0, 3, 0), lambda: it.frames_at(0, 12),
+                lambda: it.trace(map, 0, 12), lambda: Node(it=Scopes.decode(text, 2)), lambda: self.assertRaises(SourceMapError, Scopes.decode, text, 1),
+                lambda: self.assertRaises(SourceMapError, Scopes.read, '{"scopes":7}'),
             ):  # fmt: skip
                 self.keeps_nothing(call)
 

@@ -12,9 +12,11 @@ from ._errors import SourceMapError
 from ._library import NO_ID
 from ._making import SourceMapBuilder, SourceMapJoin
 from ._map import SourceMap
+from ._scopes import Scopes
 from ._texts import decode_data_url, encode_mappings, source_mapping_url
 from ._values import (
     Bias,
+    Call,
     Code,
     CompiledCounts,
     Counts,
@@ -22,6 +24,7 @@ from ._values import (
     FaultPlace,
     Field,
     Found,
+    Frames,
     Generated,
     Kind,
     Language,
@@ -31,12 +34,19 @@ from ._values import (
     Piece,
     PlaceKind,
     Position,
+    Range,
+    Scope,
+    ScopeFrame,
+    ScopesCounts,
+    ScopesFault,
+    SourceFrame,
     Token,
 )
 
 __all__ = [
     "NO_ID",
     "Bias",
+    "Call",
     "Code",
     "CompiledCounts",
     "CompiledMap",
@@ -45,6 +55,7 @@ __all__ = [
     "FaultPlace",
     "Field",
     "Found",
+    "Frames",
     "Generated",
     "Kind",
     "Language",
@@ -54,6 +65,13 @@ __all__ = [
     "Piece",
     "PlaceKind",
     "Position",
+    "Range",
+    "Scope",
+    "ScopeFrame",
+    "Scopes",
+    "ScopesCounts",
+    "ScopesFault",
+    "SourceFrame",
     "SourceMap",
     "SourceMapBuilder",
     "SourceMapError",

@@ -6,7 +6,7 @@ from typing import Optional, Union
 
 from . import _library
 from ._library import NOT_TOLD, lib
-from ._values import Code, FaultPlace, Field, PlaceKind, message_of, named
+from ._values import Code, FaultPlace, Field, PlaceKind, ScopesFault, message_of, named
 
 
 class SourceMapError(ValueError):
@@ -26,8 +26,8 @@ class SourceMapError(ValueError):
     """The name of the code in oxc_sourcemap.h."""
     message: str
     """What `str` says: the error as words."""
-    field: Union[Field, int, None]
-    """The member that is missing or has the wrong type, of Code.JSON_SHAPE."""
+    field: Union[Field, ScopesFault, int, None]
+    """The member that is missing or has the wrong type, of Code.JSON_SHAPE; what is wrong, of Code.BAD_SCOPES."""
     detail: int
     """The number that belongs to the code: an id, an index, a size, a version; else 0."""
     place: Optional[FaultPlace]
@@ -38,7 +38,7 @@ class SourceMapError(ValueError):
         message: str,
         code: Union[Code, int],
         name: str,
-        field: Union[Field, int, None] = None,
+        field: Union[Field, ScopesFault, int, None] = None,
         detail: int = 0,
         place: Optional[FaultPlace] = None,
     ) -> None:
@@ -72,6 +72,12 @@ def _place_of(fault: _library.Fault) -> Optional[FaultPlace]:
     )
 
 
+def _field_of(fault: _library.Fault) -> Union[Field, ScopesFault, int, None]:
+    if fault.code == Code.BAD_SCOPES:
+        return named(ScopesFault, fault.field)
+    return named(Field, fault.field) if fault.code == Code.JSON_SHAPE else None
+
+
 def error_of(fault: _library.Fault) -> Exception:
     """The exception that a fault is raised as."""
     if fault.code == Code.OUT_OF_MEMORY:
@@ -82,7 +88,7 @@ def error_of(fault: _library.Fault) -> Exception:
         message_of(lib.smap_message, fault) or name,
         named(Code, fault.code),
         name,
-        named(Field, fault.field) if fault.code == Code.JSON_SHAPE else None,
+        _field_of(fault),
         fault.detail,
         _place_of(fault),
     )

@@ -63,6 +63,28 @@ class CompiledCounts(Structure):
                 ("has_ignore_list", c_uint32), ("rest", c_uint32)]  # fmt: skip
 
 
+class ScopesCounts(Structure):
+    _fields_ = [("sources", c_uint64), ("scopes", c_uint64), ("ranges", c_uint64)]
+
+
+class Scope(Structure):
+    _fields_ = [("source", c_uint32), ("start", Position), ("end", Position), ("name", c_uint32), ("kind", c_uint32),
+                ("is_stack_frame", c_uint32), ("parent", c_uint32)]  # fmt: skip
+
+
+class Call(Structure):
+    _fields_ = [("source", c_uint32), ("line", c_uint32), ("column", c_uint32)]
+
+
+class Range(Structure):
+    _fields_ = [("start", Position), ("end", Position), ("definition", c_uint32), ("is_stack_frame", c_uint32),
+                ("is_hidden", c_uint32), ("call", Call), ("parent", c_uint32)]  # fmt: skip
+
+
+class Frame(Structure):
+    _fields_ = [("name", c_uint32), ("scope", c_uint32), ("call", Call)]
+
+
 # The types of parameters: a handle and an array go by their address, texts as bytes, and what is written by reference.
 _u32, _size, _handle, _array, _bytes = c_uint32, c_size_t, c_void_p, c_void_p, c_char_p
 _made, _number, _count, _fault = POINTER(c_void_p), POINTER(c_uint32), POINTER(c_size_t), POINTER(Fault)
@@ -116,6 +138,16 @@ PROTOTYPES: dict[str, tuple[Any, ...]] = {
     "smap_compiled_get_stamp": (_u32, _handle, _text),
     "smap_compiled_is_ignored": (_u32, _handle, _u32, _number),
     "smap_decompile": (_u32, _handle, _made, _fault),
+    "smap_read_scopes": (_u32, _bytes, _size, _made, _fault),
+    "smap_decode_scopes": (_u32, _bytes, _size, _size, _made, _fault),
+    "smap_free_scopes": (None, _handle),
+    "smap_scopes_get_counts": (_u32, _handle, POINTER(ScopesCounts)),
+    "smap_get_scope": (_u32, _handle, _u32, POINTER(Scope)),
+    "smap_get_range": (_u32, _handle, _u32, POINTER(Range)),
+    "smap_scope_at": (_u32, _handle, _u32, _u32, _u32, _number),
+    "smap_function_at": (_u32, _handle, _u32, _u32, _u32, _number),
+    "smap_range_at": (_u32, _handle, _u32, _u32, _number),
+    "smap_frames_at": (_u32, _handle, _u32, _u32, _array, _size, _count, _number),
     "smap_set_file": (_u32, _handle, _bytes, _size, _fault),
     "smap_set_source_root": (_u32, _handle, _bytes, _size, _fault),
     "smap_set_debug_id": (_u32, _handle, _bytes, _size, _fault),

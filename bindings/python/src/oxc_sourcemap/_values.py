@@ -56,6 +56,9 @@ class Code(IntEnum):
     COMPILED_VERSION = 24
     COMPILED_LENGTH = 25
     COMPILED_SIZES = 26
+    BAD_SCOPES = 27
+    SCOPES_NOT_TEXT = 28
+    SCOPES_INDEXED = 29
     NULL_HANDLE = 100
     NOT_UTF8 = 101
     LENGTHS = 102
@@ -82,6 +85,31 @@ class Field(IntEnum):
     SECTIONS = 11
     OFFSET = 12
     MAP = 13
+
+
+class ScopesFault(IntEnum):
+    """What is wrong with an item of a text of scopes, as `SourceMapError.field` of Code.BAD_SCOPES.
+
+    NOT_A_DIGIT: a byte is no base64 digit.
+    CUT_SHORT: its last number ends in a digit after which another has to follow.
+    TOO_LARGE: a number has more than seven digits, or with it a line, a column or a source is above its limit.
+    MISSING_NUMBER: it is empty, or lacks a number.
+    BAD_INDEX: an index leads to no name or scope.
+    NOTHING_OPEN: it is an end, or a call site, and nothing that it could belong to is open.
+    NOT_CLOSED: a source without scopes comes within the scopes of another.
+    TOO_DEEP: more than 1024 scopes or ranges are nested.
+    LEFT_OPEN: the text ends, and a scope or a range has no end.
+    """
+
+    NOT_A_DIGIT = 1
+    CUT_SHORT = 2
+    TOO_LARGE = 3
+    MISSING_NUMBER = 4
+    BAD_INDEX = 5
+    NOTHING_OPEN = 6
+    NOT_CLOSED = 7
+    TOO_DEEP = 8
+    LEFT_OPEN = 9
 
 
 class PlaceKind(IntEnum):
@@ -250,6 +278,76 @@ class CompiledCounts(NamedTuple):
     sources: int
     names: int
     ignored: Optional[int]
+
+
+class ScopesCounts(NamedTuple):
+    """How many sources have a tree of scopes or none, and how many scopes and ranges there are."""
+
+    sources: int
+    scopes: int
+    ranges: int
+
+
+class Scope(NamedTuple):
+    """A scope of a source, from `start` up to but not including `end`: a function, a block, a class or the like. The ids are those of
+    the source, of its name, and of the name that is its kind. A call of a stack frame, which is a function, makes a frame. `parent` is
+    the index of the innermost scope around it."""
+
+    source_id: int
+    start: Position
+    end: Position
+    name_id: Optional[int]
+    kind_id: Optional[int]
+    is_stack_frame: bool
+    parent: Optional[int]
+
+
+class Call(NamedTuple):
+    """Where in a source a function was called."""
+
+    source_id: int
+    line: int
+    column: int
+
+
+class Range(NamedTuple):
+    """A range of the generated code, from `start` up to but not including `end`, and the index of the scope that it is the code of. If
+    a function was inlined here, `call` is where it was called. What is hidden has no frame in the source, as a helper. `parent` is the
+    index of the innermost range around it."""
+
+    start: Position
+    end: Position
+    definition: Optional[int]
+    is_stack_frame: bool
+    is_hidden: bool
+    call: Optional[Call]
+    parent: Optional[int]
+
+
+class ScopeFrame(NamedTuple):
+    """A frame of a stack trace in the source: the id of the name of its function, the index of the scope that is the function, and the
+    call of an inlined function where the frame is; `call` is None for the first frame, which is where `SourceMap.trace` leads."""
+
+    name_id: Optional[int]
+    scope: Optional[int]
+    call: Optional[Call]
+
+
+class Frames(NamedTuple):
+    """The frames of the source that a position stands for, from the inside out, and whether the source has no such frame, as where a
+    helper was made."""
+
+    frames: list[ScopeFrame]
+    is_hidden: bool
+
+
+class SourceFrame(NamedTuple):
+    """A frame of a stack trace in the source, with the texts of its map. What the map does not say is None."""
+
+    source: Optional[str]
+    line: Optional[int]
+    column: Optional[int]
+    name: Optional[str]
 
 
 class Mend(NamedTuple):

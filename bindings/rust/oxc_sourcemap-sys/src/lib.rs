@@ -64,6 +64,9 @@ pub const SMAP_NOT_COMPILED: u32 = 23;
 pub const SMAP_COMPILED_VERSION: u32 = 24;
 pub const SMAP_COMPILED_LENGTH: u32 = 25;
 pub const SMAP_COMPILED_SIZES: u32 = 26;
+pub const SMAP_BAD_SCOPES: u32 = 27;
+pub const SMAP_SCOPES_NOT_TEXT: u32 = 28;
+pub const SMAP_SCOPES_INDEXED: u32 = 29;
 pub const SMAP_NULL_HANDLE: u32 = 100;
 pub const SMAP_NOT_UTF8: u32 = 101;
 pub const SMAP_LENGTHS: u32 = 102;
@@ -87,6 +90,17 @@ pub const SMAP_FIELD_GOOGLE_IGNORE_LIST: u32 = 10;
 pub const SMAP_FIELD_SECTIONS: u32 = 11;
 pub const SMAP_FIELD_OFFSET: u32 = 12;
 pub const SMAP_FIELD_MAP: u32 = 13;
+
+// What is wrong in a text of scopes.
+pub const SMAP_SCOPES_NOT_A_DIGIT: u32 = 1;
+pub const SMAP_SCOPES_CUT_SHORT: u32 = 2;
+pub const SMAP_SCOPES_TOO_LARGE: u32 = 3;
+pub const SMAP_SCOPES_MISSING_NUMBER: u32 = 4;
+pub const SMAP_SCOPES_BAD_INDEX: u32 = 5;
+pub const SMAP_SCOPES_NOTHING_OPEN: u32 = 6;
+pub const SMAP_SCOPES_NOT_CLOSED: u32 = 7;
+pub const SMAP_SCOPES_TOO_DEEP: u32 = 8;
+pub const SMAP_SCOPES_LEFT_OPEN: u32 = 9;
 
 // The kinds of places.
 pub const SMAP_PLACE_NONE: u32 = 0;
@@ -184,6 +198,13 @@ pub struct smap_mends {
 /// A compiled map that is open.
 #[repr(C)]
 pub struct smap_compiled {
+    _own: [u8; 0],
+    _marker: Own,
+}
+
+/// The scopes of a map.
+#[repr(C)]
+pub struct smap_scopes {
     _own: [u8; 0],
     _marker: Own,
 }
@@ -300,6 +321,59 @@ pub struct smap_compiled_counts {
     pub text_length: u64,
     pub has_ignore_list: u32,
     pub rest: u32,
+}
+
+/// How many sources have a tree of scopes or none, and how many scopes and ranges there are.
+#[repr(C)]
+#[derive(Clone, Copy, Debug, Default, PartialEq, Eq)]
+pub struct smap_scopes_counts {
+    pub sources: u64,
+    pub scopes: u64,
+    pub ranges: u64,
+}
+
+/// A scope of a source, from a position up to but not including another.
+#[repr(C)]
+#[derive(Clone, Copy, Debug, Default, PartialEq, Eq)]
+pub struct smap_scope {
+    pub source: u32,
+    pub start: smap_position,
+    pub end: smap_position,
+    pub name: u32,
+    pub kind: u32,
+    pub is_stack_frame: u32,
+    pub parent: u32,
+}
+
+/// Where in a source a function was called.
+#[repr(C)]
+#[derive(Clone, Copy, Debug, Default, PartialEq, Eq)]
+pub struct smap_call {
+    pub source: u32,
+    pub line: u32,
+    pub column: u32,
+}
+
+/// A range of the generated code, from a position up to but not including another.
+#[repr(C)]
+#[derive(Clone, Copy, Debug, Default, PartialEq, Eq)]
+pub struct smap_range {
+    pub start: smap_position,
+    pub end: smap_position,
+    pub definition: u32,
+    pub is_stack_frame: u32,
+    pub is_hidden: u32,
+    pub call: smap_call,
+    pub parent: u32,
+}
+
+/// A frame of a stack trace in the source: the name of its function, the index of its scope, and the call where the frame is.
+#[repr(C)]
+#[derive(Clone, Copy, Debug, Default, PartialEq, Eq)]
+pub struct smap_frame {
+    pub name: u32,
+    pub scope: u32,
+    pub call: smap_call,
 }
 
 unsafe extern "C" {
@@ -461,6 +535,35 @@ unsafe extern "C" {
     pub fn smap_compiled_get_stamp(compiled: *const smap_compiled, out: *mut smap_text) -> u32;
     pub fn smap_compiled_is_ignored(compiled: *const smap_compiled, id: u32, out: *mut u32) -> u32;
     pub fn smap_decompile(compiled: *const smap_compiled, out: *mut *mut smap_map, fault: *mut smap_fault) -> u32;
+    pub fn smap_read_scopes(
+        json: *const c_char,
+        json_len: usize,
+        out: *mut *mut smap_scopes,
+        fault: *mut smap_fault,
+    ) -> u32;
+    pub fn smap_decode_scopes(
+        text: *const c_char,
+        text_len: usize,
+        names: usize,
+        out: *mut *mut smap_scopes,
+        fault: *mut smap_fault,
+    ) -> u32;
+    pub fn smap_free_scopes(scopes: *mut smap_scopes);
+    pub fn smap_scopes_get_counts(scopes: *const smap_scopes, out: *mut smap_scopes_counts) -> u32;
+    pub fn smap_get_scope(scopes: *const smap_scopes, index: u32, out: *mut smap_scope) -> u32;
+    pub fn smap_get_range(scopes: *const smap_scopes, index: u32, out: *mut smap_range) -> u32;
+    pub fn smap_scope_at(scopes: *const smap_scopes, source: u32, line: u32, column: u32, out: *mut u32) -> u32;
+    pub fn smap_function_at(scopes: *const smap_scopes, source: u32, line: u32, column: u32, out: *mut u32) -> u32;
+    pub fn smap_range_at(scopes: *const smap_scopes, line: u32, column: u32, out: *mut u32) -> u32;
+    pub fn smap_frames_at(
+        scopes: *const smap_scopes,
+        line: u32,
+        column: u32,
+        out: *mut smap_frame,
+        out_len: usize,
+        count: *mut usize,
+        is_hidden: *mut u32,
+    ) -> u32;
     pub fn smap_set_file(map: *mut smap_map, file: *const c_char, file_len: usize, fault: *mut smap_fault) -> u32;
     pub fn smap_set_source_root(
         map: *mut smap_map,

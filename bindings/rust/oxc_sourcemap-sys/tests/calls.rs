@@ -276,6 +276,50 @@ fn a_compiled_map_says_what_it_was_made_of() {
 }
 
 #[test]
+fn scopes_tell_null_handles_first() {
+    let mut out = outputs();
+    let mut counts = smap_scopes_counts { scopes: 7, ..smap_scopes_counts::default() };
+    let (mut scope, mut range) = (smap_scope::default(), smap_range::default());
+    let mut frame = smap_frame { name: 7, ..smap_frame::default() };
+    // SAFETY: pointers are null or to live values, and lengths are theirs.
+    let codes = unsafe {
+        [
+            smap_scopes_get_counts(null(), &mut counts),
+            smap_get_scope(null(), 0, &mut scope),
+            smap_get_range(null(), 0, &mut range),
+            smap_scope_at(null(), 0, 0, 0, &mut out.number),
+            smap_function_at(null(), 0, 0, 0, &mut out.number),
+            smap_range_at(null(), 0, 0, &mut out.number),
+            smap_frames_at(null(), 0, 0, &mut frame, 1, &mut out.count, &mut out.number),
+            smap_frames_at(null(), 0, 0, null_mut(), 0, &mut out.count, null_mut()),
+        ]
+    };
+    are_of_null_handles(&codes, &out);
+    assert_eq!((counts.scopes, frame.name), (7, 7));
+    assert_eq!((scope, range), (smap_scope::default(), smap_range::default()));
+}
+
+#[test]
+fn frames_are_counted_without_a_list_and_fit_into_a_short_one() {
+    let (mut scopes, mut fault, mut count, mut is_hidden) = (null_mut(), smap_fault::default(), 7, 7);
+    let (member, mut frame) = ("BFAAA,BFCAC,CCA,CFA,EGAA,ECKC,IAFC,FK,FU", smap_frame::default());
+    let none = smap_call { source: SMAP_NO_ID, line: SMAP_NO_ID, column: SMAP_NO_ID };
+    // SAFETY: pointers are null or to live values, lengths are theirs, and the scopes are freed once.
+    unsafe {
+        assert_eq!(smap_decode_scopes(at(member), member.len(), 1, &mut scopes, &mut fault), SMAP_BAD_SCOPES);
+        assert_eq!((fault.code, fault.field, fault.detail), (SMAP_BAD_SCOPES, SMAP_SCOPES_BAD_INDEX, 6));
+        assert_eq!(smap_read_scopes(at("7"), 1, &mut scopes, null_mut()), SMAP_OK);
+        smap_free_scopes(scopes);
+        assert_eq!(smap_decode_scopes(at(member), member.len(), 2, &mut scopes, null_mut()), SMAP_OK);
+        assert_eq!(smap_frames_at(scopes, 0, 12, null_mut(), 0, &mut count, &mut is_hidden), SMAP_OK);
+        assert_eq!((count, is_hidden), (2, 0));
+        assert_eq!(smap_frames_at(scopes, 0, 12, &mut frame, 1, &mut count, null_mut()), SMAP_OK);
+        assert_eq!((count, frame), (2, smap_frame { name: 1, scope: 1, call: none }));
+        smap_free_scopes(scopes);
+    }
+}
+
+#[test]
 fn a_file_that_is_there_and_one_that_is_not() {
     let (mut file, mut bytes, mut fault) = (null_mut(), text("x"), smap_fault::default());
     // SAFETY: paths end with a zero byte, pointers are null or to live values, and the file is freed once.
@@ -300,6 +344,7 @@ fn nothing_is_freed_of_null() {
         smap_free_join(null_mut());
         smap_free_mends(null_mut());
         smap_free_compiled(null_mut());
+        smap_free_scopes(null_mut());
         smap_free_file(null_mut());
     }
 }
@@ -499,7 +544,7 @@ fn each_code_has_its_name() {
         SMAP_BAD_SEGMENT_SIZE SMAP_BAD_SOURCE_REFERENCE SMAP_BAD_NAME_REFERENCE SMAP_OUT_OF_MEMORY SMAP_TOO_LARGE SMAP_LINE_ORDER
         SMAP_BAD_CHUNKS SMAP_SEVERAL_SOURCES SMAP_UNSORTED SMAP_TOO_DEEP SMAP_WORDS SMAP_NO_TEXT SMAP_SECTION_ORDER
         SMAP_INPUT_LINE_ORDER SMAP_BAD_BASE64 SMAP_BAD_DATA_UTF8 SMAP_NOT_COMPILED SMAP_COMPILED_VERSION
-        SMAP_COMPILED_LENGTH SMAP_COMPILED_SIZES SMAP_NULL_HANDLE SMAP_NOT_UTF8 SMAP_LENGTHS SMAP_NO_ENTRY
-        SMAP_NO_INDEX SMAP_BAD_OPTION SMAP_NO_FILE
+        SMAP_COMPILED_LENGTH SMAP_COMPILED_SIZES SMAP_BAD_SCOPES SMAP_SCOPES_NOT_TEXT SMAP_SCOPES_INDEXED SMAP_NULL_HANDLE SMAP_NOT_UTF8 SMAP_LENGTHS
+        SMAP_NO_ENTRY SMAP_NO_INDEX SMAP_BAD_OPTION SMAP_NO_FILE
     }
 }

@@ -29,4 +29,13 @@ fn layouts() {
     layout!(smap_compiled_counts, 48, 8, {
         tokens: 0, sources: 8, names: 16, ignored: 24, text_length: 32, has_ignore_list: 40, rest: 44,
     });
+    layout!(smap_scopes_counts, 24, 8, { sources: 0, scopes: 8, ranges: 16, });
+    layout!(smap_scope, 36, 4, {
+        source: 0, start: 4, end: 12, name: 20, kind: 24, is_stack_frame: 28, parent: 32,
+    });
+    layout!(smap_call, 12, 4, { source: 0, line: 4, column: 8, });
+    layout!(smap_range, 44, 4, {
+        start: 0, end: 8, definition: 16, is_stack_frame: 20, is_hidden: 24, call: 28, parent: 40,
+    });
+    layout!(smap_frame, 20, 4, { name: 0, scope: 4, call: 8, });
 }

@@ -63,6 +63,12 @@ pub enum Error {
     BadDataUtf8(usize),
     /// Bytes are not a compiled map.
     Compiled(CompiledError),
+    /// A text of scopes has this fault.
+    BadScopes(ScopesFault),
+    /// The member `scopes` of a map is neither a text nor null.
+    ScopesNotText,
+    /// The scopes of an indexed map are not read.
+    ScopesIndexed,
     /// How many bytes come before the first that is not UTF-8.
     NotUtf8(usize),
     /// The lengths of two lists differ.
@@ -99,6 +105,67 @@ pub enum CompiledError {
     Length,
     /// The parts take more bytes than there are.
     Sizes,
+}
+
+/// A fault of a text of scopes.
+#[derive(Clone, Copy, Debug, PartialEq, Eq, Hash)]
+pub struct ScopesFault {
+    /// What is wrong.
+    pub kind: ScopesFaultKind,
+    /// The byte of the text at which the item at fault begins; where a scope or a range is left open, the length of the text.
+    pub byte: usize,
+}
+
+/// What is wrong with an item of a text of scopes.
+#[derive(Clone, Copy, Debug, PartialEq, Eq, Hash)]
+#[non_exhaustive]
+pub enum ScopesFaultKind {
+    /// A byte is no base64 digit.
+    NotADigit,
+    /// Its last number ends in a digit after which another has to follow.
+    CutShort,
+    /// A number has more than seven digits, or with it a line, a column or a source is above its limit.
+    TooLarge,
+    /// It is empty, or lacks a number.
+    MissingNumber,
+    /// An index leads to no name or scope.
+    BadIndex,
+    /// It is an end, or a call site, and nothing that it could belong to is open.
+    NothingOpen,
+    /// A source without scopes comes within the scopes of another.
+    NotClosed,
+    /// More than 1024 scopes or ranges are nested.
+    TooDeep,
+    /// The text ends, and a scope or a range has no end.
+    LeftOpen,
+    /// Another one, which this crate does not know.
+    Unknown(u32),
+}
+
+const SCOPES_FAULTS: [(ScopesFaultKind, u32); 9] = [
+    (ScopesFaultKind::NotADigit, sys::SMAP_SCOPES_NOT_A_DIGIT),
+    (ScopesFaultKind::CutShort, sys::SMAP_SCOPES_CUT_SHORT),
+    (ScopesFaultKind::TooLarge, sys::SMAP_SCOPES_TOO_LARGE),
+    (ScopesFaultKind::MissingNumber, sys::SMAP_SCOPES_MISSING_NUMBER),
+    (ScopesFaultKind::BadIndex, sys::SMAP_SCOPES_BAD_INDEX),
+    (ScopesFaultKind::NothingOpen, sys::SMAP_SCOPES_NOTHING_OPEN),
+    (ScopesFaultKind::NotClosed, sys::SMAP_SCOPES_NOT_CLOSED),
+    (ScopesFaultKind::TooDeep, sys::SMAP_SCOPES_TOO_DEEP),
+    (ScopesFaultKind::LeftOpen, sys::SMAP_SCOPES_LEFT_OPEN),
+];
+
+impl ScopesFaultKind {
+    fn of(number: u32) -> ScopesFaultKind {
+        let known = SCOPES_FAULTS.iter().find(|row| row.1 == number);
+        known.map_or(ScopesFaultKind::Unknown(number), |row| row.0)
+    }
+
+    fn number(self) -> u32 {
+        match self {
+            ScopesFaultKind::Unknown(number) => number,
+            kind => SCOPES_FAULTS.iter().find(|row| row.0 == kind).map_or(0, |row| row.1),
+        }
+    }
 }
 
 /// A field of the JSON text of a map.
@@ -197,6 +264,11 @@ impl Error {
             sys::SMAP_COMPILED_VERSION => Error::Compiled(CompiledError::Version(number)),
             sys::SMAP_COMPILED_LENGTH => Error::Compiled(CompiledError::Length),
             sys::SMAP_COMPILED_SIZES => Error::Compiled(CompiledError::Sizes),
+            sys::SMAP_BAD_SCOPES => {
+                Error::BadScopes(ScopesFault { kind: ScopesFaultKind::of(fault.field), byte: index })
+            }
+            sys::SMAP_SCOPES_NOT_TEXT => Error::ScopesNotText,
+            sys::SMAP_SCOPES_INDEXED => Error::ScopesIndexed,
             sys::SMAP_NOT_UTF8 => Error::NotUtf8(index),
             sys::SMAP_LENGTHS => Error::Lengths,
             sys::SMAP_NO_INDEX => Error::NoIndex,
@@ -230,6 +302,9 @@ impl Error {
             Error::BadBase64(index) => fault(sys::SMAP_BAD_BASE64, index as u64),
             Error::BadDataUtf8(index) => fault(sys::SMAP_BAD_DATA_UTF8, index as u64),
             Error::Compiled(error) => error.told(),
+            Error::BadScopes(error) => error.told(),
+            Error::ScopesNotText => fault(sys::SMAP_SCOPES_NOT_TEXT, 0),
+            Error::ScopesIndexed => fault(sys::SMAP_SCOPES_INDEXED, 0),
             Error::NotUtf8(index) => fault(sys::SMAP_NOT_UTF8, index as u64),
             Error::Lengths => fault(sys::SMAP_LENGTHS, 0),
             Error::NoIndex => fault(sys::SMAP_NO_INDEX, 0),
@@ -259,6 +334,13 @@ impl CompiledError {
             CompiledError::Sizes => (sys::SMAP_COMPILED_SIZES, 0),
         };
         smap_fault { code, detail, ..smap_fault::default() }
+    }
+}
+
+impl ScopesFault {
+    fn told(self) -> smap_fault {
+        let (field, detail) = (self.kind.number(), self.byte as u64);
+        smap_fault { code: sys::SMAP_BAD_SCOPES, field, detail, ..smap_fault::default() }
     }
 }
 
@@ -319,6 +401,14 @@ impl fmt::Display for CompiledError {
 }
 
 impl error::Error for CompiledError {}
+
+impl fmt::Display for ScopesFault {
+    fn fmt(&self, f: &mut fmt::Formatter<'_>) -> fmt::Result {
+        f.write_str(&message(&self.told()))
+    }
+}
+
+impl error::Error for ScopesFault {}
 
 impl From<Told> for Error {
     fn from(told: Told) -> Error {
@@ -444,15 +534,25 @@ mod tests {
     // Codes that no call answers to this crate are still told apart, with their messages.
     #[test]
     fn every_code_has_its_error() {
-        for code in (1..=26).chain([101, 102, 104, 106]) {
+        for code in (1..=29).chain([101, 102, 104, 106]) {
             let fault = smap_fault { code, ..smap_fault::default() };
             let error = Error::of(&fault);
             assert!(!matches!(error, Error::Unknown(_)), "{code}");
             assert_eq!(error.told(), fault, "{code}");
         }
-        for code in [27, 100, 103, 105, 4_000_000_000] {
+        for code in [30, 100, 103, 105, 4_000_000_000] {
             assert_eq!(Error::of(&smap_fault { code, ..smap_fault::default() }), Error::Unknown(code));
             assert_eq!(Error::Unknown(code).told().code, code);
+        }
+    }
+
+    #[test]
+    fn every_fault_of_scopes_has_its_kind() {
+        for field in 0..11 {
+            let fault = smap_fault { code: 27, field, detail: 7, ..smap_fault::default() };
+            let Error::BadScopes(error) = Error::of(&fault) else { panic!("{field}") };
+            assert_eq!(matches!(error.kind, ScopesFaultKind::Unknown(_)), field == 0 || field == 10);
+            assert_eq!((Error::of(&fault).told(), error.byte), (fault, 7));
         }
     }
 

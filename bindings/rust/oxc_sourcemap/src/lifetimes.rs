@@ -39,6 +39,9 @@ let owner = unsafe { CompiledFile::open(&path) }.unwrap();
 # std::fs::remove_file(&path).unwrap();
 "##
     };
+    (scopes) => {
+        "let owner = Scopes::decode(\"BFAAA,CJA,EGAA,FJA\", 1).unwrap();\n"
+    };
     (text) => {
         "let owner = \"//# sourceMappingURL=a.map\".to_string();\n"
     };
@@ -93,6 +96,9 @@ lent! {
     CompiledDebugId: bytes, "CompiledMap::open(&owner).unwrap().get_debug_id().unwrap()";
     CompiledTrace: bytes, "CompiledMap::open(&owner).unwrap().trace(0, 0, Bias::Before)";
     CompiledTraceAll: bytes, "CompiledMap::open(&owner).unwrap().trace_all(&[Position::new(0, 0)], Bias::Before).unwrap()";
+
+    ScopeList: scopes, "owner.get_scopes()";
+    RangeList: scopes, "owner.get_ranges()";
 
     CompiledInFile: file, "owner.map()";
     CompiledFileSource: file, "owner.map().get_source(0).unwrap()";

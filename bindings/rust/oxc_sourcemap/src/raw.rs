@@ -5,7 +5,8 @@ use std::ptr::{NonNull, null};
 
 use oxc_sourcemap_sys as sys;
 pub(crate) use sys::{
-    smap_builder, smap_compiled, smap_fault, smap_file, smap_join, smap_map, smap_mends, smap_string, smap_text,
+    smap_builder, smap_compiled, smap_fault, smap_file, smap_join, smap_map, smap_mends, smap_scopes, smap_string,
+    smap_text,
 };
 
 use crate::error::{Error, Result};
@@ -42,6 +43,7 @@ handled! {
     smap_join by smap_free_join,
     smap_mends by smap_free_mends,
     smap_compiled by smap_free_compiled,
+    smap_scopes by smap_free_scopes,
     smap_file by smap_free_file,
 }
 

@@ -93,6 +93,8 @@ unsafe extern "C" fn free(at: *mut c_void) {
 
 const TEXT: &str = r#"{"version":3,"file":"f","sourceRoot":"r","names":["n","m"],"sources":["a.ts","b.ts"],"sourcesContent":["A",null],"ignoreList":[1],"mappings":"AAAAA,GCCEC;A","debugId":"d"}"#;
 
+const SCOPED: &str = r#"{"names":["f","g"],"scopes":"BFAAA,BFCAC,CCA,CFA,EGAA,ECKC,IAFC,FK,FU"}"#;
+
 fn map() -> SourceMap<'static> {
     SourceMap::from_json_string(TEXT).unwrap()
 }
@@ -199,12 +201,28 @@ fn nothing_is_left_behind() {
         decode_data_url("data:application/json,{}");
         decode_data_url("data:application/json,%ff");
         Error::LineOrder(7).to_string();
+    }
+}
+
+#[test]
+fn nothing_is_left_behind_by_compiled_maps_and_scopes() {
+    leave_nothing! {
         map().compile(7, &[7; 32]);
         back().compile(7, &[7; 32]);
         compile(&map().into_parts(), 7, &[7; 32]);
         CompiledMap::open(&compiled()).map(|it| it.token_count());
         CompiledMap::open(b"smap").map(|it| it.token_count());
         CompiledMap::open(&compiled()).map(|it| it.decompile());
+    }
+}
+
+#[test]
+fn scopes_leave_nothing_behind() {
+    leave_nothing! {
+        Scopes::read(SCOPED.as_bytes()).map(|it| it.frames_at(0, 12));
+        Scopes::read(b"{\"scopes\":7}");
+        Scopes::decode("BFAAA,CJA", 1).map(|it| it.get_scopes().len());
+        Scopes::decode("BFAAA", 1);
     }
 }
 
@@ -311,6 +329,26 @@ fn want_of_memory_is_an_error_of_compiled_maps() {
         unsafe { CompiledFile::open(&path) };
     }
     std::fs::remove_file(&path).unwrap();
+}
+
+/// Scopes are read, or not: that they are read all the same where a request is refused that the library can do without, is right too.
+#[test]
+fn want_of_memory_is_an_error_of_scopes() {
+    let scopes = Scopes::read(SCOPED.as_bytes()).unwrap();
+    refuse_each! {
+        scopes.frames_at(0, 12);
+    }
+    let mut refused = 0;
+    for nth in 0..40 {
+        let before = LIVE.get();
+        LEFT.set(nth);
+        let result = Scopes::read(SCOPED.as_bytes());
+        LEFT.set(usize::MAX);
+        refused += usize::from(result.is_err());
+        assert!(result.map_or_else(|error| error == Error::OutOfMemory, |it| it.range_count() == 2), "request {nth}");
+        assert_eq!(LIVE.get(), before, "request {nth}");
+    }
+    assert!(refused > 9);
 }
 
 #[test]

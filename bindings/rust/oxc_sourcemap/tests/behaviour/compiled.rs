@@ -101,8 +101,12 @@ fn texts_and_numbers_are_those_of_the_map() {
         assert_eq!(compiled.get_name(id), map.get_name(id));
         assert_eq!(compiled.is_ignored(id), map.get_ignore_list().unwrap().contains(&id));
     }
-    assert!(compiled.get_names().eq(map.get_names().map(Some)) && compiled.get_sources().eq(map.get_sources().map(Some)));
-    assert!(compiled.get_source_contents().eq((0..map.get_sources().count() as u32).map(|id| map.get_source_content(id))));
+    assert!(
+        compiled.get_names().eq(map.get_names().map(Some)) && compiled.get_sources().eq(map.get_sources().map(Some))
+    );
+    assert!(
+        compiled.get_source_contents().eq((0..map.get_sources().count() as u32).map(|id| map.get_source_content(id)))
+    );
     let counts = (compiled.token_count(), compiled.source_count(), compiled.name_count(), compiled.ignored_count());
     assert_eq!(counts, (5, 3, 2, Some(4)));
     assert_eq!((compiled.text_length(), compiled.stamp()), (u64::MAX - 7, STAMP));

@@ -1,7 +1,10 @@
 //! Errors: their messages, and where in a text they are.
 
 use super::json;
-use oxc_sourcemap::{CompiledError, Error, Fault, Field, JsonFault, Place, SourceMap, Spot, decode_mappings};
+use oxc_sourcemap::{
+    CompiledError, Error, Fault, Field, JsonFault, Place, ScopesFault, ScopesFaultKind, SourceMap, Spot,
+    decode_mappings,
+};
 use std::error::Error as _;
 
 #[test]
@@ -32,6 +35,8 @@ fn messages_are_those_of_the_library() {
         (Error::Compiled(CompiledError::Version(7)), "unsupported version of a compiled source map: 7"),
         (Error::Compiled(CompiledError::Length), "a compiled source map has another length than it says"),
         (Error::Compiled(CompiledError::Sizes), "the sizes in a compiled source map do not add up"),
+        (Error::ScopesNotText, "`scopes` is no text"),
+        (Error::ScopesIndexed, "the scopes of an indexed map are not read"),
         (Error::NoFile(2), "No such file or directory"),
     ];
     for (error, wanted) in rows {
@@ -67,11 +72,13 @@ fn only_faults_of_json_have_a_source() {
     let error = Error::BadJson(JsonFault::Version(2));
     assert_eq!(error.source().unwrap().to_string(), "unsupported source map version: 2");
     assert!(Error::VlqLeftover.source().is_none() && Error::BadSegmentSize(1).source().is_none());
-    // The text of this one is that of the error in it.
+    // The texts of these are those of the errors in them.
     let compiled = CompiledError::Version(2);
     assert!(
         Error::Compiled(compiled).source().is_none() && compiled.to_string() == Error::Compiled(compiled).to_string()
     );
+    let scopes = ScopesFault { kind: ScopesFaultKind::TooLarge, byte: 7 };
+    assert!(Error::BadScopes(scopes).source().is_none() && scopes.to_string() == Error::BadScopes(scopes).to_string());
 }
 
 fn fault(text: &str) -> Fault {

@@ -12,6 +12,7 @@ mod joins;
 mod lookups;
 mod maps;
 mod reading;
+mod scopes;
 mod threads;
 mod writing;
 

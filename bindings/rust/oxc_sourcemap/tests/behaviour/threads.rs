@@ -2,7 +2,7 @@
 
 use oxc_sourcemap::{
     Bias, CompiledError, CompiledFile, CompiledMap, ConcatSourceMapBuilder, Direction, Error, Fault, OwnedSourceMap,
-    Position, SourceMap, SourceMapBuilder,
+    Position, Scopes, ScopesFault, SourceMap, SourceMapBuilder,
 };
 use std::panic::{RefUnwindSafe, UnwindSafe};
 use std::sync::Arc;
@@ -26,6 +26,8 @@ fn types_are_send_and_sync() {
     is_shared::<CompiledMap<'_>>();
     is_shared::<CompiledFile>();
     is_shared::<CompiledError>();
+    is_shared::<Scopes>();
+    is_shared::<ScopesFault>();
     is_shared::<Error>();
     is_shared::<Fault>();
     let map = shortened(SourceMap::default());
@@ -69,6 +71,24 @@ fn eight_threads_read_one_map() {
         .map(|_| {
             let (map, other, wanted) = (Arc::clone(&map), Arc::clone(&other), wanted.clone());
             thread::spawn(move || (0..50).for_each(|_| assert_eq!(said(&map, &other), wanted)))
+        })
+        .collect();
+    readers.into_iter().for_each(|reader| reader.join().unwrap());
+}
+
+#[test]
+fn eight_threads_ask_the_same_scopes() {
+    let decoded = || Scopes::decode("BFAAA,BFCAC,CCA,CFA,EGAA,ECKC,IAFC,FK,FU", 2).unwrap();
+    let said = |it: &Scopes| {
+        let listed = (it.get_scopes().collect::<Vec<_>>(), it.get_ranges().collect::<Vec<_>>());
+        let found = (it.scope_at(0, 3, 0), it.function_at(0, 5, 0), it.range_at(0, 12));
+        format!("{it:?} {listed:?} {found:?} {:?}", it.frames_at(0, 12))
+    };
+    let (scopes, wanted) = (Arc::new(decoded()), said(&decoded()));
+    let readers: Vec<_> = (0..8)
+        .map(|_| {
+            let (scopes, wanted) = (Arc::clone(&scopes), wanted.clone());
+            thread::spawn(move || (0..50).for_each(|_| assert_eq!(said(&scopes), wanted)))
         })
         .collect();
     readers.into_iter().for_each(|reader| reader.join().unwrap());

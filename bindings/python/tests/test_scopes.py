@@ -1,0 +1,220 @@
+"""Scopes, by rows worked by hand; each fault of their text; frames with the texts of a map; and handles."""
+
+import copy
+import json
+import pickle
+import threading
+import unittest
+from unittest import mock
+
+from support import Case, read
+
+from oxc_sourcemap import (
+    Bias,
+    Call,
+    Code,
+    CompiledMap,
+    Frames,
+    Position,
+    Range,
+    Scope,
+    ScopeFrame,
+    Scopes,
+    ScopesCounts,
+    ScopesFault,
+    SourceFrame,
+    SourceMap,
+    _library,
+    _scopes,
+)
+
+# global; in it outer, and inner, which was inlined into outer at columns 20 to 30.
+INLINED = "BCAAC,BHBAEE,DI,CDB,BHBAGA,CCB,CBA,ECAA,EGKC,GH,ECKC,IADE,FK,FK,FBA"
+NAMES = ["n0", "global", "outer", "function", "a", "inner", "x"]
+# Columns 0 and 20 of line 0 are lines 1 and 5 of the source, and line 2 has no source.
+JSON = json.dumps({"version": 3, "sources": ["a.js"], "names": NAMES, "mappings": "AACA,oBAIE;;A", "scopes": INLINED})
+
+P = Position
+# The text, the number of names, that of sources, the scopes, the ranges.
+ROWS = [
+    (
+        INLINED, 7, 1,
+        [
+            Scope(0, P(0, 0), P(8, 0), None, 1, False, None),
+            Scope(0, P(1, 0), P(4, 1), 2, 3, True, 0),
+            Scope(0, P(5, 0), P(7, 1), 5, 3, True, 0),
+        ],
+        [
+            Range(P(0, 0), P(1, 0), 0, False, False, None, None),
+            Range(P(0, 10), P(0, 40), 1, True, False, None, 0),
+            Range(P(0, 20), P(0, 30), 2, False, False, Call(0, 3, 4), 1),
+        ],
+    ),
+    ("A,BCCDA,CAG", 1, 2, [Scope(1, P(2, 3), P(2, 9), None, 0, False, None)], []),
+    ("ENDC,FCH", 0, 0, [], [Range(P(3, 2), P(5, 7), None, True, True, None, None)]),
+    (
+        "BAAA,DAC,CJA,ECAA,GAD,HBBBE,FCE", 4, 1,
+        [Scope(0, P(0, 0), P(9, 0), None, None, False, None)],
+        [Range(P(0, 0), P(2, 4), 0, False, False, None, None)],
+    ),
+    (
+        "BFAAA,CEA,BFBAA,CFA,EGAC,FJ,EGAD,FBC", 1, 2,
+        [Scope(0, P(0, 0), P(4, 0), 0, None, True, None), Scope(1, P(1, 0), P(6, 0), 0, None, True, None)],
+        [Range(P(0, 0), P(0, 9), 1, True, False, None, None), Range(P(0, 9), P(1, 2), 0, True, False, None, None)],
+    ),
+    ("", 0, 0, [], []),
+]  # fmt: skip
+INNER, OUTER, NAMELESS = ScopeFrame(5, 2, None), ScopeFrame(2, 1, None), ScopeFrame(None, None, None)
+NESTED = "BFAAA,CJA,EGAA," + ",".join(["ECAA,IABC"] * 9) + ",FK" * 10
+
+
+class OfScopes(Case):
+    def test_rows(self):
+        for text, names, sources, listed, ranges in ROWS:
+            for it in (Scopes.decode(text, names), Scopes.decode(text.encode(), names=names)):
+                self.assertEqual((it.scopes, it.ranges), (listed, ranges), text)
+                self.assertEqual(it.counts(), ScopesCounts(sources, len(listed), len(ranges)))
+                self.assertEqual([it.get_scope(k) for k in range(len(listed) + 1)], [*listed, None])
+                self.assertEqual([it.get_range(k) for k in range(len(ranges) + 1)], [*ranges, None])
+                self.assertEqual((it.get_scope(2**32 - 1), it.get_range(2**32 - 1)), (None, None))
+                for value in [*it.scopes, *it.ranges]:
+                    self.assertIs(type(value.is_stack_frame), bool)
+
+    def test_lookups(self):
+        it = Scopes.decode(INLINED, 7)
+        scopes = [it.scope_at(0, *place) for place in [(0, 0), (1, 0), (4, 0), (4, 1), (5, 0), (8, 0)]]
+        self.assertEqual(scopes, [0, 1, 1, 0, 2, None])
+        self.assertEqual([it.function_at(0, *place) for place in [(0, 0), (4, 0), (4, 1), (5, 0)]], [None, 1, None, 2])
+        self.assertEqual([it.range_at(0, column) for column in (9, 10, 20, 29, 30, 40)], [0, 1, 2, 2, 1, 0])
+        self.assertEqual((it.range_at(1, 0), it.scope_at(1, 1, 0), it.function_at(1, 1, 0)), (None, None, None))
+
+    def test_frames(self):
+        it = Scopes.read(JSON)
+        self.assertEqual(it.frames_at(0, 25), Frames([INNER, ScopeFrame(2, 1, Call(0, 3, 4))], False))
+        self.assertEqual(it.frames_at(0, 15), Frames([OUTER], False))
+        self.assertEqual(it.frames_at(0, 5), Frames([NAMELESS], False))
+        self.assertEqual(it.frames_at(1, 0), Frames([], False))
+        self.assertEqual(Scopes.decode("ENDC,FCH", 0).frames_at(4, 0), Frames([NAMELESS], True))
+        self.assertIs(type(it.frames_at(0, 25).is_hidden), bool)
+        deep = Scopes.decode(NESTED, 1).frames_at(0, 3).frames
+        self.assertEqual(deep, [ScopeFrame(0, 0, None)] + [ScopeFrame(0, 0, Call(0, 1, 2))] * 9)
+
+    def test_traces(self):
+        it, map = Scopes.read(JSON), SourceMap.from_json(JSON)
+        inner = [SourceFrame("a.js", 5, 2, "inner"), SourceFrame("a.js", 3, 4, "outer")]
+        with CompiledMap(map.compile()) as compiled:
+            for of in (map, compiled):
+                self.assertEqual(it.trace(of, 0, 25), inner)
+                self.assertEqual(it.trace(of, 0, 15), [SourceFrame("a.js", 1, 0, "outer")])
+                self.assertEqual(it.trace(of, 0, 5), [SourceFrame("a.js", 1, 0, None)])
+                # (no range, and no mapping)
+                self.assertEqual((it.trace(of, 1, 0), it.trace(of, 2, 0)), ([], []))
+        elsewhere = Scopes.decode("EAU,FU", 0)
+        self.assertEqual(elsewhere.trace(map, 0, 4), [SourceFrame("a.js", 1, 0, None)])
+        self.assertEqual(Scopes.decode("ENAA,FJA", 0).trace(map, 0, 4), [])
+        # (a call in another source)
+        two = SourceMap.from_json('{"version":3,"sources":["c.js","d.js"],"names":["f","g"],"mappings":"AAAA"}')
+        called = Scopes.decode("BFAAA,CJA,BFAAC,CJA,EGAC,ECAD,IBED,FJ,FJ", 2)
+        self.assertEqual(called.trace(two, 0, 4), [SourceFrame("c.js", 0, 0, "f"), SourceFrame("d.js", 4, 3, "g")])
+        # (a range where the map says nothing, or by another bias)
+        unmapped = Scopes.decode("BFAAA,CJA,EHBAA,FJA", 7)
+        self.assertEqual(unmapped.trace(map, 1, 0), [SourceFrame(None, None, None, "n0")])
+        late = SourceMap.from_json('{"version":3,"sources":["b.js"],"names":["f"],"mappings":"IACA"}')
+        of_late = Scopes.decode("BFAAA,CJA,EGAA,FU", 1)
+        self.assertEqual(of_late.trace(late, 0, 1), [SourceFrame(None, None, None, "f")])
+        self.assertEqual(of_late.trace(late, 0, 1, Bias.CLAMPED), [SourceFrame("b.js", 1, 0, "f")])
+        for wrong in (None, 7, "map", it):
+            with self.assertRaisesRegex(TypeError, "map is no SourceMap or CompiledMap, but "):
+                it.trace(wrong, 0, 0)
+
+    def test_faults(self):
+        rows = [
+            ("A,!", 0, ScopesFault.NOT_A_DIGIT, 2, "a character is no base64 digit"),
+            ("A,Bg", 0, ScopesFault.CUT_SHORT, 2, "the last number is cut short"),
+            ("A,gggggggA", 0, ScopesFault.TOO_LARGE, 2, "a number is too large"),
+            ("A,,A", 0, ScopesFault.MISSING_NUMBER, 2, "a number is missing"),
+            ("BBAAC", 1, ScopesFault.BAD_INDEX, 0, "an index leads to no name or scope"),
+            ("A,CAA", 0, ScopesFault.NOTHING_OPEN, 2, "no scope or range is open"),
+            ("BAAA,A", 0, ScopesFault.NOT_CLOSED, 5, "the scopes before it are not closed"),
+            (",".join(["BAAA"] * 1025), 0, ScopesFault.TOO_DEEP, 5120, "more than 1024 scopes or ranges are nested"),
+            ("BAAA", 0, ScopesFault.LEFT_OPEN, 4, "a scope or a range has no end"),
+        ]
+        self.assertEqual([kind for _, _, kind, _, _ in rows], list(ScopesFault))
+        for text, names, kind, byte, message in rows:
+            error = self.fails(Code.BAD_SCOPES, Scopes.decode, text, names, detail=byte)
+            self.assertIs(error.field, kind)
+            self.assertEqual((str(error), error.name), (f"scopes, byte {byte}: {message}", "SMAP_BAD_SCOPES"))
+            self.assertIs(pickle.loads(pickle.dumps(error)).field, kind)
+        self.assertEqual(_scopes.check_code(0), None)
+        self.fails(Code.NOT_UTF8, Scopes.decode, b"B\xff", 0, detail=1)
+
+    def test_members(self):
+        for text in ("{}", '{"scopes":null}', '{"scopes":""}', "[]", b"{}"):
+            self.assertEqual(Scopes.read(text).counts(), ScopesCounts(0, 0, 0))
+        self.assertEqual(Scopes.read('{"scopes":"BBAAC,CAA","names":["f","g"]}').get_scope(0).name_id, 1)
+        self.assertIs(self.fails(Code.BAD_SCOPES, Scopes.read, '{"scopes":"BBAAC","names":["f"]}').field, ScopesFault.BAD_INDEX)
+        self.assertEqual(str(self.fails(Code.SCOPES_NOT_TEXT, Scopes.read, '{"scopes":7}')), "`scopes` is no text")
+        self.assertEqual(str(self.fails(Code.SCOPES_INDEXED, Scopes.read, '{"sections":[]}')), "the scopes of an indexed map are not read")
+        self.assertIsNone(self.fails(Code.JSON_READING, Scopes.read, "{").field)
+        self.fails(Code.NOT_UTF8, Scopes.read, b"{\xff", detail=1)
+
+    def test_arguments(self):
+        it = Scopes.decode("", 0)
+        for call in (it.scope_at, it.function_at):
+            self.assertRaises(OverflowError, call, 0, -1, 0)
+            self.assertRaises(OverflowError, call, 2**32, 0, 0)
+        for call in (it.range_at, it.frames_at):
+            self.assertRaises(OverflowError, call, 2**32, 0)
+        for call in (it.get_scope, it.get_range):
+            self.assertRaises(TypeError, call, "0")
+        self.assertRaises(OverflowError, Scopes.decode, "", -1)
+        self.assertRaises(TypeError, Scopes.read, {})
+        self.assertRaises(TypeError, Scopes)
+
+    def test_want_of_memory(self):
+        it = Scopes.read(JSON)
+        with mock.patch.object(_library.lib, "smap_frames_at", lambda *_: Code.OUT_OF_MEMORY):
+            self.assertRaises(MemoryError, it.frames_at, 0, 25)
+
+    def test_codes_that_are_not_none(self):
+        it = Scopes.read(JSON)
+        for name, *given in [("get_scope", 0), ("get_range", 0), ("scope_at", 0, 0, 0), ("function_at", 0, 1, 0), ("range_at", 0, 0)]:
+            call = f"smap_{name}"
+            with mock.patch.object(_library.lib, call, lambda *_: Code.BAD_OPTION):
+                self.fails(Code.BAD_OPTION, getattr(it, name), *given)
+
+    def test_closed(self):
+        with Scopes.read(JSON) as it:
+            self.assertEqual(repr(it), "<Scopes: 1 sources, 3 scopes, 3 ranges>")
+            self.assertFalse(it.closed)
+        self.assertTrue(it.closed)
+        self.assertEqual(repr(it), "<Scopes: closed>")
+        it.close()
+        for call in (it.counts, lambda: it.scopes, lambda: it.ranges, lambda: it.get_scope(0), lambda: it.get_range(0), lambda: it.scope_at(0, 0, 0),
+                     lambda: it.function_at(0, 0, 0), lambda: it.range_at(0, 0), lambda: it.frames_at(0, 0), lambda: it.trace(read(), 0, 0)):  # fmt: skip
+            self.is_closed(call)
+        it = Scopes.read(JSON)
+        for call in (pickle.dumps, copy.copy, copy.deepcopy):
+            self.assertRaisesRegex(TypeError, "cannot be pickled", call, it)
+        for value in (*it.scopes, *it.ranges, it.frames_at(0, 25), it.counts()):
+            self.assertEqual(pickle.loads(pickle.dumps(value)), value)
+
+    def test_threads(self):
+        it, answers = Scopes.read(JSON), []
+
+        def ask():
+            for _ in range(200):
+                answers.append((it.frames_at(0, 25), tuple(it.scopes), it.scope_at(0, 4, 0), it.range_at(0, 29)) == wanted)
+
+        wanted = (it.frames_at(0, 25), tuple(it.scopes), 1, 2)
+        threads = [threading.Thread(target=ask) for _ in range(8)]
+        for thread in threads:
+            thread.start()
+        for thread in threads:
+            thread.join()
+        self.assertEqual((len(answers), all(answers)), (1600, True))
+        it.close()
+
+
+if __name__ == "__main__":
+    unittest.main()

@@ -21,7 +21,7 @@ LIBRARY = os.path.abspath(os.environ.get("LIBRARY", TOP / "target"))
 # What the tests read.
 READ = ("bindings/node", "bindings/c", "bindings/wasm/loader", "bindings/wasm/test", "tests/real-maps", "docs/CHANGELOG.md")
 SLOW = ("memory", "workers", "fuzz", "compat-others", "plugins")
-MODULES = ("map.js", "compiled.js", "builders.js", "functions.js", "errors.js", "inputs.js", "decoded.js", "members.js")
+MODULES = ("map.js", "compiled.js", "scopes.js", "builders.js", "functions.js", "errors.js", "inputs.js", "decoded.js", "members.js")
 LOADER = TOP / "bindings/wasm"
 # The modules of the loader's test, and how they are linked: tools/check/wasm has the same.
 LINKED = {"oxc_sourcemap": None, "small_stack": {"STACK": "32768"}, "small_memory": {"MOST": "4194304"}}

@@ -17,7 +17,7 @@ sys.path.insert(0, str(TOP / "bindings/python"))
 import backend
 
 SOURCE = TOP / "bindings/python/src/oxc_sourcemap"
-MODULES = ("_compiled", "_contents", "_errors", "_handle", "_lookups", "_making", "_map", "_numbers", "_plain", "_texts", "_values")
+MODULES = ("_compiled", "_contents", "_errors", "_handle", "_lookups", "_making", "_map", "_numbers", "_plain", "_scopes", "_texts", "_values")
 
 # In place of a call.
 NOTHING = "(lambda *_: 0)"

@@ -103,6 +103,11 @@ function fixedBytes(it, length, what) {
   return it;
 }
 
+/** Whether the first argument of a lookup is an object that has all of them. */
+function isPlace(it) {
+  return typeof it === 'object' && it !== null;
+}
+
 /** An id, or what stands for none. */
 function idWord(it, what) {
   return it === null || it === undefined ? NO_ID : word(it, what);
@@ -192,6 +197,7 @@ module.exports = {
   limitOf,
   bytesOf,
   fixedBytes,
+  isPlace,
   idWord,
   idOf,
   list,

@@ -4,7 +4,7 @@
 const native = require('./native.js');
 const { Bias, Code, Kind, Slot, Which } = require('./constants.js');
 const { check, damaged, made, madeOrNull, long } = require('./errors.js');
-const { bytesOf, option, shown, word, checkWords } = require('./arguments.js');
+const { bytesOf, isPlace, option, shown, word, checkWords } = require('./arguments.js');
 const { fileSystem } = require('./inputs.js');
 const { tokenAt } = require('./iteration.js');
 const { mapOf } = require('./map.js');
@@ -198,11 +198,6 @@ class CompiledMap {
     check(native.findAll(this.#handle, checkWords(positions, 'positions'), option(bias, 'The bias', 'Bias'), checkWords(out, 'out')));
     return out;
   }
-}
-
-/** Whether the first argument of a lookup is an object that has all of them. */
-function isPlace(it) {
-  return typeof it === 'object' && it !== null;
 }
 
 /** What `console.log` of Node shows of a map: its counts. */

@@ -30,5 +30,6 @@ const OTHER_FIELDS = { OBJECT: 'value', GOOGLE_IGNORE_LIST: 'x_google_ignoreList
 const FIELDS = byNumber(header.Field, (key) => OTHER_FIELDS[key] ?? camel(key));
 const PLACES = byNumber(header.Place, (key) => (key === 'NONE' ? null : camel(key)));
 const MENDS = byNumber(header.Mend);
+const SCOPES_FAULTS = byNumber(header.ScopesFault);
 
-module.exports = { NO_ID, Bias, Direction, Language, Kind, Code, Words, Which, Form, SLOTS, Slot, FIELDS, PLACES, MENDS };
+module.exports = { NO_ID, Bias, Direction, Language, Kind, Code, Words, Which, Form, SLOTS, Slot, FIELDS, PLACES, MENDS, SCOPES_FAULTS };

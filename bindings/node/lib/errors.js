@@ -2,14 +2,15 @@
 // Errors, from the words of a fault.
 
 const native = require('./native.js');
-const { NO_ID, Code, FIELDS, PLACES } = require('./constants.js');
+const { NO_ID, Code, FIELDS, PLACES, SCOPES_FAULTS } = require('./constants.js');
 
 class SourceMapError extends Error {
-  constructor(message, { code, detail, field, place, placeMessage }) {
+  constructor(message, { code, detail, field, reason, place, placeMessage }) {
     super(placeMessage ? `${message}, at ${placeMessage}` : message);
     this.code = code;
     this.detail = detail;
     this.field = field;
+    this.reason = reason;
     this.place = place;
     this.placeMessage = placeMessage;
   }
@@ -45,7 +46,7 @@ function placeOf(words) {
 
 /** An error with no more than a code and a message. */
 function errorOfMap(code, message) {
-  return new SourceMapError(message, { code, detail: 0, field: null, place: null, placeMessage: '' });
+  return new SourceMapError(message, { code, detail: 0, field: null, reason: null, place: null, placeMessage: '' });
 }
 
 /** The place of a fault in words, and behind it what is really wrong there with the text that was read, if the message does not tell. */
@@ -73,6 +74,7 @@ function errorOf(words, text) {
     code,
     detail: long(words, 2),
     field: number === Code.JSON_SHAPE ? FIELDS[field] : null,
+    reason: number === Code.BAD_SCOPES ? SCOPES_FAULTS[field] : null,
     place: placeOf(words),
     placeMessage: placeMessageOf(words, text),
   });

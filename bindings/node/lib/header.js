@@ -32,6 +32,9 @@ const Code = Object.freeze({
   COMPILED_VERSION: 24,
   COMPILED_LENGTH: 25,
   COMPILED_SIZES: 26,
+  BAD_SCOPES: 27,
+  SCOPES_NOT_TEXT: 28,
+  SCOPES_INDEXED: 29,
   NULL_HANDLE: 100,
   NOT_UTF8: 101,
   LENGTHS: 102,
@@ -56,6 +59,18 @@ const Field = Object.freeze({
   SECTIONS: 11,
   OFFSET: 12,
   MAP: 13,
+});
+
+const ScopesFault = Object.freeze({
+  NOT_A_DIGIT: 1,
+  CUT_SHORT: 2,
+  TOO_LARGE: 3,
+  MISSING_NUMBER: 4,
+  BAD_INDEX: 5,
+  NOTHING_OPEN: 6,
+  NOT_CLOSED: 7,
+  TOO_DEEP: 8,
+  LEFT_OPEN: 9,
 });
 
 const Place = Object.freeze({
@@ -126,6 +141,9 @@ const Words = Object.freeze({
   TOKEN: 6,
   PIECE: 5,
   MEND: 6,
+  SCOPE: 9,
+  RANGE: 11,
+  FRAME: 5,
 });
 
-module.exports = { NO_ID, Code, Field, Place, Bias, Kind, Mend, Direction, Text, Language, Words };
+module.exports = { NO_ID, Code, Field, ScopesFault, Place, Bias, Kind, Mend, Direction, Text, Language, Words };

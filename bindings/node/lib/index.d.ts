@@ -17,6 +17,9 @@ declare global {
   }
 }
 
+import type { ScopesFault } from "./scopes.js";
+export * from "./scopes.js";
+
 /** A text: a string, or UTF-8. */
 export type Text = string | Uint8Array;
 
@@ -157,6 +160,8 @@ export interface MapValue {
   sourcesContent?: readonly (string | null)[] | null | undefined;
   names?: readonly string[] | undefined;
   mappings: Mappings;
+  /** Which `Scopes.read` reads. */
+  scopes?: string | null | undefined;
 }
 
 /** The value of an indexed map. */
@@ -285,6 +290,9 @@ export type Code =
   | "SMAP_COMPILED_VERSION"
   | "SMAP_COMPILED_LENGTH"
   | "SMAP_COMPILED_SIZES"
+  | "SMAP_BAD_SCOPES"
+  | "SMAP_SCOPES_NOT_TEXT"
+  | "SMAP_SCOPES_INDEXED"
   | "SMAP_NULL_HANDLE"
   | "SMAP_NOT_UTF8"
   | "SMAP_LENGTHS"
@@ -315,10 +323,13 @@ export class SourceMapError extends Error {
   /** What is wrong, and behind ", at" the place, if that is known. */
   readonly message: string;
   readonly code: Code;
-  /** The number that belongs to the code: an id, an index, a size, a version; else 0. */
+  /** The number that belongs to the code: an id, an index, a size, a version, or of SMAP_BAD_SCOPES the byte of the text of scopes at which
+   *  the item at fault begins; else 0. */
   readonly detail: number;
   /** The member that is missing or has the wrong type, of SMAP_JSON_SHAPE; else null. */
   readonly field: Field | null;
+  /** What is wrong with an item of a text of scopes, of SMAP_BAD_SCOPES; else null. */
+  readonly reason: ScopesFault | null;
   /** Where in what was read the fault is, if that is known. */
   readonly place: FaultPlace | null;
   /**

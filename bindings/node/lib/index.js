@@ -4,6 +4,7 @@ const { NO_ID, Bias, Direction, Language } = require('./constants.js');
 const { SourceMapError } = require('./errors.js');
 const { SourceMap } = require('./map.js');
 const { CompiledMap } = require('./compiled.js');
+const { Scopes } = require('./scopes.js');
 const { SourceMapBuilder, ConcatSourceMapBuilder } = require('./builders.js');
 const { evaluate, encodeMappings, decodeMappings, sourceMappingURL, decodeDataURL } = require('./functions.js');
 
@@ -14,6 +15,7 @@ module.exports = {
   Language,
   SourceMap,
   CompiledMap,
+  Scopes,
   SourceMapBuilder,
   ConcatSourceMapBuilder,
   SourceMapError,

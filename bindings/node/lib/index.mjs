@@ -7,6 +7,7 @@ export const {
   Language,
   SourceMap,
   CompiledMap,
+  Scopes,
   SourceMapBuilder,
   ConcatSourceMapBuilder,
   SourceMapError,

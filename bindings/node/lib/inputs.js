@@ -40,13 +40,23 @@ function isValue(it) {
   return it !== null && typeof it === 'object' && ('mappings' in it || 'sections' in it || typeof it.toJSON === 'function');
 }
 
+function isURL(it) {
+  return typeof URL === 'function' && it instanceof URL;
+}
+
+/** The value that a map is read from, as it is; null if it is read from a text. */
+function sourceValue(it) {
+  if (!isValue(it) || ArrayBuffer.isView(it) || isURL(it)) return null;
+  return 'mappings' in it || 'sections' in it ? it : (it.toJSON() ?? null);
+}
+
 /** The text of what a map is read from. */
 function sourceText(it, what) {
   if (typeof it === 'string' || ArrayBuffer.isView(it)) return text(it, what);
   if (!isValue(it)) throw new TypeError(`${what} is neither a string, a Uint8Array, a URL nor a value with mappings or sections`);
-  if (typeof URL === 'function' && it instanceof URL) return textOfURL(it);
+  if (isURL(it)) return textOfURL(it);
   const json = JSON.stringify('mappings' in it || 'sections' in it ? encodedValue(it) : it);
   return text(json, what);
 }
 
-module.exports = { fileSystem, sourceText, encodedMappings };
+module.exports = { fileSystem, sourceText, sourceValue, encodedMappings };

@@ -4,7 +4,7 @@
 const native = require('./native.js');
 const { NO_ID, Bias, Direction, Kind, Code, Which, Form, Slot, MENDS } = require('./constants.js');
 const { errorOf, refusal, check, made, madeOrNull, long, longOrNull } = require('./errors.js');
-const { text, word, option, optionsOf, longWords, limitOf, fixedBytes, idOf, list, checkWords, words, tokens, texts, contents } = require('./arguments.js');
+const { text, word, option, optionsOf, longWords, limitOf, fixedBytes, isPlace, idOf, list, checkWords, words, tokens, texts, contents } = require('./arguments.js');
 const { Columns } = require('./columns.js');
 const { toDecoded } = require('./decoded.js');
 const { sourceText, encodedMappings } = require('./inputs.js');
@@ -560,11 +560,6 @@ function pieceAt(out, at) {
 /** Whether a copy of the tokens answers: of positions and a bias as they are to be. */
 function isQuestion(line, column, bias) {
   return line >>> 0 === line && column >>> 0 === column && bias >>> 0 === bias && bias <= Bias.AFTER;
-}
-
-/** Whether the first argument of a lookup is an object that has all of them. */
-function isPlace(it) {
-  return typeof it === 'object' && it !== null;
 }
 
 /** Each text and the first index at which it is listed. */

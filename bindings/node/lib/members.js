@@ -55,4 +55,4 @@ function dataURLOf(text, other, limit) {
   return url;
 }
 
-module.exports = { keptMembers, textWith, bytesOf, dataURLOf };
+module.exports = { valueOf, keptMembers, textWith, bytesOf, dataURLOf };

@@ -5,7 +5,7 @@
  * It is no part of what the package exports.
  *
  * Handles
- *  - A map, a compiled map, a builder and a join are opaque objects. `free` frees what a handle holds; else the garbage collector does, or the end of
+ *  - A map, a compiled map, scopes, a builder and a join are opaque objects. `free` frees what a handle holds; else the garbage collector does, or the end of
  *    its thread. A handle that was freed is as a null handle of the library: calls answer `SMAP_NULL_HANDLE` (100). So is a compiled map
  *    whose bytes JavaScript has taken away.
  *
@@ -46,6 +46,9 @@ export interface JoinHandle {
 }
 export interface CompiledHandle {
   readonly [kind]: "compiled";
+}
+export interface ScopesHandle {
+  readonly [kind]: "scopes";
 }
 /** What is looked up in. */
 export type AskedHandle = MapHandle | CompiledHandle;
@@ -115,7 +118,7 @@ export interface Native {
   /** The tokens alone, which no handle holds: `words[0]` is how many there are, and `words[1]` whether they are sorted, 1 or 0. */
   decodeTokens(mappings: Text, names: number, sources: number, out: Uint32Array): Code;
   clone(map: MapHandle): MapHandle | Code;
-  free(handle: MapHandle | BuilderHandle | JoinHandle | CompiledHandle): void;
+  free(handle: MapHandle | BuilderHandle | JoinHandle | CompiledHandle | ScopesHandle): void;
 
   // ---- threads ----
 
@@ -180,6 +183,29 @@ export interface Native {
   isIgnored(map: CompiledHandle, id: number): Code;
   /** 103 if a text is not UTF-8. */
   decompile(map: CompiledHandle): MapHandle | Code;
+
+  // ---- scopes ----
+
+  /** The scopes of a map, by its JSON text. */
+  readScopes(json: Text): ScopesHandle | Code;
+  /** The same by their text alone, of a map with so many names. */
+  decodeScopes(text: Text, names: number): ScopesHandle | Code;
+  /** `words[0]` to `[5]`: sources, scopes and ranges (2 each). */
+  scopesCounts(scopes: ScopesHandle): Code;
+  /** `words[0]` to `[8]`: the source, the start, the end, the ids of name and kind, whether it is a stack frame, the index of the scope
+   *  around it. 103 past the last one. */
+  getScope(scopes: ScopesHandle, index: number): Code;
+  /** `words[0]` to `[10]`: the start, the end, the index of the scope, whether it is a stack frame and whether it is hidden, the source,
+   *  the line and the column of the call, the index of the range around it. 103 past the last one. */
+  getRange(scopes: ScopesHandle, index: number): Code;
+  /** `words[0]` is the index of a scope. 103 if there is none. */
+  scopeAt(scopes: ScopesHandle, source: number, line: number, column: number): Code;
+  functionAt(scopes: ScopesHandle, source: number, line: number, column: number): Code;
+  /** That of a range. */
+  rangeAt(scopes: ScopesHandle, line: number, column: number): Code;
+  /** Five words for each frame: the id of its name, the index of its scope, and the source, the line and the column of the call.
+   *  `words[1]` is whether the frame is hidden, 1 or 0. */
+  framesAt(scopes: ScopesHandle, line: number, column: number, out: Uint32Array): Code;
 
   // ---- changing ----
 

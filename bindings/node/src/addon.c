@@ -64,6 +64,7 @@ static const Entry *const TABLES[] = {
     BUILDING_CALLS,
     WRITING_CALLS,
     COMPILED_CALLS,
+    SCOPES_CALLS,
     MESSAGE_CALLS,
 };
 

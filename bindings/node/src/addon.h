@@ -47,7 +47,7 @@ typedef struct Held {
     struct Held *next;
 } Held;
 
-typedef enum { MAP, BUILDER, JOIN, COMPILED } Kind;
+typedef enum { MAP, BUILDER, JOIN, COMPILED, SCOPES } Kind;
 
 /* A compiled map, and the array of JavaScript in whose bytes it is open: they are not copied. */
 typedef struct {
@@ -90,6 +90,7 @@ typedef struct Handle {
     smap_builder *builder;
     smap_join *join;
     Open open;
+    smap_scopes *scopes;
     int64_t weight; /* the bytes that it holds, about */
 } Handle;
 
@@ -269,7 +270,7 @@ typedef struct {
 } Entry;
 
 extern const Entry READING_CALLS[], READING_ASYNC_CALLS[], HANDLE_CALLS[], SHARING_CALLS[], INSPECTING_CALLS[], LOOKUP_CALLS[],
-    CHANGING_CALLS[], MAKING_CALLS[], BUILDING_CALLS[], WRITING_CALLS[], COMPILED_CALLS[], MESSAGE_CALLS[];
+    CHANGING_CALLS[], MAKING_CALLS[], BUILDING_CALLS[], WRITING_CALLS[], COMPILED_CALLS[], SCOPES_CALLS[], MESSAGE_CALLS[];
 
 /* The one call that is in no table (lookups.c), and what ends with its environment. */
 napi_value trace(napi_env env, napi_callback_info info);

@@ -1,4 +1,4 @@
-/* What a map, a builder or a join is to JavaScript, and what the garbage collector is told of it. */
+/* What a map, scopes, a builder or a join is to JavaScript, and what the garbage collector is told of it. */
 #include "addon.h"
 
 #include <stdlib.h>
@@ -33,12 +33,14 @@ static void empty(napi_env env, Handle *handle)
     smap_free_builder(handle->builder);
     smap_free_join(handle->join);
     smap_free_compiled(handle->open.map);
+    smap_free_scopes(handle->scopes);
     if (handle->open.array != NULL) napi_delete_reference(env, handle->open.array);
     handle->held = NULL;
     handle->mends = NULL;
     handle->builder = NULL;
     handle->join = NULL;
     handle->open = (Open){0};
+    handle->scopes = NULL;
     tell(env, handle, -handle->weight);
 }
 

@@ -6,12 +6,13 @@ const assert = require('node:assert/strict');
 const { isExternal } = require('node:util/types');
 const vm = require('node:vm');
 
-const { Bias, SourceMap, CompiledMap, SourceMapBuilder, ConcatSourceMapBuilder, evaluate, encodeMappings, decodeMappings, sourceMappingURL, decodeDataURL } = require('..');
+const { Bias, SourceMap, CompiledMap, Scopes, SourceMapBuilder, ConcatSourceMapBuilder, evaluate, encodeMappings, decodeMappings, sourceMappingURL, decodeDataURL } = require('..');
 const native = require('../lib/native.js');
 const { TEXT, TOKENS, flat, isModule } = require('./support.js');
 
 const map = new SourceMap(TEXT);
 const compiled = new CompiledMap(map.compile());
+const scopes = Scopes.decode('BAAA,CBA,EAA,FB', 0);
 const builder = new SourceMapBuilder();
 const join = new ConcatSourceMapBuilder();
 
@@ -46,6 +47,19 @@ const NUMBERS = [
   (it) => compiled.getSource(it),
   (it) => compiled.getSourceContent(it),
   (it) => compiled.isIgnored(it),
+  (it) => Scopes.decode('', typeof it === 'object' ? { it } : it),
+  (it) => scopes.scope(it),
+  (it) => scopes.range(it),
+  (it) => scopes.scopeAt(it, 0, 0),
+  (it) => scopes.scopeAt(0, it, 0),
+  (it) => scopes.scopeAt(0, 0, it),
+  (it) => scopes.functionAt({ source: it, line: 0, column: 0 }),
+  (it) => scopes.functionAt({ source: 0, line: it, column: 0 }),
+  (it) => scopes.functionAt({ source: 0, line: 0, column: it }),
+  (it) => scopes.rangeAt(it, 0),
+  (it) => scopes.rangeAt(0, it),
+  (it) => scopes.framesAt({ line: it, column: 0 }),
+  (it) => scopes.framesAt(0, it),
   (it) => SourceMap.join([{ map, line: it }]),
   (it) => SourceMap.join([{ map, line: 0, column: it ?? null }]),
   (it) => SourceMap.shared(it),
@@ -80,6 +94,8 @@ const TEXTS = [
   (it) => evaluate('@0', [it]),
   (it) => sourceMappingURL(it),
   (it) => decodeDataURL(it),
+  (it) => Scopes.read(it),
+  (it) => Scopes.decode(it, 0),
   (it) => builder.addName(it),
   (it) => builder.addSource(it),
   (it) => builder.addSource('a', it ?? 0),
@@ -95,6 +111,7 @@ const LISTS = [
   (it) => map.setIgnoreList(it),
   (it) => evaluate('@0', it),
   (it) => encodeMappings(it),
+  (it) => Scopes.decode('', it === 1 ? undefined : it),
   (it) => builder.addTokens(it),
 ];
 const WORDS = [

@@ -37,6 +37,8 @@ function words(next, memory = ArrayBuffer) {
   return out;
 }
 
+const SCOPES = 'BFAAA,BFCAC,CCA,CFA,EGAA,ECKC,IAFC,FK,FU';
+const SCOPED = JSON.stringify({ names: ['f', 'g'], scopes: SCOPES });
 const TEXTS = [
   TEXT,
   '',
@@ -44,6 +46,8 @@ const TEXTS = [
   '{"version":3,"sources":["a"],"names":[],"mappings":"G,D"}',
   '{"version":3,"sources":["a",null],"mappings":"AAAA"}',
   'AAAA;AACA,CAAA',
+  SCOPES,
+  SCOPED,
   'größe',
   '\ud800',
   'join 2 @0 0 @1 1',
@@ -95,7 +99,7 @@ function bytes(next) {
 class Pool {
   constructor(next) {
     this.next = next;
-    this.handles = [native.fromJson(TEXT), native.builderNew(), native.joinNew(), native.openCompiled(COMPILED.slice())];
+    this.handles = [native.fromJson(TEXT), native.builderNew(), native.joinNew(), native.openCompiled(COMPILED.slice()), native.decodeScopes(SCOPES, 2)];
   }
 
   one() {
@@ -104,7 +108,7 @@ class Pool {
 
   keep(handle) {
     if (typeof handle !== 'object' || handle === null || Array.isArray(handle) || ArrayBuffer.isView(handle) || handle instanceof Promise) return;
-    this.handles[this.next(8) === 0 ? this.next(4) : this.next(40)] = handle;
+    this.handles[this.next(8) === 0 ? this.next(5) : this.next(40)] = handle;
     this.handles = [...this.handles].map((it) => it ?? handle);
   }
 
@@ -138,6 +142,7 @@ const SHAPES = {
   builderNew: '', builderAddName: 'ht', builderAddSource: 'htt', builderAddTokens: 'hw', builderSetFile: 'ht', builderFinish: 'h',
   write: 'hnt', writeBytes: 'hnt', encodeMappings: 'w', sourceMappingURL: 'tn', decodeDataURL: 't',
   compile: 'hnnb', openCompiled: 'b', compiledCounts: 'h', stamp: 'h', isIgnored: 'hn', decompile: 'h',
+  readScopes: 't', decodeScopes: 'tn', scopesCounts: 'h', getScope: 'hn', getRange: 'hn', scopeAt: 'hnnn', functionAt: 'hnnn', rangeAt: 'hnn', framesAt: 'hnnw',
   message: 'w', placeMessage: 'w', mendMessage: 'w', reasonMessage: 'tw', codeName: 'n',
 };
 
@@ -225,15 +230,17 @@ test('calls of the classes', async () => {
   const maps = Array.from({ length: 12 }, (_, i) => new SourceMap(JSON.stringify(randomMap(i).json)));
   const makersOfMaps = [new library.SourceMapBuilder(), new library.ConcatSourceMapBuilder()];
   const compiled = Array.from({ length: 4 }, (_, i) => new library.CompiledMap(maps[i].compile()));
+  const scopes = Array.from({ length: 4 }, () => library.Scopes.read(SCOPED));
   const isLong = (map) => map instanceof SourceMap && isFarMap(map);
   for (let i = 0; i < rounds / 2; i++) {
-    const object = [library, SourceMap, makersOfMaps[next(2)], maps[next(12)], maps[next(12)], maps[next(12)], compiled[next(4)]][next(7)];
+    const object = [library, SourceMap, makersOfMaps[next(2)], maps[next(12)], maps[next(12)], maps[next(12)], compiled[next(4)], library.Scopes, scopes[next(4)]][next(9)];
     const keys = Object.getOwnPropertyNames(object instanceof Object && object.constructor !== Object && typeof object !== 'function' ? Object.getPrototypeOf(object) : object);
     const key = keys[next(keys.length)];
     if (['prototype', 'constructor', 'caller', 'arguments', 'encodeMappings'].includes(key) || isLong(object)) continue;
     try {
       const out = callOf(object, key, next, maps);
       if (out instanceof SourceMap) maps[next(12)] = out;
+      if (out instanceof library.Scopes) scopes[next(4)] = out;
       if (key === 'compile') compiled[next(4)] = new library.CompiledMap(next(3) === 0 ? copied(out, SharedArrayBuffer) : out);
       if (next(20) === 0 && out?.buffer instanceof ArrayBuffer && key === 'compile') detached(out);
     } catch (error) {

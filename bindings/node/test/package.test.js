@@ -30,13 +30,13 @@ test('the addon makes all calls of the header', needsHeader, () => {
   const made = new Set(readdirSync(join(__dirname, '../src')).flatMap((it) => all(read(`src/${it}`), /\b(smap_\w+)\b/g)));
   // A file that the system maps may be cut while JavaScript reads it, which ends the process.
   assert.deepEqual([...calls].filter((it) => !made.has(it)), ['smap_map_file', 'smap_free_file']);
-  assert.equal(calls.size, 90);
+  assert.equal(calls.size, 100);
 });
 
 test('the constants are those of the header', needsHeader, () => {
   const text = readFileSync(header, 'utf8');
   const value = (name) => Number(text.match(new RegExp(`\\b${name} = (\\d+)`))[1]);
-  const { Bias, Direction, Language, Kind, Code, Which, Words, MENDS, PLACES } = constants;
+  const { Bias, Direction, Language, Kind, Code, Which, Words, MENDS, PLACES, SCOPES_FAULTS } = constants;
   for (const them of [Bias, Direction, Kind, Code]) {
     for (const [name, number] of Object.entries(them)) if (!['SHARED', 'NO_THREADS'].includes(name)) assert.equal(number, value(`SMAP_${name}`), name);
   }
@@ -44,6 +44,9 @@ test('the constants are those of the header', needsHeader, () => {
   for (const [name, number] of Object.entries(Language)) assert.equal(number, value(`SMAP_${name}`));
   for (const [name, words] of Object.entries(Words)) assert.match(text, new RegExp(`SMAP_HAS_SIZE\\(smap_${name}, 0, ${4 * words}\\)`, 'i'));
   assert.deepEqual(MENDS.slice(1), all(text, /^ {4}SMAP_MEND_(\w+) = \d+/gm));
+  const faults = text.split('`field` of SMAP_BAD_SCOPES.')[1].split('};')[0];
+  assert.deepEqual(SCOPES_FAULTS.slice(1), all(faults, /^ {4}SMAP_SCOPES_(\w+) = \d+/gm));
+  assert.deepEqual(all(read('lib/scopes.d.ts').split('export type ScopesFault =')[1].split(';')[0], /"(\w+)"/g), SCOPES_FAULTS.slice(1));
   assert.deepEqual(PLACES.slice(1), all(text, /^ {4}SMAP_PLACE_(\w+) = [1-9]/gm).map((it) => it.toLowerCase()));
   const fields = all(text, /^ {4}SMAP_FIELD_(\w+) = \d+/gm);
   assert.equal(constants.FIELDS.length, fields.length);
@@ -67,10 +70,11 @@ test('CJS, ESM and the types have the same names', async () => {
   assert.equal(whole, library);
   assert.equal(library.default, library);
   assert.deepEqual(Object.keys(module).sort(), names);
-  assert.deepEqual([...new Set(all(read('lib/index.d.ts'), /^export (?:const|class|function) (\w+)/gm))].sort(), names);
-  for (const name of ['SourceMap', 'CompiledMap', 'SourceMapBuilder', 'ConcatSourceMapBuilder']) {
-    const body = read('lib/index.d.ts').split(`export class ${name} {`)[1].split('\n}')[0];
-    const said = new Set(all(body, /^ {2}(?:static |readonly )*(\w+)[<(:]/gm));
+  const types = read('lib/index.d.ts') + read('lib/scopes.d.ts');
+  assert.deepEqual([...new Set(all(types, /^export (?:const|class|function) (\w+)/gm))].sort(), names);
+  for (const name of ['SourceMap', 'CompiledMap', 'Scopes', 'SourceMapBuilder', 'ConcatSourceMapBuilder']) {
+    const body = types.split(`export class ${name} {`)[1].split('\n}')[0];
+    const said = new Set(all(body, /^ {2}(?:static |readonly |private )*(\w+)[<(:]/gm));
     const { prototype } = library[name];
     const own = [...Object.getOwnPropertyNames(prototype), ...Object.getOwnPropertyNames(library[name]).filter((it) => !['length', 'name', 'prototype'].includes(it))];
     assert.deepEqual([...said].sort(), own.sort(), name);
@@ -103,7 +107,7 @@ test('the examples of the documentation', () => {
   const examples = all(read('README.md'), /```js\n([^]*?)```/g).filter((it) => !/require\('node:fs'\)|^import /m.test(it));
   assert.ok(examples.length > 0);
   for (const example of examples) {
-    const lines = example.split('\n').map((line) => line.replace(/^((?:map\.|\[\.\.\.map).*); \/\/ (.*)$/, 'assert.deepEqual($1, $2);'));
+    const lines = example.split('\n').map((line) => line.replace(/^((?:map\.|scopes\.|stackAt\(|\[\.\.\.map).*); \/\/ (.*)$/, 'assert.deepEqual($1, $2);'));
     vm.runInThisContext(`(require, assert) => {${lines.join('\n')}}`)((name) => (assert.equal(name, 'junketscarp'), library), assert);
   }
 });

@@ -143,7 +143,7 @@ test('an error is an Error', () => {
   })();
   assert.ok(error instanceof Error && error instanceof SourceMapError);
   assert.match(error.stack, /^SourceMapError: JSON parsing error: the text is not JSON, at line 0, column 1 \(byte 1\)\n/);
-  assert.deepEqual(Object.keys(error), ['code', 'detail', 'field', 'place', 'placeMessage']);
+  assert.deepEqual(Object.keys(error), ['code', 'detail', 'field', 'reason', 'place', 'placeMessage']);
 });
 
 test('errors of a newer library, and numbers of 64 bits', () => {

@@ -8,13 +8,19 @@ import junketscarp, {
   Direction,
   FaultPlace,
   FoundToken,
+  GeneratedRange,
   Language,
   Mapping,
   Mend,
   NO_ID,
   Original,
+  OriginalScope,
   Piece,
   RawSourceMap,
+  ScopeFrame,
+  Scopes,
+  ScopesCounts,
+  ScopesFault,
   Segment,
   SourceMap,
   SourceMapBuilder,
@@ -62,6 +68,14 @@ async function uses(bytes: Uint8Array): Promise<void> {
   const again: SourceMap = CompiledMap.openFile("a.smc").decompile() ?? CompiledMap.openFile(new URL("file:///a.smc")).decompile();
   compiled.free();
   void [counts, known, again];
+  const scopes: Scopes = Scopes.decode("", 7) ?? Scopes.decode(bytes, new Set(["a"])) ?? Scopes.read({ version: 3, sources: [], mappings: "", scopes: "A" }) ?? Scopes.read(bytes);
+  const all_: [ScopesCounts, readonly OriginalScope[], readonly GeneratedRange[]] = [scopes.counts, scopes.scopes, scopes.ranges];
+  const one: [OriginalScope | null, GeneratedRange | null] = [scopes.scopeAt(0, 1, 2) ?? scopes.functionAt({ source: 0, line: 1, column: 2 }), scopes.rangeAt({ line: 0, column: 1 })];
+  const frame: ScopeFrame | undefined = scopes.framesAt(0, 1).frames[0] ?? scopes.framesAt({ line: 0, column: 1 }).frames[1];
+  const caller: number | undefined = frame?.call?.line;
+  const hidden: boolean = scopes.framesAt(0, 0).isHidden;
+  scopes[Symbol.dispose]();
+  void [all_, one, caller, hidden];
   void [found, name, token, answers, indices, pieces, back, all, raw, concat, url, NO_ID];
 }
 
@@ -92,7 +106,8 @@ function tells(error: unknown): string {
   if (!(error instanceof SourceMapError)) return "";
   const code: Code = error.code;
   const place: FaultPlace | null = error.place;
-  return `${code} ${error.detail} ${error.field ?? ""} ${place?.kind ?? ""} ${error.placeMessage} ${error.message}`;
+  const reason: ScopesFault | null = error.reason;
+  return `${code} ${reason ?? ""} ${error.detail} ${error.field ?? ""} ${place?.kind ?? ""} ${error.placeMessage} ${error.message}`;
 }
 
 function refused(map: SourceMap): void {
@@ -118,6 +133,12 @@ function refused(map: SourceMap): void {
   map.names[0] = "a";
   // @ts-expect-error: there may be no answer
   map.trace(0, 0).line;
+  // @ts-expect-error: nor are scopes
+  new Scopes();
+  // @ts-expect-error: names, or how many there are
+  Scopes.decode("");
+  // @ts-expect-error: frames are only read
+  Scopes.decode("", 0).framesAt(0, 0).frames.pop();
   // @ts-expect-error: errors are not made
   new SourceMapError("a");
   // @ts-expect-error: no such code

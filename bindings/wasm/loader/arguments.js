@@ -1,7 +1,7 @@
 'use strict';
 // Arguments of the types that native.d.ts says. What is of another one throws.
 
-const { COMPILED, MAP, Handle } = require('./handles.js');
+const { COMPILED, MAP, SCOPES, Handle } = require('./handles.js');
 const { NOT_TOLD } = require('./layout.js');
 
 const tagOf = Object.getOwnPropertyDescriptor(Object.getPrototypeOf(Uint8Array.prototype), Symbol.toStringTag).get;
@@ -17,6 +17,10 @@ function mapOf(it) {
 
 function compiledOf(it) {
   return handleOf(it, COMPILED);
+}
+
+function scopesOf(it) {
+  return handleOf(it, SCOPES);
 }
 
 function isCompiled(it) {
@@ -66,4 +70,4 @@ function mapsOf(list) {
   return all.map(mapOf);
 }
 
-module.exports = { handleOf, mapOf, compiledOf, isCompiled, askedOf, word, bytesOf, textOf, wordsOf, textsOf, mapsOf };
+module.exports = { handleOf, mapOf, compiledOf, scopesOf, isCompiled, askedOf, word, bytesOf, textOf, wordsOf, textsOf, mapsOf };

@@ -27,9 +27,9 @@ function fills(host, { instance, at: map }, out, size, run) {
   );
 }
 
-/** The same of a map. */
-function lists(host, handle, out, size, run) {
-  const map = mapOf(handle);
+/** The same of a map, or of another handle that `of` takes. */
+function lists(host, handle, out, size, run, of = mapOf) {
+  const map = of(handle);
   const to = wordsOf(out);
   return map.isNull ? host.told(Code.NULL_HANDLE) : fills(host, map, to, size, run);
 }

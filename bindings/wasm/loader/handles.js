@@ -1,5 +1,5 @@
 'use strict';
-// What a map, a compiled map, a builder or a join is, where it is, and how it is freed.
+// What a map, a compiled map, scopes, a builder or a join is, where it is, and how it is freed.
 
 const { NoMemory } = require('./instance.js');
 const { Code } = require('./layout.js');
@@ -9,7 +9,14 @@ const MAP = 'map';
 const BUILDER = 'builder';
 const JOIN = 'join';
 const COMPILED = 'compiled';
-const FREES = { map: 'smap_free_map', builder: 'smap_free_builder', join: 'smap_free_join', compiled: 'loader_free_compiled' };
+const SCOPES = 'scopes';
+const FREES = {
+  map: 'smap_free_map',
+  builder: 'smap_free_builder',
+  join: 'smap_free_join',
+  compiled: 'loader_free_compiled',
+  scopes: 'smap_free_scopes',
+};
 
 /** An address in an instance. After `free` there is no instance. */
 class Handle {
@@ -111,4 +118,4 @@ class Handles {
   }
 }
 
-module.exports = { MAP, BUILDER, JOIN, COMPILED, FREES, Handle, Handles };
+module.exports = { MAP, BUILDER, JOIN, COMPILED, SCOPES, FREES, Handle, Handles };

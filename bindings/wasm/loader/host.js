@@ -78,12 +78,12 @@ class Host {
     return this.within(() => this.instances.shared(), run);
   }
 
-  /** A map that a call makes in an instance, or the code of the call, which may be given what it lends. */
-  makes(instanceFor, run) {
+  /** A map, or what else a call makes in an instance, or the code of the call, which may be given what it lends. */
+  makes(instanceFor, run, kind = MAP) {
     return this.orNoMemory(() => {
       const instance = instanceFor();
       const code = lending(instance, (lend) => run(instance, lend));
-      if (code === 0) return this.handles.hold(new Handle(MAP), MAP, instance, instance.answer(ANSWER.MADE));
+      if (code === 0) return this.handles.hold(new Handle(kind), kind, instance, instance.answer(ANSWER.MADE));
       if (!instance.isShared) this.instances.give(instance);
       return code;
     });

@@ -5,7 +5,7 @@
 // collected leaves its place to others, and an instance goes with its last map. The collector takes one whose maps are all dropped also
 // where no turn of the event loop comes, in which it could free them one by one. A trap ends the maps that share an instance together.
 //
-// A compiled map is opened in a copy of its bytes, which is as a map of such a text.
+// A compiled map is opened in a copy of its bytes, which is as a map of such a text. Scopes are as a map of their text.
 //
 // Large maps, builders and joins have an instance of their own: the garbage collector frees its memory with the handle, and a trap ends it
 // alone. `free` keeps a few small instances for the next ones. A map that a change makes large moves to one, and a small map that a
@@ -30,6 +30,7 @@ const CALLS = {
   ...require('./building.js'),
   ...require('./writing.js').CALLS,
   ...require('./compiled.js'),
+  ...require('./scopes.js'),
   ...require('./messages.js'),
 };
 

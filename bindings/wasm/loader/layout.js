@@ -12,7 +12,8 @@ const ANSWER = { FAULT: 0, WORDS: 72, MADE: 136, OTHER: 144, TEXT: 152, COUNT: 1
 /** The words of an answer of a lookup: its kind, the index of a token, and the token. */
 const FOUND = 2 + Words.TOKEN;
 
-/** The words of the counts of a compiled map. */
+/** The words of the counts of a compiled map, and of those of scopes. */
 const COUNTS = 12;
+const SCOPES_COUNTS = 6;
 
-module.exports = { COUNTS, NOT_TOLD: NO_ID, Code, Form, SLOTS, Slot, Which, Words, BYTES, ANSWER, FOUND };
+module.exports = { COUNTS, SCOPES_COUNTS, NOT_TOLD: NO_ID, Code, Form, SLOTS, Slot, Which, Words, BYTES, ANSWER, FOUND };

@@ -23,7 +23,8 @@ const NOTHING = new Uint32Array(0);
 
 /** How many words a call answers. The bytes that a map holds (the last two of getCounts) are left out where maps were copied. */
 const ANSWERS = { getCounts: 6, isSorted: 1, isSound: 1, getToken: 6, getTokens: 1, getIgnoreList: 1, trace: 8, pieces: 1, firstDifference: 2,
-  generated: 7, allGenerated: 1, builderAddName: 1, builderAddSource: 1, getMends: 1, decodeTokens: 2, compiledCounts: 12, isIgnored: 1 };
+  generated: 7, allGenerated: 1, builderAddName: 1, builderAddSource: 1, getMends: 1, decodeTokens: 2, compiledCounts: 12, isIgnored: 1,
+  scopesCounts: 6, getScope: 9, getRange: 11, scopeAt: 1, functionAt: 1, rangeAt: 1, framesAt: 2 };
 
 /** The handles of both for one map, builder or join. */
 class Pair {
@@ -172,6 +173,25 @@ function compiles(map, next, lines, count) {
   asksCompiled(both('openCompiled', changed), next, lines, Math.min(count, 50));
 }
 
+/** What is asked of scopes, which are of a few lines. */
+function asksScopes(scopes, next) {
+  if (both('scopesCounts', scopes) === 0) for (const index of [next(8), addon.words[2], addon.words[4], NO_ID]) for (const name of ['getScope', 'getRange']) both(name, scopes, index);
+  for (let i = 0; i < 8; i++) {
+    const place = [next(9), next(30)];
+    for (const name of ['scopeAt', 'functionAt']) both(name, scopes, next(3), ...place);
+    both('rangeAt', scopes, ...place);
+    both('framesAt', scopes, ...place, output(next(12)));
+    filled('framesAt', 5, scopes, ...place);
+  }
+}
+
+/** A text of scopes, with some of it changed more often than not. */
+function scopesText(next) {
+  const texts = ['BCAAC,BHBAEE,DI,CDB,BHBAGA,CCB,CBA,ECAA,EGKC,GH,ECKC,IADE,FK,FK,FBA', 'A,BEAAA,BABC,CBA,CBA,ENA,EA,IBAA,FC,FBA', 'BFAAA,CEA,BFBAA,CFA,EGAC,FJ,EGAD,FBC', 'A'];
+  const text = texts[next(texts.length)];
+  return next(3) === 0 ? text : mutated(Buffer.from(text), next).toString('latin1');
+}
+
 /** Changes a copy in each way, and writes it after each. */
 function changes(map) {
   const copy = both('clone', map);
@@ -315,7 +335,8 @@ class Pool {
     this.texts = texts;
     const map = both('fromJson', texts[0]);
     const compiled = both('openCompiled', both('compile', map, 0, 0, STAMP));
-    this.of = { map: [map], builder: [both('builderNew')], join: [both('joinNew')], compiled: [compiled] };
+    const scopes = both('decodeScopes', 'BEAAA,CBA,EAA,IAAA,FB', 0);
+    this.of = { map: [map], builder: [both('builderNew')], join: [both('joinNew')], compiled: [compiled], scopes: [scopes] };
   }
 
   one(kind) {
@@ -396,7 +417,10 @@ const CALLS = {
   },
   askCompiled: (p) => asksLookups(p.one('compiled'), p.next, 30, 12),
   decompile: (p) => p.keep('map', both('decompile', p.one('compiled'))),
-  free: (p) => p.next(6) === 0 && free(p.one(['map', 'builder', 'join', 'compiled'][p.next(4)])),
+  readScopes: (p) => p.keep('scopes', both('readScopes', JSON.stringify({ names: Array(p.next(9)).fill('n'), scopes: scopesText(p.next) }))),
+  decodeScopes: (p) => p.keep('scopes', both('decodeScopes', scopesText(p.next), p.next(9))),
+  askScopes: (p) => asksScopes(p.one('scopes'), p.next),
+  free: (p) => p.next(6) === 0 && free(p.one(['map', 'builder', 'join', 'compiled', 'scopes'][p.next(5)])),
 };
 
 function asks(map, next) {

@@ -28,6 +28,10 @@ const NOT_TOLD = 0xffffffff;
 /** A text of JSON that takes so many bytes. */
 const large = (bytes) => json({ sourcesContent: ['x'.repeat(bytes)] });
 
+/** A range of a function, in which one more was inlined. */
+const SCOPES = 'BEAAA,CJA,EGAA,EAA,IAFC,FK,FU';
+const FRAMES = [NOT_TOLD, NOT_TOLD, NOT_TOLD, NOT_TOLD, NOT_TOLD, NOT_TOLD, 0, 0, 5, 2];
+
 const PLAIN = '{"version":3,"names":[],"sources":["a.ts"],"mappings":"AAAA"}';
 
 /** Asserts that a call ends in a trap which tells what is lost. */
@@ -110,6 +114,44 @@ test('a call that finds no memory leaves the map as it was', () => {
   const joined = small.joinFinish(join);
   assert.equal(small.getCounts(joined), 0);
   assert.equal(small.words[0], 1 + codes.filter((it) => it === 0).length);
+});
+
+test('scopes are where maps of such texts are, and find no memory as these', () => {
+  const small = nativeOf(compiled('small_memory.wasm'));
+  const ask = (it) => {
+    const out = new Uint32Array(10);
+    assert.equal(small.framesAt(it, 0, 3, out), 0);
+    assert.deepEqual([...small.words.subarray(0, 2), ...out], [2, 0, ...FRAMES]);
+  };
+  const words = (count, ...call) => [small[call[0]](...call.slice(1)), ...small.words.subarray(0, count)];
+  const [map, one, other] = [small.fromJson(json()), small.decodeScopes(SCOPES, 0), small.readScopes(json({ scopes: SCOPES }))];
+  const large_ = small.readScopes(json({ scopes: SCOPES }).padEnd(100_000));
+  assert.deepEqual([one, other].map((it) => it.instance === map.instance), [true, true]);
+  assert.notEqual(large_.instance, map.instance);
+  assert.equal(large_.instance.isShared, false);
+  for (let i = 0; i < 9; i++) assert.equal(small.readScopes(json({ x: 'x'.repeat(3_000_000) })), NO_MEMORY);
+  assert.deepEqual([small.fault[0], small.message(small.fault)], [NO_MEMORY, 'Out of memory']);
+  for (const it of [one, other, large_]) ask(it);
+  assert.deepEqual(words(6, 'scopesCounts', one), [0, 1, 0, 1, 0, 2, 0]);
+  assert.deepEqual(words(9, 'getScope', one, 0), [0, 0, 0, 0, 9, 0, NOT_TOLD, NOT_TOLD, 1, NOT_TOLD]);
+  assert.deepEqual(words(11, 'getRange', one, 1), [0, 0, 0, 0, 10, NOT_TOLD, 0, 0, 0, 5, 2, 0]);
+  assert.deepEqual([small.scopeAt(one, 0, 9, 0), small.functionAt(one, 1, 0, 0), small.rangeAt(one, 0, 30)], [103, 103, 103]);
+  assert.deepEqual(words(1, 'rangeAt', one, 0, 3), [0, 1]);
+  const block = small.decodeScopes('A,BEAAA,BABC,CBA,CBA', 0);
+  assert.deepEqual([...words(1, 'scopeAt', block, 1, 1, 3), ...words(1, 'functionAt', block, 1, 1, 3)], [0, 1, 0, 0]);
+  small.free(block);
+  assert.deepEqual([small.decodeScopes('BBAAA,CBA', 1).isFreed, small.decodeScopes('BBAAA,CBA', 0)], [false, 27]);
+  assert.equal(map.instance.held, 4);
+  for (const it of [one, one, large_]) small.free(it);
+  assert.deepEqual([map.instance.held, one.instance, large_.instance], [3, null, null]);
+  for (const it of [one, large_]) assert.equal(small.framesAt(it, 0, 3, NOTHING), 100);
+  ask(other);
+  assert.equal(small.write(map, 0, ''), PLAIN);
+  assert.equal(small.framesAt(other, 0, 3, new Uint32Array(5 * 1_000_000)), NO_MEMORY);
+  while (other.instance.call('malloc', 64) !== 0);
+  while (other.instance.call('malloc', 1) !== 0);
+  assert.equal(small.framesAt(other, 0, 3, NOTHING), NO_MEMORY);
+  assert.deepEqual([small.fault[0], small.scopeAt(other, 0, 1, 0), small.words[0]], [NO_MEMORY, 0, 0]);
 });
 
 test('memory that grew is not read by a view from before', () => {
@@ -212,6 +254,7 @@ test('what is freed leaves nothing in its instance', () => {
   for (const it of [builder, large_]) assert.equal(native.builderAddSource(it, 'a', 'x'), 0);
   assert.equal(native.builderAddTokens(large_, new Uint32Array(6 * 20_000)), 0);
   const changed = native.clone(map);
+  const scopes = native.decodeScopes(SCOPES, 0);
   const before = used(instance);
   const makers = [
     () => native.fromJson(json()),
@@ -227,6 +270,8 @@ test('what is freed leaves nothing in its instance', () => {
     () => native.evaluate(Buffer.from('@0'), Uint32Array.of(2), Buffer.from(json()), Uint32Array.of(json().length)),
     () => native.joinFinish(join),
     () => native.builderFinish(builder),
+    () => native.decodeScopes(SCOPES, 0),
+    () => native.readScopes(JSON.stringify({ scopes: SCOPES })),
   ];
   for (const make of makers) {
     const made = make();
@@ -237,6 +282,9 @@ test('what is freed leaves nothing in its instance', () => {
   assert.equal(native.fromJson('{'), 4);
   assert.equal(native.readFound('{'), 4);
   assert.equal(native.firstDifference(map, changed), 103);
+  assert.equal(native.decodeScopes(`${SCOPES},B`, 0), 27);
+  assert.equal(native.readScopes('{"scopes":1}'), 28);
+  for (const length of [0, 5, 10, 20]) assert.equal(native.framesAt(scopes, 0, 3, new Uint32Array(length)), 0);
   assert.equal(native.encodeMappings(new Uint32Array(6)), 'AAAAA');
   assert.equal(native.decodeTokens('AAAA', 1, 1, new Uint32Array(6)), 0);
   assert.equal(native.decodeTokens('AA', 1, 1, new Uint32Array(6)), 7);
@@ -245,7 +293,7 @@ test('what is freed leaves nothing in its instance', () => {
   assert.equal(used(instance), before);
   const finished = native.builderFinish(large_);
   assert.notEqual(finished.instance, instance);
-  for (const it of [changed, map, join, builder, large_, finished]) native.free(it);
+  for (const it of [changed, map, join, builder, large_, finished, scopes]) native.free(it);
 });
 
 // ---- instances that small maps share ----
@@ -335,12 +383,13 @@ test('an instance that is empty again is kept if its memory is small, and else l
 });
 
 test('an instance whose maps are all dropped is collected, also where no turn comes to free them one by one', () => {
-  const [instances, megabytes] = run(`
-    const text = mappings(60_000);
-    for (let i = 0; i < 1500; i++) native.fromJson(text);
-    say([given, process.resourceUsage().maxRSS / 1024]);`);
-  assert.ok(instances > 20, `${instances}`);
-  assert.ok(megabytes < 300, `${megabytes} MB, of ${16 * instances}`);
+  for (const make of ['native.fromJson(mappings(60_000))', "native.decodeScopes('BAAA,CAA,'.repeat(7000) + 'A', 0)"]) {
+    const [instances, megabytes] = run(`
+      for (let i = 0; i < 1500; i++) ${make};
+      say([given, process.resourceUsage().maxRSS / 1024]);`);
+    assert.ok(instances > 20, `${instances}`);
+    assert.ok(megabytes < 300, `${megabytes} MB, of ${16 * instances}`);
+  }
 });
 
 test('maps that share an instance are freed once each: by `free`, or by the collector', () => {
@@ -350,6 +399,8 @@ test('maps that share an instance are freed once each: by `free`, or by the coll
     const before = used(instance);
     const all = new Set(Array.from({ length: 20 }, () => native.fromJson(text).instance));
     for (let i = 0; i < 20; i++) native.free(native.readFound(text));
+    for (let i = 0; i < 20; i++) native.decodeScopes('BAAA,CBA', 0);
+    for (let i = 0; i < 20; i++) native.free(native.decodeScopes('BAAA,CBA', 0));
     for (let i = 0; i < 20; i++) native.builderFinish(native.builderNew());
     await turn();
     const again = native.fromJson(text);

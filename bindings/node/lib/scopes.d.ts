@@ -1,0 +1,162 @@
+/** The scopes of maps. All that index.d.ts says of numbers, texts and errors is true here too. */
+
+import type { Bias, CompiledMap, MapInput, Position, SourceMap, Text } from "./index.js";
+
+/** What is wrong with an item of a text of scopes. */
+export type ScopesFault =
+  /** A byte is no base64 digit. */
+  | "NOT_A_DIGIT"
+  /** Its last number ends in a digit after which another has to follow. */
+  | "CUT_SHORT"
+  /** A number has more than seven digits, or with it a line, a column or a source is above its limit. */
+  | "TOO_LARGE"
+  /** It is empty, or lacks a number. */
+  | "MISSING_NUMBER"
+  /** An index leads to no name or scope. */
+  | "BAD_INDEX"
+  /** It is an end, or a call site, and nothing that it could belong to is open. */
+  | "NOTHING_OPEN"
+  /** A source without scopes comes within the scopes of another. */
+  | "NOT_CLOSED"
+  /** More than 1024 scopes or ranges are nested. */
+  | "TOO_DEEP"
+  /** The text ends, and a scope or a range has no end. */
+  | "LEFT_OPEN";
+
+/** How many sources have a tree of scopes or none, and how many scopes and ranges there are. */
+export interface ScopesCounts {
+  sources: number;
+  scopes: number;
+  ranges: number;
+}
+
+/** Where in a source a function was called. */
+export interface CallSite {
+  readonly sourceId: number;
+  readonly line: number;
+  readonly column: number;
+}
+
+/** A scope of a source: a function, a block, a class or the like, from `start` up to but not including `end`. `name` and `kind` are the
+ *  texts of their ids among the names of the map. What is not there is null, and so are texts that are not known. */
+export interface OriginalScope {
+  readonly index: number;
+  readonly sourceId: number;
+  readonly start: Readonly<Position>;
+  readonly end: Readonly<Position>;
+  readonly nameId: number | null;
+  readonly name: string | null;
+  readonly kindId: number | null;
+  /** What it is, as "function". */
+  readonly kind: string | null;
+  /** Whether a call of it makes a frame of the stack, as that of a function does. */
+  readonly isStackFrame: boolean;
+  /** The index of the innermost scope around it. */
+  readonly parent: number | null;
+}
+
+/** A range of the generated code, from `start` up to but not including `end`. What is not there is null. */
+export interface GeneratedRange {
+  readonly index: number;
+  readonly start: Readonly<Position>;
+  readonly end: Readonly<Position>;
+  /** The index of the scope that it is the code of. */
+  readonly definition: number | null;
+  /** Whether a call of it makes a frame of the stack. */
+  readonly isStackFrame: boolean;
+  /** Whether the source has no frame for it, as where a helper was made. */
+  readonly isHidden: boolean;
+  /** Where it was called, if it is the body of a function that was inlined. */
+  readonly call: CallSite | null;
+  /** The index of the innermost range around it. */
+  readonly parent: number | null;
+}
+
+/** A frame of the source: the name of its function, by its id and its text, and the index of the scope that is the function. What is not
+ *  there is null, and so is a text that is not known. */
+export interface ScopeFrame {
+  readonly nameId: number | null;
+  readonly name: string | null;
+  readonly scope: number | null;
+  /** Where the frame is; null of the first one, which is where `SourceMap.trace` leads. */
+  readonly call: CallSite | null;
+}
+
+/** The frames of the source that a frame of a stack trace stands for, from the inside out. */
+export interface ScopeFrames {
+  readonly frames: readonly ScopeFrame[];
+  /** Whether the source has no such frame, as where a helper was made: a stack trace leaves it out. */
+  readonly isHidden: boolean;
+}
+
+/** A frame of the source with its place. A name that the function has not, or that is not known, is null; so is a place that the map does
+ *  not know, as of a call in a source that it lacks. */
+export interface SourceFrame {
+  readonly name: string | null;
+  readonly source: string | null;
+  readonly line: number | null;
+  readonly column: number | null;
+}
+
+/** The frames of the source, from the inside out. */
+export interface SourceFrames {
+  /** None where `isHidden`, and where neither ranges nor the map know the position. */
+  readonly frames: readonly SourceFrame[];
+  /** Whether the frame is that of a helper which the source does not have: a stack trace leaves it out. */
+  readonly isHidden: boolean;
+}
+
+/**
+ * The scopes of a map, its member `scopes`: for each source a tree of its functions and blocks, and for the generated code a tree of
+ * ranges, each with the scope that it is the code of. They have the names of functions in the source, and the frames of calls that were
+ * inlined. What its calls answer is frozen.
+ *
+ * @example
+ * const [map, scopes] = [new SourceMap(json), Scopes.read(json)];
+ * for (const { name, source, line, column } of scopes.trace(map, 0, 12).frames) console.log(name, source, line, column);
+ */
+export class Scopes {
+  private constructor(made: never);
+  /**
+   * Reads the scopes of a map from what `new SourceMap` takes, but for a SourceMap, which keeps none: that is a TypeError. Nothing else of
+   * the map is checked. One without the member, or with null, has the scopes of no source. Throws SourceMapError of SMAP_NOT_UTF8,
+   * SMAP_JSON_READING (without a place), SMAP_SCOPES_INDEXED, SMAP_SCOPES_NOT_TEXT or SMAP_BAD_SCOPES. Of an indexed map read the map of
+   * each section, whose ranges count from the section's offset. A byte order mark is not mended.
+   *
+   * Of a value the text of the scopes alone is looked at. Over WebAssembly the scopes of a large JSON text take as much memory as that,
+   * until they are freed.
+   */
+  static read(json: MapInput): Scopes;
+  /** The same from the text of the member, of a map with these names, or with so many, whose texts are then not known. Throws
+   *  SourceMapError of SMAP_NOT_UTF8 or SMAP_BAD_SCOPES. */
+  static decode(scopes: Text, names: number | Iterable<string>): Scopes;
+  free(): void;
+  [Symbol.dispose](): void;
+
+  readonly counts: ScopesCounts;
+  /** A scope or a range by its index, in the order of their starts, scopes of one source after those of another; null past the last
+   *  one. */
+  scope(index: number): OriginalScope | null;
+  range(index: number): GeneratedRange | null;
+  /** All of them. Each array is made by each call. */
+  readonly scopes: readonly OriginalScope[];
+  readonly ranges: readonly GeneratedRange[];
+
+  /** The innermost scope at a position of a source, by the id of the source. */
+  scopeAt(source: number, line: number, column: number): OriginalScope | null;
+  scopeAt(position: Position & ({ sourceId: number } | { source: number })): OriginalScope | null;
+  /** The innermost scope there that is a stack frame: its function. */
+  functionAt(source: number, line: number, column: number): OriginalScope | null;
+  functionAt(position: Position & ({ sourceId: number } | { source: number })): OriginalScope | null;
+  /** The innermost range at a generated position. */
+  rangeAt(line: number, column: number): GeneratedRange | null;
+  rangeAt(position: Position): GeneratedRange | null;
+  /** The frames of the source that a frame of a stack trace at this generated position stands for: none where no range contains the
+   *  position. */
+  framesAt(line: number, column: number): ScopeFrames;
+  framesAt(position: Position): ScopeFrames;
+  /** The same with the sources of the map that has these scopes, which says where the first frame is. Where no range contains the position,
+   *  the frame is that which the map alone knows, without a name. */
+  trace(map: SourceMap | CompiledMap, line: number, column: number, bias?: Bias): SourceFrames;
+  trace(map: SourceMap | CompiledMap, position: Position & { bias?: Bias | undefined }): SourceFrames;
+}

@@ -1,0 +1,405 @@
+'use strict';
+// The scopes of maps: what texts mean, what is asked of them, each fault, and handles that were freed.
+
+const test = require('node:test');
+const assert = require('node:assert/strict');
+const { execFileSync } = require('node:child_process');
+const { inspect } = require('node:util');
+const vm = require('node:vm');
+
+const { NO_ID, Bias, CompiledMap, Scopes, SourceMap } = require('..');
+const native = require('../lib/native.js');
+const { SCOPES_FAULTS } = require('../lib/constants.js');
+const { TEXT, fails } = require('./support.js');
+
+const isSanitized = process.env.JUNKETSCARP_SANITIZED !== undefined;
+
+const at = (line, column) => ({ line, column });
+
+// A function `outer`, in whose code `inner` was inlined.
+const NAMES = ['n0', 'global', 'outer', 'function', 'a', 'inner', 'x'];
+const INLINED = 'BCAAC,BHBAEE,DI,CDB,BHBAGA,CCB,CBA,ECAA,EGKC,GH,ECKC,IADE,FK,FK,FBA';
+const VALUE = { version: 3, sources: ['s.ts'], names: NAMES, mappings: 'AAAA,UAEI,UAIA', scopes: INLINED };
+
+const scope = (index, sourceId, start, end, nameId, name, kindId, kind, isStackFrame, parent) => ({
+  index,
+  sourceId,
+  start: at(...start),
+  end: at(...end),
+  nameId,
+  name,
+  kindId,
+  kind,
+  isStackFrame,
+  parent,
+});
+const range = (index, start, end, definition, isStackFrame, isHidden, call, parent) => ({
+  index,
+  start: at(...start),
+  end: at(...end),
+  definition,
+  isStackFrame,
+  isHidden,
+  call,
+  parent,
+});
+const frame = (nameId, name, ofScope, call) => ({ nameId, name, scope: ofScope, call });
+
+const CALL = { sourceId: 0, line: 3, column: 4 };
+const SCOPES = [
+  scope(0, 0, [0, 0], [8, 0], null, null, 1, 'global', false, null),
+  scope(1, 0, [1, 0], [4, 1], 2, 'outer', 3, 'function', true, 0),
+  scope(2, 0, [5, 0], [7, 1], 5, 'inner', 3, 'function', true, 0),
+];
+const RANGES = [
+  range(0, [0, 0], [1, 0], 0, false, false, null, null),
+  range(1, [0, 10], [0, 40], 1, true, false, null, 0),
+  range(2, [0, 20], [0, 30], 2, false, false, CALL, 1),
+];
+const INNER = [frame(5, 'inner', 2, null), frame(2, 'outer', 1, CALL)];
+const OUTER = [frame(2, 'outer', 1, null)];
+
+test('a text of which all is known', () => {
+  const scopes = Scopes.decode(INLINED, NAMES);
+  assert.deepEqual(scopes.counts, { sources: 1, scopes: 3, ranges: 3 });
+  assert.deepEqual(scopes.scopes, SCOPES);
+  assert.deepEqual(scopes.ranges, RANGES);
+  for (const [column, frames] of [[0, [frame(null, null, null, null)]], [9, [frame(null, null, null, null)]], [10, OUTER], [15, OUTER], [19, OUTER], [20, INNER], [25, INNER], [29, INNER], [30, OUTER], [39, OUTER], [40, [frame(null, null, null, null)]]]) {
+    assert.deepEqual(scopes.framesAt(0, column), { frames, isHidden: false }, `${column}`);
+    assert.deepEqual(scopes.framesAt({ line: 0, column }), { frames, isHidden: false });
+  }
+  assert.deepEqual(scopes.framesAt(1, 0), { frames: [], isHidden: false });
+  assert.match(inspect(scopes), /^Scopes \{ sources: 1, scopes: 3, ranges: 3 \}$/);
+  assert.equal(inspect({ scopes }, { depth: 0 }), '{ scopes: [Scopes] }');
+});
+
+test('scopes, functions and ranges at positions', () => {
+  const scopes = Scopes.decode(INLINED, NAMES);
+  const indexAt = (name, ...place) => scopes[name](...place)?.index ?? null;
+  for (const [line, column, one, func] of [[0, 0, 0, null], [0, 99, 0, null], [1, 0, 1, 1], [4, 0, 1, 1], [4, 1, 0, null], [5, 0, 2, 2], [7, 1, 0, null], [7, 99, 0, null], [8, 0, null, null], [NO_ID, NO_ID, null, null]]) {
+    assert.deepEqual([indexAt('scopeAt', 0, line, column), indexAt('functionAt', 0, line, column)], [one, func], `${line}:${column}`);
+    assert.deepEqual(scopes.scopeAt({ source: 0, line, column }), SCOPES[one] ?? null);
+    assert.deepEqual(scopes.functionAt({ source: 0, line, column }), SCOPES[func] ?? null);
+  }
+  for (const source of [1, NO_ID]) assert.deepEqual([scopes.scopeAt(source, 1, 0), scopes.functionAt(source, 1, 0)], [null, null]);
+  for (const [line, column, index] of [[0, 0, 0], [0, 10, 1], [0, 20, 2], [0, 30, 1], [0, 40, 0], [0, NO_ID, 0], [1, 0, null]]) {
+    assert.deepEqual(scopes.rangeAt(line, column), RANGES[index] ?? null, `${line}:${column}`);
+    assert.deepEqual(scopes.rangeAt({ line, column }), RANGES[index] ?? null);
+  }
+  for (const [index, it] of [...SCOPES, null].entries()) assert.deepEqual(scopes.scope(index), it);
+  for (const [index, it] of [...RANGES, null].entries()) assert.deepEqual(scopes.range(index), it);
+  assert.deepEqual([scopes.scope(NO_ID), scopes.range(NO_ID)], [null, null]);
+});
+
+test('a function in a block is the function of the block, and a scope knows its own source', () => {
+  // A frame in source 1, and in it a block.
+  const scopes = Scopes.decode('A,BEAAA,BABC,CBA,CBA,A', 0);
+  assert.deepEqual(scopes.counts, { sources: 3, scopes: 2, ranges: 0 });
+  assert.deepEqual([scopes.scopeAt(1, 1, 5).index, scopes.functionAt(1, 1, 5).index], [1, 0]);
+  assert.deepEqual([scopes.scopeAt(1, 0, 0).index, scopes.functionAt(1, 0, 0).index], [0, 0]);
+  assert.deepEqual([scopes.scopeAt(0, 1, 5), scopes.scopeAt(2, 1, 5)], [null, null]);
+});
+
+test('a source without scopes', () => {
+  const scopes = Scopes.decode('A,BCCDA,CAG', ['block']);
+  assert.deepEqual(scopes.counts, { sources: 2, scopes: 1, ranges: 0 });
+  assert.deepEqual(scopes.scopes, [scope(0, 1, [2, 3], [2, 9], null, null, 0, 'block', false, null)]);
+  assert.deepEqual(scopes.ranges, []);
+});
+
+test('a hidden frame', () => {
+  const scopes = Scopes.decode('ENDC,FCH', []);
+  assert.deepEqual(scopes.counts, { sources: 0, scopes: 0, ranges: 1 });
+  assert.deepEqual(scopes.ranges, [range(0, [3, 2], [5, 7], null, true, true, null, null)]);
+  for (const place of [[3, 2], [4, 0], [5, 6]]) assert.deepEqual(scopes.framesAt(...place), { frames: [frame(null, null, null, null)], isHidden: true });
+  for (const place of [[3, 1], [5, 7]]) assert.deepEqual(scopes.framesAt(...place), { frames: [], isHidden: false });
+});
+
+test('variables and their values are passed over', () => {
+  const scopes = Scopes.decode('BAAA,DAC,CJA,ECAA,GAD,HBBBE,FCE', ['a', 'b', 'x', 'y']);
+  assert.deepEqual(scopes.scopes, [scope(0, 0, [0, 0], [9, 0], null, null, null, null, false, null)]);
+  assert.deepEqual(scopes.ranges, [range(0, [0, 0], [2, 4], 0, false, false, null, null)]);
+});
+
+test('the scopes of two sources', () => {
+  const scopes = Scopes.decode('BFAAA,CEA,BFBAA,CFA,EGAC,FJ,EGAD,FBC', ['f']);
+  assert.equal(scopes.counts.sources, 2);
+  assert.deepEqual(scopes.scopes, [
+    scope(0, 0, [0, 0], [4, 0], 0, 'f', null, null, true, null),
+    scope(1, 1, [1, 0], [6, 0], 0, 'f', null, null, true, null),
+  ]);
+  assert.deepEqual(scopes.ranges, [range(0, [0, 0], [0, 9], 1, true, false, null, null), range(1, [0, 9], [1, 2], 0, true, false, null, null)]);
+  assert.equal(scopes.framesAt(0, 8).frames[0].scope, 1);
+  assert.equal(scopes.framesAt(0, 9).frames[0].scope, 0);
+});
+
+test('a call in another source', () => {
+  const scopes = Scopes.decode('BEAAA,CJA,A,BEAAA,CJA,EAA,IAFC,EAA,ICCD,FJ,FA', 0);
+  assert.deepEqual(scopes.framesAt(0, 3).frames, [frame(null, null, null, null), frame(null, null, 1, { sourceId: 2, line: 2, column: 3 }), frame(null, null, 0, { sourceId: 0, line: 5, column: 2 })]);
+});
+
+test('more frames than there is room for at first', () => {
+  for (const depth of [1, 7, 8, 9, 300, 1024, 2]) {
+    const scopes = Scopes.decode('BEAAA,CgBA,' + 'EAA,IABA,'.repeat(depth) + 'FC' + ',FA'.repeat(depth - 1), 0);
+    const { frames } = scopes.framesAt(0, 1);
+    assert.equal(frames.length, depth + 1);
+    assert.deepEqual(frames[0], frame(null, null, null, null));
+    assert.ok(frames.slice(1).every((it) => it.scope === 0 && it.call.line === 1));
+    assert.deepEqual(scopes.range(depth - 1)?.parent, depth === 1 ? null : depth - 2);
+  }
+});
+
+test('names: their texts where they are known, and their ids', () => {
+  const told = (scopes) => scopes.framesAt(0, 25).frames.map((it) => [it.nameId, it.name]);
+  const unknown = [[5, null], [2, null]];
+  const known = [[5, 'inner'], [2, 'outer']];
+  for (const names of [NAMES, Object.freeze([...NAMES]), new Set(NAMES), vm.runInNewContext('[...n]', { n: NAMES })]) assert.deepEqual(told(Scopes.decode(INLINED, names)), known);
+  for (const names of [7, 6, NO_ID]) assert.deepEqual(told(Scopes.decode(Buffer.from(INLINED), names)), unknown);
+  const later = [...NAMES];
+  const scopes = Scopes.decode(INLINED, later);
+  later[5] = 'another';
+  assert.deepEqual(told(scopes), known);
+  assert.deepEqual(told(Scopes.decode(INLINED, NAMES.map((it) => (it === 'outer' ? null : it)))), [[5, 'inner'], [2, null]]);
+  assert.equal(Scopes.decode(INLINED, 7).scope(1).kind, null);
+  assert.deepEqual(told(Scopes.read({ ...VALUE, names: [0, 1, { a: 1 }, 3, 4, 5, 6] })), unknown);
+  const odd = ['größe 😀', ''];
+  assert.deepEqual(Scopes.decode('BFAAA,CBA,BFAAC,CBA', odd).scopes.map((it) => it.name), odd);
+});
+
+test('scopes of a map, by its text, its bytes, its value and its URL', () => {
+  const json = JSON.stringify(VALUE);
+  const url = `data:application/json;base64,${Buffer.from(json).toString('base64')}`;
+  const shared = new Uint8Array(new SharedArrayBuffer(json.length));
+  shared.set(Buffer.from(json));
+  for (const given of [json, Buffer.from(json), shared, VALUE, { toJSON: () => VALUE }, new URL(url), { ...VALUE, mappings: [[[0]]] }]) {
+    const scopes = Scopes.read(given);
+    assert.deepEqual([scopes.scopes, scopes.ranges], [SCOPES, RANGES]);
+    assert.deepEqual(scopes.framesAt(0, 25).frames, INNER);
+  }
+});
+
+test('frames with their places', () => {
+  const json = { version: 3, sources: ['a.ts'], names: ['outer', 'inner'], mappings: 'AAAA,UAEE,U', scopes: 'BFAAA,BFCAC,CCA,CFA,EGAA,ECKC,IAFC,FF,FF,EIF,IFBC,FF' };
+  const [map, scopes] = [new SourceMap(json), Scopes.read(json)];
+  const [inner, outer] = [{ name: 'inner', source: 'a.ts', line: 2, column: 2 }, { name: 'outer', source: 'a.ts', line: 5, column: 2 }];
+  const first = { name: 'outer', source: 'a.ts', line: 0, column: 0 };
+  for (const it of [map, new CompiledMap(map.compile())]) {
+    assert.deepEqual(scopes.trace(it, 0, 12), { frames: [inner, outer], isHidden: false });
+    assert.deepEqual(scopes.trace(it, { line: 0, column: 12 }), { frames: [inner, outer], isHidden: false });
+    assert.deepEqual(scopes.trace(it, 0, 3), { frames: [first], isHidden: false });
+    // where no mapping is, no range, and neither
+    assert.deepEqual(scopes.trace(it, 0, 26).frames, [{ name: null, source: null, line: null, column: null }, { name: null, source: null, line: 1, column: 2 }]);
+    assert.deepEqual(Scopes.decode('', 0).trace(it, 0, 12).frames, [{ ...inner, name: null }]);
+    assert.deepEqual(scopes.trace(it, 9, 0), { frames: [], isHidden: false });
+    assert.deepEqual(scopes.trace(it, { line: 0, column: 0, bias: Bias.AFTER }).frames, [first]);
+  }
+  assert.deepEqual(Scopes.decode('EMA,FK', 0).trace(map, 0, 3), { frames: [], isHidden: true });
+  assert.ok(Object.isFrozen(scopes.trace(map, 0, 12)) && Object.isFrozen(scopes.trace(map, 0, 12).frames[1]));
+  for (const it of [null, undefined, {}, scopes, json]) assert.throws(() => scopes.trace(it, 0, 0), TypeError);
+  assert.equal(scopes.functionAt({ sourceId: 0, line: 3, column: 0 }).name, 'inner');
+  assert.equal(scopes.scopeAt({ source: 0, line: 3, column: 0 }).name, 'inner');
+});
+
+test('maps without scopes, and what is not looked at', () => {
+  const none = { sources: 0, scopes: 0, ranges: 0 };
+  const values = [{ mappings: '' }, { mappings: 1, scopes: null }, { sections: null }, { toJSON: () => null }, { toJSON: () => 'a' }, { mappings: '', scopes: '' }];
+  for (const value of values) {
+    assert.deepEqual(Scopes.read(value).counts, none);
+    assert.deepEqual(Scopes.read(JSON.stringify(value)).counts, none);
+    assert.deepEqual(Scopes.read(value).scopes, []);
+  }
+  assert.deepEqual(Scopes.read({ mappings: '', scopes: 'BEAAA,CBA', names: 'f' }).counts.scopes, 1);
+  for (const names of [undefined, 'abc', { length: 9 }, []]) {
+    for (const it of [{ mappings: '', names, scopes: 'BBAAA,CBA' }, JSON.stringify({ names, scopes: 'BBAAA,CBA' })]) fails({ code: 'SMAP_BAD_SCOPES', reason: 'BAD_INDEX' }, () => Scopes.read(it));
+  }
+  assert.equal(Scopes.read('{"names":["a"],"scopes":"BBAAC,CBA","names":["x","f"]}').scope(0).name, 'f');
+});
+
+/** A text for each fault, the number of names, and the byte of its item. */
+const FAULTS = [
+  ['A,*', 0, 'NOT_A_DIGIT', 2, 'a character is no base64 digit'],
+  ['A,A ', 0, 'NOT_A_DIGIT', 2, 'a character is no base64 digit'],
+  ['A,Bg', 0, 'CUT_SHORT', 2, 'the last number is cut short'],
+  ['BAAA,CgggggggB', 0, 'TOO_LARGE', 5, 'a number is too large'],
+  ['BAAA,C//////fA,C//////fA,C//////fA', 0, 'TOO_LARGE', 5, 'a number is too large'],
+  ['A,,A', 0, 'MISSING_NUMBER', 2, 'a number is missing'],
+  ['A,BA', 0, 'MISSING_NUMBER', 2, 'a number is missing'],
+  ['BBAAC,CBA', 1, 'BAD_INDEX', 0, 'an index leads to no name or scope'],
+  ['BBAAD,CBA', 9, 'BAD_INDEX', 0, 'an index leads to no name or scope'],
+  ['A,ECAA,FA', 1, 'BAD_INDEX', 2, 'an index leads to no name or scope'],
+  ['A,CAA', 0, 'NOTHING_OPEN', 2, 'no scope or range is open'],
+  ['FA', 0, 'NOTHING_OPEN', 0, 'no scope or range is open'],
+  ['A,IAAA', 0, 'NOTHING_OPEN', 2, 'no scope or range is open'],
+  ['BAAA,A,CBA', 0, 'NOT_CLOSED', 5, 'the scopes before it are not closed'],
+  ['BAAA,'.repeat(1024) + 'BAAA', 0, 'TOO_DEEP', 5120, 'more than 1024 scopes or ranges are nested'],
+  ['EAA,'.repeat(1024) + 'EAA', 0, 'TOO_DEEP', 4096, 'more than 1024 scopes or ranges are nested'],
+  ['A,BAAA', 0, 'LEFT_OPEN', 6, 'a scope or a range has no end'],
+  ['EAA', 0, 'LEFT_OPEN', 3, 'a scope or a range has no end'],
+];
+
+test('each fault of a text', () => {
+  for (const [text, names, reason, byte, words] of FAULTS) {
+    const properties = { code: 'SMAP_BAD_SCOPES', reason, detail: byte, field: null, place: null, placeMessage: '', message: `scopes, byte ${byte}: ${words}` };
+    fails(properties, () => Scopes.decode(text, names));
+    fails(properties, () => Scopes.decode(Buffer.from(text), Array(names).fill('n')));
+    fails(properties, () => Scopes.read({ mappings: '', names: Array(names).fill('n'), scopes: text }));
+    fails(properties, () => Scopes.read(JSON.stringify({ names: Array(names).fill('n'), scopes: text })));
+  }
+  assert.deepEqual([...new Set(FAULTS.map((it) => it[2]))].sort(), SCOPES_FAULTS.slice(1).sort());
+  assert.equal(Scopes.decode('BAAA,'.repeat(1024) + 'C/////DA' + ',CAA'.repeat(1023), 0).counts.scopes, 1024);
+});
+
+test('other errors', () => {
+  for (const it of [{ mappings: '', scopes: 1 }, { mappings: '', scopes: [INLINED] }, '{"scopes":1}', '{"scopes":{}}', Buffer.from('{"scopes":false}')]) {
+    fails({ code: 'SMAP_SCOPES_NOT_TEXT', reason: null, detail: 0, message: '`scopes` is no text' }, () => Scopes.read(it));
+  }
+  for (const it of [{ sections: [{ offset: at(0, 0), map: VALUE }] }, { sections: [], scopes: 'A' }, { sections: 0, scopes: 7 }, '{"sections":[]}', '{"sections":{},"scopes":7}']) {
+    fails({ code: 'SMAP_SCOPES_INDEXED', detail: 0, message: 'the scopes of an indexed map are not read' }, () => Scopes.read(it));
+  }
+  assert.equal(Scopes.read({ sections: null, scopes: 'A' }).counts.sources, 1);
+  for (const it of ['', '{', '[1', '\ufeff{}']) fails({ code: 'SMAP_JSON_READING', reason: null, place: null }, () => Scopes.read(it));
+  fails({ code: 'SMAP_NOT_UTF8', detail: 2, reason: null }, () => Scopes.read(Uint8Array.of(0x7b, 0x7d, 0xff)));
+  fails({ code: 'SMAP_NOT_UTF8', detail: 1 }, () => Scopes.decode(Uint8Array.of(0x41, 0xff), 0));
+  fails({ code: 'SMAP_JSON_SHAPE', field: 'mappings', reason: null }, () => new SourceMap('{"version":3,"names":[],"sources":[]}'));
+  fails({ code: 'SMAP_VLQ_OVERFLOW', reason: null }, () => SourceMap.fromMappings('ggggggggggggC'));
+});
+
+test('arguments of other types', () => {
+  const scopes = Scopes.decode(INLINED, NAMES);
+  for (const it of [undefined, null, 1, true, {}, [], { toJSON: () => undefined }, () => 1, Symbol('a'), new Uint16Array(2), new Map(), scopes]) assert.throws(() => Scopes.read(it), TypeError);
+  const map = new SourceMap(TEXT);
+  assert.throws(() => Scopes.read(map), { name: 'TypeError', message: 'A SourceMap keeps no scopes: read them from what it was read from' });
+  for (const it of [undefined, null, 1, {}, ['A'], new Uint16Array(2), '\ud800']) assert.throws(() => Scopes.decode(it, 0), TypeError);
+  for (const it of [undefined, null, '7', true, 1n, {}, Symbol('a')]) assert.throws(() => Scopes.decode('', it), TypeError);
+  for (const it of [-1, 0.5, NaN, 2 ** 32]) assert.throws(() => Scopes.decode('', it), { name: 'RangeError', message: `The number of names is ${it}, and not an integer from 0 to 4294967295` });
+  assert.throws(() => scopes.framesAt(0), { name: 'TypeError', message: 'The column is undefined, and not an integer from 0 to 4294967295' });
+  assert.throws(() => scopes.framesAt({ column: 0 }), { message: 'The line is undefined, and not an integer from 0 to 4294967295' });
+  assert.throws(() => scopes.scopeAt('s.ts', 0, 0), { message: 'The source is "s.ts", and not an integer from 0 to 4294967295' });
+  assert.throws(() => scopes.functionAt(0, 0, -1), { name: 'RangeError', message: 'The column is -1, and not an integer from 0 to 4294967295' });
+  for (const make of [() => new Scopes(), () => new Scopes(INLINED), () => new Scopes({ handle: native.decodeScopes('', 0), names: null })]) {
+    assert.throws(make, { name: 'TypeError', message: 'Scopes are made by Scopes.read and Scopes.decode' });
+  }
+  assert.throws(() => Scopes.prototype.framesAt.call(map, 0, 0), TypeError);
+  assert.deepEqual(scopes.framesAt(0, 25).frames, INNER);
+});
+
+test('what is answered is frozen', () => {
+  const scopes = Scopes.decode(INLINED, NAMES);
+  const [found, [outer]] = [scopes.framesAt(0, 25), scopes.framesAt(0, 15).frames];
+  const one = scopes.scopeAt(0, 1, 0);
+  const part = scopes.rangeAt(0, 25);
+  for (const it of [found, found.frames, outer, found.frames[1].call, one, one.start, one.end, part, part.start, part.end, part.call, scopes.scopes, scopes.ranges]) assert.ok(Object.isFrozen(it));
+});
+
+const ASKS = [
+  (it) => it.counts,
+  (it) => it.scopes,
+  (it) => it.ranges,
+  (it) => it.scope(0),
+  (it) => it.range(0),
+  (it) => it.scopeAt(0, 0, 0),
+  (it) => it.functionAt(0, 0, 0),
+  (it) => it.rangeAt(0, 0),
+  (it) => it.framesAt(0, 25),
+];
+
+test('scopes that were freed', () => {
+  const [scopes, other] = [Scopes.decode(INLINED, NAMES), Scopes.decode(INLINED, NAMES)];
+  scopes.free();
+  for (const ask of ASKS) {
+    fails({ code: 'SMAP_NULL_HANDLE', reason: null }, () => ask(scopes));
+    ask(other);
+  }
+  scopes.free();
+  assert.equal(inspect(scopes), 'Scopes (freed)');
+  assert.deepEqual(other.framesAt(0, 25).frames, INNER);
+  assert.equal(Scopes.prototype[Symbol.dispose ?? Symbol.for('nodejs.dispose')], Scopes.prototype.free);
+});
+
+test('handles of another kind', () => {
+  const handles = [native.fromJson(TEXT), native.builderNew(), native.joinNew(), native.openCompiled(Uint8Array.from(new SourceMap(TEXT).compile())), {}, null];
+  const scopes = native.decodeScopes(INLINED, 7);
+  for (const it of handles) {
+    for (const call of [() => native.scopesCounts(it), () => native.getScope(it, 0), () => native.getRange(it, 0), () => native.scopeAt(it, 0, 0, 0), () => native.functionAt(it, 0, 0, 0), () => native.rangeAt(it, 0, 0), () => native.framesAt(it, 0, 0, new Uint32Array(5))]) {
+      assert.throws(call, TypeError);
+    }
+  }
+  for (const call of [() => native.getCounts(scopes), () => native.select(scopes), () => native.compiledCounts(scopes), () => native.getToken(scopes, 0), () => native.clone(scopes), () => native.joinAll([scopes], new Uint32Array(2))]) assert.throws(call, TypeError);
+  assert.throws(() => new CompiledMap(scopes), TypeError);
+});
+
+test('frames as words: as many as there is room for', () => {
+  const scopes = native.decodeScopes(INLINED, 7);
+  const whole = [5, 2, NO_ID, NO_ID, NO_ID, 2, 1, 0, 3, 4];
+  for (const [length, written] of [[0, 0], [4, 0], [5, 5], [9, 5], [10, 10], [14, 10], [15, 10]]) {
+    const out = new Uint32Array(length + 1).fill(7);
+    assert.equal(native.framesAt(scopes, 0, 25, out.subarray(0, length)), 0);
+    assert.deepEqual([native.words[0], native.words[1]], [2, 0]);
+    assert.deepEqual([...out], [...whole.slice(0, written), ...Array(length + 1 - written).fill(7)]);
+  }
+  const shared = new Uint32Array(new SharedArrayBuffer(40));
+  assert.equal(native.framesAt(scopes, 0, 25, shared), 0);
+  assert.deepEqual([...shared], whole);
+  assert.equal(native.framesAt(native.decodeScopes('ENDC,FCH', 0), 3, 2, shared), 0);
+  assert.deepEqual([...native.words.subarray(0, 2), ...shared.subarray(0, 5)], [1, 1, NO_ID, NO_ID, NO_ID, NO_ID, NO_ID]);
+  native.free(scopes);
+  assert.equal(native.framesAt(scopes, 0, 25, shared), 100);
+});
+
+test('the stack of a source, by a map and its scopes', () => {
+  const [map, scopes] = [new SourceMap(VALUE), Scopes.read(VALUE)];
+  const stackAt = (line, column) => {
+    const { frames, isHidden } = scopes.framesAt(line, column);
+    const { sourceId, originalLine, originalColumn } = map.traceToken(line, column);
+    const here = { sourceId, line: originalLine, column: originalColumn };
+    return isHidden ? [] : frames.map(({ name, call }) => [name, map.sources[(call ?? here).sourceId], (call ?? here).line, (call ?? here).column]);
+  };
+  assert.deepEqual(stackAt(0, 25), [['inner', 's.ts', 6, 4], ['outer', 's.ts', 3, 4]]);
+  assert.deepEqual(stackAt(0, 15), [['outer', 's.ts', 2, 4]]);
+});
+
+/** What a script in a new process says, which has the package as `library`. */
+function run(script, ...options) {
+  const whole = `const { Scopes } = require(${JSON.stringify(require.resolve('..'))}); const TEXT = ${JSON.stringify(INLINED)}; const NAMES = ${JSON.stringify(NAMES)}; ${script}`;
+  return JSON.parse(execFileSync(process.execPath, [...options, '-e', whole], { encoding: 'utf8' }));
+}
+const PEAK = 'process.stdout.write(String(process.resourceUsage().maxRSS / 1024));';
+
+test('100,000 reads leave nothing, dropped or freed, refused or asked', { skip: isSanitized }, () => {
+  const many = 'BAAA,CAA,'.repeat(500) + 'A';
+  const peak = run(`const json = JSON.stringify({ names: NAMES, scopes: TEXT });
+    const ends = (it, i) => i % 3 === 0 && it.free();
+    for (let i = 0; i < 100_000; i++) {
+      ends(i % 4 === 0 ? Scopes.read(json) : Scopes.decode(TEXT, 7), i);
+      if (i % 10 === 0) ends(Scopes.decode(${JSON.stringify(many)}, 0), i);
+      if (i % 4 === 1) try { Scopes.decode(TEXT, 3) } catch {}
+    }
+    const scopes = Scopes.decode(TEXT, 7);
+    for (let i = 0; i < 100_000; i++) scopes.framesAt(0, 25);
+    ${PEAK}`);
+  assert.ok(peak < 200, `${peak} MB`);
+});
+
+test('what is freed is freed at once, and the collector knows of the rest', { skip: isSanitized }, () => {
+  const peak = run(`
+    const text = 'BAAA,CAA,'.repeat(100_000) + 'A';
+    for (let i = 0; i < 60; i++) Scopes.decode(text, 0).free();
+    for (let i = 0; i < 60; i++) Scopes.decode(text, 0);
+    ${PEAK}`);
+  assert.ok(peak < 300, `${peak} MB`);
+});
+
+test('of many scopes, those that are left answer when others were collected', () => {
+  const said = run(
+    `const kept = [];
+    for (let i = 0; i < 3000; i++) {
+      const it = Scopes.decode('A,'.repeat(i % 7) + TEXT, NAMES);
+      if (i % 5 === 0) kept.push([i % 7, it]);
+      if (i % 5 === 1) it.free();
+    }
+    gc();
+    process.stdout.write(String(kept.filter(([before, it]) => it.counts.sources !== before + 1 || it.framesAt(0, 25).frames[0].name !== 'inner').length));`,
+    '--expose-gc',
+  );
+  assert.equal(said, 0);
+});

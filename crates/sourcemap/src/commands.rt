@@ -1,6 +1,6 @@
 //! Running a command by its name.
 use sourcemap_files::{Asked, Status, print};
-use sourcemap_making::{bundle, compile, remap};
+use sourcemap_making::{bundle, compile, embed, extract, remap, strip};
 use sourcemap_reports::{check, coverage, diff, page};
 use sourcemap_tracing::{resolve, trace};
 use sourcemap_words::{Outcome, VERSION, completions_of, manual_of, program};
@@ -30,6 +30,9 @@ pub fn run(name: &str, asked: &Asked<'_, '_>) -> Outcome<Status> {
         "remap" => remap::run(asked),
         "bundle" => bundle::run(asked),
         "compile" => compile::run(asked),
+        "extract" => extract::run(asked),
+        "embed" => embed::run(asked),
+        "strip" => strip::run(asked),
         "diff" => diff::run(asked),
         "coverage" => coverage::run(asked),
         "page" => page::run(asked),

@@ -10,6 +10,7 @@ mod input;
 mod limit;
 mod paths;
 mod progress;
+mod scopes;
 mod writing;
 
 pub use asked::{Asked, Status};
@@ -31,4 +32,5 @@ pub use paths::{
     written_name,
 };
 pub use progress::Progress;
+pub use scopes::scopes_of_map;
 pub use writing::{write_files, write_text};

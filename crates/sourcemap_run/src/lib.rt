@@ -3,11 +3,13 @@
 
 mod answers;
 mod bundling;
+mod contents_text;
 mod contexts;
 mod counting;
 mod covered;
 mod differing;
 mod frames;
+mod members;
 mod page;
 mod raw_lines;
 mod rebasing;
@@ -17,6 +19,7 @@ mod tracer;
 
 pub use answers::{Style, push_answer, push_answers, push_members};
 pub use bundling::{Bundle, line_ends, with_line_end};
+pub use contents_text::{Change, changed, cut_contents, push_contents};
 pub use contexts::{Content, lines_are_counted};
 pub use counting::{Block, Mark, missed_ranges, push_marks};
 pub use covered::{
@@ -25,6 +28,7 @@ pub use covered::{
 };
 pub use differing::count_differences;
 pub use frames::{Cut, Frame, Paint, Target, answer_to, frame_position, push_frame, push_line};
+pub use members::{Piece, maps_in};
 pub use oxc_sourcemap_lookup::Bias;
 pub use oxc_sourcemap_queries::first_difference_of_parts;
 pub use page::{DATA_MARK, fill_template};

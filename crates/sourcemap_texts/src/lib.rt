@@ -3,11 +3,13 @@
 
 mod matching;
 mod paths;
+mod placing;
 mod positions;
 mod texts;
 
 pub use matching::{Candidate, Choice, Prefix, choose, longest_prefix};
 pub use paths::{is_url, relative_path, stands_by_itself};
+pub use placing::{Placed, place_below};
 pub use positions::{position_of, source_position_of};
 pub use texts::{
     is_hidden, push_shown, push_visible, push_visible_char, push_visible_string,

@@ -84,7 +84,7 @@ fn ends_in_folder(own: &str, prefix: &str) -> bool
 }
 
 /// Whether a path has a part behind a folder.
-fn has_slash(path: &str) -> bool
+pub(crate) fn has_slash(path: &str) -> bool
     ensures { result ≡ has_slash path.now }
 {
     path.as_bytes().iter().any(|byte| *byte == b'/')

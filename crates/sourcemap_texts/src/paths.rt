@@ -14,7 +14,7 @@ use oxc_sourcemap_tokens::Memory;
 use std::alloc::Global;
 
 /// Whether a path begins with a slash of some system.
-fn begins_with_slash(path: &str) -> bool
+pub(crate) fn begins_with_slash(path: &str) -> bool
     ensures { result ≡ begins_with_slash path.now }
 {
     matches!(path.as_bytes().first(), Some(b'/' | b'\\'))
@@ -58,7 +58,7 @@ fn parts_of<'p>(alloc: Global, path: &'p str) -> Memory<Vec<&'p str>>
 }
 
 /// Whether a part leads nowhere.
-fn is_here(part: &str) -> bool
+pub(crate) fn is_here(part: &str) -> bool
     ensures { result ≡ is_here part.now }
 {
     part.is_empty() || part == "."

@@ -6,6 +6,7 @@ mod maps;
 mod positions;
 pub mod resolve;
 mod reversing;
+mod source_frames;
 pub mod trace;
 
 pub use reversing::push_reversed;

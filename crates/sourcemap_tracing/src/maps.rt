@@ -1,9 +1,10 @@
 //! The maps of the files that frames name, and what they say of the places of frames.
 use oxc_sourcemap_parts::apply_root;
+use oxc_sourcemap_scopes::{Frames, Scopes};
 use oxc_sourcemap_tokens::Position;
 use sourcemap_files::{
-    Asked, CodeFile, InputPrefix, Lookup, Places, Sought, find_code, is_file, is_in_root,
-    map_by_name, map_of_code, map_without_code, read_map_alone, read_text,
+    Asked, CodeFile, InputPrefix, Lookup, MapText, Places, Sought, find_code, is_file, is_in_root,
+    map_by_name, map_of_code, map_without_code, read_map_alone, read_text, scopes_of_map,
 };
 use sourcemap_run::{Answer, Target, Tracer, answer_to, frame_position};
 use sourcemap_words::{Failure, Named, Outcome};
@@ -53,6 +54,8 @@ pub struct Led {
     pub target: Option<Target>,
     pub stay: Option<Stay>,
     pub matched: Matched,
+    /// The frames of the source, if the map has scopes that cover the place.
+    pub source: Option<Frames>,
 }
 
 /// The map of a file, and what is known of its code.
@@ -76,6 +79,8 @@ pub struct Maps {
     files: HashMap<String, Known>,
     pub tracers: Vec<Tracer>,
     pub names: Vec<String>,
+    /// Of each map the scopes, if it has some and they are asked for.
+    pub scopes: Vec<Option<Scopes>>,
     input: InputPrefix,
 }
 
@@ -142,6 +147,7 @@ impl Led {
             target: None,
             stay: Some(Stay { reason, why }),
             matched,
+            source: None,
         }
     }
 }
@@ -279,6 +285,7 @@ impl Maps {
             files: HashMap::new(alloc),
             tracers: Vec::new(alloc),
             names: Vec::new(alloc),
+            scopes: Vec::new(alloc),
             input,
         }
     }
@@ -301,6 +308,8 @@ impl Maps {
             Err(failure) => return Err(failure),
         };
         apply_root(asked.alloc(), &mut parts)?;
+        let scopes = self.read_scopes(asked, &text)?;
+        self.scopes.push(scopes)?;
         self.tracers.push(Tracer::new(asked.alloc(), parts)?)?;
         self.names.push(text.name)?;
         Ok(Known::Map(KnownMap {
@@ -308,6 +317,32 @@ impl Maps {
             matched,
             code,
         }))
+    }
+
+    /// Reads the scopes of a map, if they are asked for. A fault of them is told once, even if the map is read again.
+    fn read_scopes(&self, asked: &Asked<'_, '_>, map: &MapText) -> Outcome<Option<Scopes>> {
+        if asked.word("names") == "code" {
+            return Ok(None);
+        }
+        let name = map.name.as_str();
+        let is_told = self.names.iter().any(|other| other.as_str() == name);
+        scopes_of_map(asked.rt, map, is_told)
+    }
+
+    /// The frames of the source that a frame at this place stands for, by the scopes of its map.
+    fn source_frames(&self, alloc: Global, target: Option<Target>) -> Outcome<Option<Frames>> {
+        let Some(Target { map, position }) = target else {
+            return Ok(None);
+        };
+        let Some(Some(scopes)) = self.scopes.get(map) else {
+            return Ok(None);
+        };
+        let found = scopes.frames_at(alloc, position.line, position.column)?;
+        Ok(if found.frames.is_empty() {
+            None
+        } else {
+            Some(found)
+        })
     }
 
     /// Reads the map of a file, if it was not read. Once the prefix of the input is known, files that were not found are sought again.
@@ -352,10 +387,12 @@ impl Maps {
             }),
             None => None,
         };
+        let source = self.source_frames(alloc, target)?;
         Ok(Led {
             target,
             stay,
             matched,
+            source,
         })
     }
 

@@ -1,32 +1,19 @@
 //! `resolve`: the frames of a stack trace, led back, line by line.
-use crate::maps::{Led, Maps, Matched, REASONS, Reason, Stay};
-use oxc_sourcemap_json::push_json_string;
+use crate::maps::{Maps, Matched, REASONS, Reason, Stay};
+use crate::source_frames::{LedFrame, PLAIN, first_place, push_source_members, source_text};
 use sourcemap_files::{Asked, Status, print_bytes, shown_name, warn};
 use sourcemap_run::{
-    Cut, Frame, Paint, Splice, answer_to, push_frame, push_line, push_members, push_number_member,
-    push_object, push_spliced, push_text_member, text_of,
+    Cut, Paint, Splice, answer_to, push_line, push_members, push_number_member, push_object,
+    push_spliced, push_text_member, text_of,
 };
 use sourcemap_texts::push_visible;
-use sourcemap_words::{Finder, Named, Outcome, Patterns, file_failure};
+use sourcemap_words::{Finder, NO_TEXT, Named, Outcome, Patterns, file_failure};
 use std::alloc::{AllocError, Global};
 use std::io::{BufRead, BufReader, IsTerminal, Read};
 use std::{env, fs};
 
-/// No colour.
-const PLAIN: Paint<'static> = Paint {
-    before: "",
-    after: "",
-};
-
 /// What is written at once.
 const MUCH: usize = 65536;
-
-/// A frame with what it comes to.
-#[derive(Drop)]
-struct LedFrame {
-    named: Named,
-    led: Led,
-}
 
 /// A line of the input.
 #[derive(Drop)]
@@ -39,11 +26,12 @@ struct LineRead {
     elsewhere: Option<&'static str>,
 }
 
-/// How many frames were seen, how many led back, and why the others stayed.
+/// How many frames were seen, how many led back, how many of those left out, and why the others stayed.
 #[derive(Clone, Copy)]
 struct Count {
     frames: u64,
     led: u64,
+    left_out: u64,
     stayed: [u64; REASONS.len()],
 }
 
@@ -66,6 +54,15 @@ struct Resolver<'a, 'm, 'r> {
     out: Vec<u8>,
 }
 
+impl LineRead {
+    /// Whether the line is left out, since the source has no such frame.
+    fn is_left_out(&self) -> bool {
+        self.frames
+            .iter()
+            .any(|frame| frame.is_left_out() && !frame.named.is_in_json)
+    }
+}
+
 impl Count {
     fn stay(&mut self, reason: Reason) {
         for (count, other) in self.stayed.iter_mut().zip(REASONS.iter()) {
@@ -79,6 +76,10 @@ impl Count {
         for frame in &line.frames {
             self.frames = self.frames.saturating_add(1);
             match &frame.led.stay {
+                _ if frame.is_left_out() => {
+                    self.led = self.led.saturating_add(1);
+                    self.left_out = self.left_out.saturating_add(1);
+                }
                 Some(stay) => self.stay(stay.reason),
                 None => self.led = self.led.saturating_add(1),
             }
@@ -137,65 +138,91 @@ fn cuts_of(alloc: Global, frames: &[LedFrame]) -> Result<Vec<Cut>, AllocError> {
     Ok(cuts)
 }
 
-/// What a frame is led back to, as it is written into its line; None if it stays.
-fn place_text(
+/// A part of a line, and what is to stand there.
+#[derive(Drop)]
+struct Change {
+    start: usize,
+    end: usize,
+    text: String,
+}
+
+/// The row of a frame that is left out, with the line feed in front of it, or behind it if there is none from byte `from` on.
+fn row_left_out(alloc: Global, frame: &LedFrame, from: usize) -> Option<Change> {
+    let row = frame.named.calling.and_then(|calling| calling.row)?;
+    let (start, end) = if from <= row.before && row.before < row.start {
+        (row.before, row.end)
+    } else {
+        (row.start, row.after)
+    };
+    Some(Change {
+        start,
+        end,
+        text: String::new(alloc),
+    })
+}
+
+/// What a frame changes in its line, whose bytes before `from` are done; None if it stays.
+fn change_of(
     alloc: Global,
     maps: &Maps,
+    (line, from): (&str, usize),
     frame: &LedFrame,
     paint: Paint<'_>,
-) -> Outcome<Option<String>> {
+) -> Outcome<Option<Change>> {
+    if frame.is_left_out() {
+        return Ok(row_left_out(alloc, frame, from));
+    }
+    if let Some((source, calling)) = frame.shown() {
+        return Ok(Some(Change {
+            start: calling.lead,
+            end: calling.close,
+            text: source_text(alloc, maps, line, (frame, source, calling), paint)?,
+        }));
+    }
     if frame.led.stay.is_some() {
         return Ok(None);
     }
-    let place = Frame {
-        target: frame.led.target,
-        ..Frame::plain("")
-    };
-    let mut text = String::new(alloc);
-    if !frame.named.is_in_json {
-        push_frame(alloc, maps.tracers.as_slice(), &place, paint, &mut text)?;
-        return Ok(Some(text));
-    }
-    push_frame(alloc, maps.tracers.as_slice(), &place, PLAIN, &mut text)?;
-    let mut string = String::new(alloc);
-    push_json_string(text.as_str(), &mut string)?;
-    let inside = string.as_str().strip_prefix('"').unwrap_or("");
-    let inside = inside.strip_suffix('"').unwrap_or(inside);
-    Ok(Some(String::from_str(alloc, inside)?))
+    Ok(Some(Change {
+        start: frame.named.start,
+        end: frame.named.end,
+        text: first_place(alloc, maps, frame, paint)?,
+    }))
 }
 
-/// What the frames of a line become; None of those that stay.
-fn place_texts(
-    alloc: Global,
-    maps: &Maps,
-    frames: &[LedFrame],
-    paint: Paint<'_>,
-) -> Outcome<Vec<Option<String>>> {
-    let mut texts = Vec::new(alloc);
-    for frame in frames {
-        texts.push(place_text(alloc, maps, frame, paint)?)?;
-    }
-    Ok(texts)
-}
-
-/// Appends a line whose bytes all stay but those of the places that are led back.
+/// Appends a line whose bytes all stay but those of the frames that are led back.
 fn push_bytes(
     alloc: Global,
     maps: &Maps,
-    (line, frames): (&[u8], &[LedFrame]),
+    line: &[u8],
+    read: &LineRead,
     paint: Paint<'_>,
     out: &mut Vec<u8>,
 ) -> Outcome<()> {
-    let texts = place_texts(alloc, maps, frames, paint)?;
-    let mut splices = Vec::new(alloc);
-    for (frame, text) in frames.iter().zip(texts.iter()) {
-        if let Some(text) = text {
-            splices.push(Splice {
-                start: frame.named.start,
-                end: frame.named.end,
-                text: text.as_str(),
-            })?;
+    let masked = if read.is_text {
+        String::new(alloc)
+    } else {
+        read.text.replace(alloc, NO_TEXT, "?")?
+    };
+    let text = if read.is_text {
+        read.text.as_str()
+    } else {
+        masked.as_str()
+    };
+    let mut changes = Vec::new(alloc);
+    let mut from = 0usize;
+    for frame in &read.frames {
+        if let Some(change) = change_of(alloc, maps, (text, from), frame, paint)? {
+            from = change.end;
+            changes.push(change)?;
         }
+    }
+    let mut splices = Vec::new(alloc);
+    for change in &changes {
+        splices.push(Splice {
+            start: change.start,
+            end: change.end,
+            text: change.text.as_str(),
+        })?;
     }
     if !push_spliced(line, splices.as_slice(), out)? {
         out.extend_from_slice(line)?;
@@ -217,7 +244,8 @@ fn push_led(
         return Ok(out.extend_from_slice(line)?);
     }
     let is_in_json = frames.iter().any(|frame| frame.named.is_in_json);
-    if read.is_text && !is_in_json {
+    let has_source = frames.iter().any(|frame| frame.shown().is_some());
+    if read.is_text && !is_in_json && !has_source {
         let cuts = cuts_of(alloc, frames)?;
         let (line, tracers) = (read.text.as_str(), maps.tracers.as_slice());
         let mut text = String::new(alloc);
@@ -225,7 +253,7 @@ fn push_led(
             return Ok(out.extend_from_slice(text.as_bytes())?);
         }
     }
-    push_bytes(alloc, maps, (line, frames), paint, out)
+    push_bytes(alloc, maps, line, read, paint, out)
 }
 
 /// Appends a line of its own below a frame.
@@ -248,13 +276,29 @@ fn how_matched(alloc: Global, matched: &Matched) -> Result<Option<String>, Alloc
     })
 }
 
-/// Appends the lines below a line: how each frame was found, and why it stays.
+/// The note of a frame that is left out.
+fn push_left_out(alloc: Global, named: &Named, out: &mut Vec<u8>) -> Outcome<()> {
+    let Named {
+        file,
+        line,
+        column,
+        ..
+    } = named;
+    let text = format!(in alloc;
+        "{file}:{line}:{column} is left out, since the source has no such frame"
+    )?;
+    push_note(alloc, text.as_str(), out)
+}
+
+/// Appends the lines below a line: how each frame was found, and why it stays, or is left out.
 fn push_notes(alloc: Global, read: &LineRead, out: &mut Vec<u8>) -> Outcome<()> {
     for frame in &read.frames {
         if let Some(how) = how_matched(alloc, &frame.led.matched)? {
             push_note(alloc, how.as_str(), out)?;
         }
-        if let Some(stay) = &frame.led.stay {
+        if frame.is_left_out() {
+            push_left_out(alloc, &frame.named, out)?;
+        } else if let Some(stay) = &frame.led.stay {
             push_note(alloc, stay.why.as_str(), out)?;
         }
     }
@@ -295,8 +339,13 @@ fn push_frame_members(
         }
         let answer = answer_to(maps.tracers.as_slice(), Some(target));
         push_members(alloc, answer, 1, out)?;
+        if let Some(source) = &led.source {
+            push_source_members(alloc, maps, target.map, source, out)?;
+        }
     }
-    if let Some(Stay { why, .. }) = &led.stay {
+    if let Some(Stay { why, .. }) = &led.stay
+        && !frame.is_left_out()
+    {
         push_text_member("why", why.as_str(), out)?;
     }
     Ok(())
@@ -329,13 +378,15 @@ fn push_line_object(
     read: &LineRead,
     out: &mut Vec<u8>,
 ) -> Outcome<()> {
-    let mut resolved = Vec::new(alloc);
-    push_led(alloc, maps, line, read, PLAIN, &mut resolved)?;
     let mut members = String::new(alloc);
     let text = String::from_utf8_lossy(alloc, line)?;
     push_text_member("text", text.as_str(), &mut members)?;
-    let resolved = String::from_utf8_lossy(alloc, resolved.as_slice())?;
-    push_text_member("resolved", resolved.as_str(), &mut members)?;
+    if !read.is_left_out() {
+        let mut resolved = Vec::new(alloc);
+        push_led(alloc, maps, line, read, PLAIN, &mut resolved)?;
+        let resolved = String::from_utf8_lossy(alloc, resolved.as_slice())?;
+        push_text_member("resolved", resolved.as_str(), &mut members)?;
+    }
     match read.frames.as_slice() {
         [] => {}
         [frame] => push_frame_members(alloc, maps, frame, &mut members)?,
@@ -404,12 +455,17 @@ impl<'a, 'm, 'r> Resolver<'a, 'm, 'r> {
         let form = self.form;
         let out = &mut self.out;
         match form {
-            Form::Objects => push_line_object(alloc, &self.maps, line, &read, out)?,
+            Form::Objects => {
+                push_line_object(alloc, &self.maps, line, &read, out)?;
+                out.push(b'\n')?;
+            }
             Form::Lines(paint) | Form::Explained(paint) => {
-                push_led(alloc, &self.maps, line, &read, paint, out)?
+                if !read.is_left_out() {
+                    push_led(alloc, &self.maps, line, &read, paint, out)?;
+                    out.push(b'\n')?;
+                }
             }
         }
-        out.push(b'\n')?;
         if let Form::Explained(_) = form {
             push_notes(alloc, &read, out)?;
         }
@@ -483,6 +539,24 @@ impl<'a, 'm, 'r> Resolver<'a, 'm, 'r> {
         warn(self.asked.rt, "resolve", text.as_str());
         Ok(())
     }
+
+    /// Says on standard error how many frames were left out.
+    fn tell_left_out(&self) -> Outcome<()> {
+        let left_out = self.count.left_out;
+        if left_out == 0 || !matches!(self.form, Form::Lines(_)) {
+            return Ok(());
+        }
+        let are = if left_out == 1 {
+            "frame is"
+        } else {
+            "frames are"
+        };
+        let text = format!(in self.asked.alloc();
+            "{left_out} {are} left out, since the source has none there (--explain says more)"
+        )?;
+        warn(self.asked.rt, "resolve", text.as_str());
+        Ok(())
+    }
 }
 
 /// Runs the command `resolve`.
@@ -497,11 +571,13 @@ pub fn run(asked: &Asked<'_, '_>) -> Outcome<Status> {
         count: Count {
             frames: 0,
             led: 0,
+            left_out: 0,
             stayed: [0; REASONS.len()],
         },
         out: Vec::new(alloc),
     };
     resolver.run()?;
     resolver.tell_nothing()?;
+    resolver.tell_left_out()?;
     Ok(Status::of(resolver.count.led > 0))
 }

@@ -48,6 +48,8 @@ enum Kind {
     Words,
     /// One of some words.
     OneOf(&'static [&'static str]),
+    /// An option whose value is one of some words.
+    Which(&'static str, &'static [&'static str]),
 }
 
 /// An argument of a command: its name, how it is written, and its help.
@@ -124,7 +126,7 @@ const TRACE: Words = Words {
 
 const RESOLVE: Words = Words {
     about: "Leads the frames of stack traces back to the originals, as V8, Firefox, Safari and Hermes print them, in traces and in logs",
-    json: "An object a line: text, resolved, and of a frame file, line, column; with a map map, found, source, sourceLine, sourceColumn, name; or why; from 1; matched (prefix or maps) and prefix where the whole path was not there; of several frames the list frames",
+    json: "An object a line: text, resolved, and of a frame file, line, column; with a map map, found, source, sourceLine, sourceColumn, name; with scopes function, callers (source, sourceLine, sourceColumn, function), hidden (a frame that is left out, without resolved); or why; from 1; matched (prefix or maps) and prefix where the whole path was not there; of several frames the list frames",
     words: &[
         Word(
             "TRACE",
@@ -136,6 +138,11 @@ const RESOLVE: Words = Words {
             "explain",
             Kind::Flag,
             "Says below a frame why it stays as it is, or by what less than its whole path its code was found",
+        ),
+        Word(
+            "names",
+            Kind::Which("WHICH", &["source", "code"]),
+            "The names of functions: those of the source, with a line for each call that was inlined, by the scopes of a map; or those of the code [default: source]",
         ),
     ],
 };
@@ -223,6 +230,49 @@ const COMPILE: Words = Words {
         ),
     ],
 };
+
+const EXTRACT: Words = Words {
+    about: "Writes the contents of sources as files",
+    json: "An object a line, for each source: source, and file and bytes, or missing (why it has no file)",
+    words: &[
+        Word("FILE", Kind::Files, "Maps, and codes whose maps are found"),
+        Word(
+            "output",
+            Kind::NeededOutput,
+            "The folder to write to, which is made if it is not there",
+        ),
+        Word(
+            "force",
+            Kind::Flag,
+            "Overwrites files that have another content",
+        ),
+    ],
+};
+
+const EMBED: Words = Words {
+    about: "Puts the contents of sources into a map, from their files",
+    json: "An object a line, for each source without a content: source, and file and bytes, or missing (why none is found)",
+    words: &[
+        Word("MAP", Kind::File, "A map, or a code whose map is found"),
+        EDITED,
+    ],
+};
+
+const STRIP: Words = Words {
+    about: "Takes the contents of sources out of a map",
+    json: "An object: map, output, contents (how many there were), bytes",
+    words: &[
+        Word("MAP", Kind::File, "A map, or a code whose map is found"),
+        EDITED,
+    ],
+};
+
+/// Where a map is written that is changed.
+const EDITED: Word = Word(
+    "output",
+    Kind::Output,
+    "The file to write; sources stay as they are [default: the map's own]",
+);
 
 const DIFF: Words = Words {
     about: "Tells where two maps say different things",
@@ -315,6 +365,7 @@ fn arg_of<'a>(alloc: Global, word: &Word) -> Arg<'a> {
         Kind::Input => arg.default_value("-"),
         Kind::Words => any_number(arg),
         Kind::OneOf(words) => arg.required(true).value_parser(words),
+        Kind::Which(value, words) => option(arg, name, value).value_parser(words),
     }
 }
 
@@ -360,13 +411,16 @@ fn printer<'a>(alloc: Global, name: &'a str, about: &'a str, words: &[Word]) -> 
 }
 
 /// The names of the commands, in the order in which help lists them.
-const COMMANDS: [&str; 11] = [
+const COMMANDS: [&str; 14] = [
     "trace",
     "resolve",
     "check",
     "remap",
     "bundle",
     "compile",
+    "extract",
+    "embed",
+    "strip",
     "diff",
     "coverage",
     "page",
@@ -385,6 +439,9 @@ fn command_of<'a>(alloc: Global, name: &'a str) -> Built<'a> {
         "remap" => command(alloc, name, &REMAP),
         "bundle" => command(alloc, name, &BUNDLE),
         "compile" => command(alloc, name, &COMPILE),
+        "extract" => command(alloc, name, &EXTRACT),
+        "embed" => command(alloc, name, &EMBED),
+        "strip" => command(alloc, name, &STRIP),
         "diff" => command(alloc, name, &DIFF),
         "coverage" => command(alloc, name, &COVERAGE),
         "page" => command(alloc, name, &PAGE),

@@ -1,4 +1,5 @@
 //! The positions that the frames of stack traces name, as V8, Firefox and Safari print them, and what logs make of these.
+use crate::calling::{Calling, calling_of};
 use crate::failure::{Outcome, failure_of};
 use crate::views::{View, json_strings, may_be_json};
 use regex::{Captures, Matcher, Regex};
@@ -59,6 +60,8 @@ pub struct Named {
     pub is_bytecode: bool,
     /// Whether it stands in a JSON string.
     pub is_in_json: bool,
+    /// How it names its function; None if it is of no form that names the function of the place.
+    pub calling: Option<Calling>,
 }
 
 /// What a line of a stack trace or of a log names.
@@ -294,21 +297,31 @@ impl<'r> Finder<'r> {
         is_in_json: bool,
         frames: &mut Vec<Named>,
     ) -> Result<(), AllocError> {
-        for spot in &self.spots(alloc, part)? {
+        let spots = self.spots(alloc, part)?;
+        let row = if spots.len() == 1 {
+            Some((from, from.saturating_add(part.len())))
+        } else {
+            None
+        };
+        let mut behind = 0usize;
+        for spot in &spots {
             let Some((line, column)) = spot.numbers else {
                 continue;
             };
             let begin = from.saturating_add(spot.start);
             let (start, end) = view.place(begin, from.saturating_add(spot.end));
-            let front = part.get(..spot.start).unwrap_or("");
+            let front = part.get(behind..spot.start).unwrap_or("");
+            let front = (from.saturating_add(behind), front);
+            behind = spot.end;
             frames.push(Named {
                 start,
                 end,
                 file: String::from_str(alloc, spot.file)?,
                 line,
                 column,
-                is_bytecode: front.ends_with("(address at "),
+                is_bytecode: front.1.ends_with("(address at "),
                 is_in_json,
+                calling: calling_of(view, front, from.saturating_add(spot.end), row),
             })?;
         }
         Ok(())

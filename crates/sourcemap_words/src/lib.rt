@@ -2,6 +2,7 @@
 #![tactic(auto)]
 
 mod arguments;
+mod calling;
 mod completions;
 mod failure;
 mod frames;
@@ -10,8 +11,10 @@ mod v8;
 mod views;
 
 pub use arguments::{VERSION, program};
+pub use calling::{Calling, FrameForm};
 pub use completions::completions_of;
 pub use failure::{Failure, Outcome, failure_of, file_failure};
 pub use frames::{Finder, Line, NO_TEXT, Named, Patterns};
 pub use manual::manual_of;
 pub use v8::{Report, Run, Script, runs_of};
+pub use views::Row;

@@ -9,6 +9,19 @@ pub struct View {
     /// For each byte of the text, where in the line that which stands for it begins and ends.
     starts: Vec<usize>,
     ends: Vec<usize>,
+    /// Where in the line the part begins and ends.
+    bounds: (usize, usize),
+}
+
+/// Where in a line a row of it is: the line itself, or one of the rows that the text of a JSON string has.
+#[derive(Clone, Copy)]
+pub struct Row {
+    pub start: usize,
+    pub end: usize,
+    /// Where the line feed in front of it begins; `start` if there is none.
+    pub before: usize,
+    /// Where the line feed behind it ends; `end` if there is none.
+    pub after: usize,
 }
 
 /// Where a reader of codes for terminals is.
@@ -20,11 +33,12 @@ enum Terminal {
 }
 
 impl View {
-    fn new(alloc: Global) -> View {
+    fn new(alloc: Global, bounds: (usize, usize)) -> View {
         View {
             text: String::new(alloc),
             starts: Vec::new(alloc),
             ends: Vec::new(alloc),
+            bounds,
         }
     }
 
@@ -39,7 +53,7 @@ impl View {
 
     /// A line as it is.
     pub fn of_line(alloc: Global, line: &str) -> Result<View, AllocError> {
-        let mut view = View::new(alloc);
+        let mut view = View::new(alloc, (0, line.len()));
         for (at, ch) in line.char_indices() {
             view.push(ch, at, at.saturating_add(ch.len_utf8()))?;
         }
@@ -53,7 +67,7 @@ impl View {
         start: usize,
         end: usize,
     ) -> Result<View, AllocError> {
-        let mut view = View::new(alloc);
+        let mut view = View::new(alloc, (start, end));
         let mut at = start;
         for _ in start..end {
             let rest = line.get(at..end).unwrap_or("");
@@ -72,7 +86,7 @@ impl View {
         if !self.text.contains('\u{1b}') {
             return Ok(self);
         }
-        let mut view = View::new(alloc);
+        let mut view = View::new(alloc, self.bounds);
         let mut state = Terminal::Text;
         for (at, ch) in self.text.char_indices() {
             state = match (state, ch) {
@@ -101,6 +115,31 @@ impl View {
     /// Where in the line the bytes `start` to `end` of the text come from.
     pub fn place(&self, start: usize, end: usize) -> (usize, usize) {
         (self.start_of(start), self.end_of(end.saturating_sub(1)))
+    }
+
+    /// Where in the line what stands for byte `at` of the text ends.
+    pub fn behind(&self, at: usize) -> usize {
+        self.end_of(at)
+    }
+
+    /// The row of the bytes `start` to `end` of the text, which line feeds or its ends are around.
+    pub fn row(&self, start: usize, end: usize) -> Row {
+        let (first, last) = self.bounds;
+        let (before, begin) = match start.checked_sub(1) {
+            Some(feed) => (self.start_of(feed), self.end_of(feed)),
+            None => (first, first),
+        };
+        let (stop, after) = if end < self.text.len() {
+            (self.start_of(end), self.end_of(end))
+        } else {
+            (last, last)
+        };
+        Row {
+            start: begin,
+            end: stop,
+            before,
+            after,
+        }
     }
 }
 

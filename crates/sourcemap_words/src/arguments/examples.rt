@@ -10,9 +10,12 @@ const RESOLVE: &str =
     "A frame without a map stays as it is, and so does all other text. Lines and columns count from 1, as in stack traces. Each line
 is answered as it comes. A frame names the file itself, or by its whole path one in the root; the path of a URL is what is behind its host.
 Of frames of another machine the folder is found if its path ends in the name of the root, or if two files below it are in the root.
+If a map has scopes, frames name the functions of the source, each call that was inlined has a line of its own below the frame, and a
+frame that the source does not have is left out.
 
 Examples:
   sourcemap resolve --root dist trace.txt
+  sourcemap resolve --root dist --names=code trace.txt
   node app.js 2>&1 | sourcemap resolve --root dist --explain
   tail -f log | sourcemap resolve --prefix /usr/src/app=dist --prefix https://cdn.example/v2=public";
 
@@ -40,6 +43,26 @@ Examples:
   sourcemap compile dist/*.js.map
   sourcemap compile --contents-apart dist/*.js.map
   sourcemap check dist/*.smc";
+
+const EXTRACT: &str =
+    "The path of a file is that of its source, without the scheme of a URL, below OUT. A path that would lead out of OUT is put below it, `_`
+for each folder that it goes up. A file that is there with another content stays, unless there is --force. Links are not followed.
+
+Examples:
+  sourcemap extract dist/app.js -o src
+  sourcemap extract --json dist/*.js.map -o src";
+
+const EMBED: &str =
+    "Contents that the map has stay. The others are read from the files that sources name from the folder of the map, where these are in
+the root or in that folder.
+
+Examples:
+  sourcemap embed dist/app.js.map
+  sourcemap embed --root .. dist/app.js -o full.map";
+
+const STRIP: &str = "Examples:
+  sourcemap strip dist/app.js.map
+  sourcemap strip dist/app.js.map -o public/app.js.map";
 
 const DIFF: &str = "Examples:
   sourcemap diff before.js.map after.js.map";
@@ -73,6 +96,9 @@ pub fn examples_of(command: &str) -> &'static str {
         "remap" => REMAP,
         "bundle" => BUNDLE,
         "compile" => COMPILE,
+        "extract" => EXTRACT,
+        "embed" => EMBED,
+        "strip" => STRIP,
         "diff" => DIFF,
         "coverage" => COVERAGE,
         "page" => PAGE,

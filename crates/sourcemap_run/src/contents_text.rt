@@ -1,0 +1,121 @@
+//! The contents of sources in the text of a map, changed where they stand.
+use crate::members::{Member, Piece, entries_of, maps_in, members_of};
+use crate::raw_lines::{Splice, push_spliced};
+use oxc_sourcemap_json::push_json_string;
+use oxc_sourcemap_tokens::Result;
+use std::alloc::Global;
+
+/// The key of contents, as it is written.
+const KEY: &str = "\"sourcesContent\"";
+
+/// A place of a text, and what is to stand there.
+#[derive(Drop)]
+pub struct Change {
+    start: usize,
+    end: usize,
+    text: String,
+}
+
+/// A text with changes, which are from left to right; None if one begins before the end of another one.
+pub fn changed(alloc: Global, text: &str, changes: &[Change]) -> Result<Option<String>> {
+    let mut splices = Vec::with_capacity(alloc, changes.len())?;
+    for change in changes {
+        splices.push(Splice {
+            start: change.start,
+            end: change.end,
+            text: change.text.as_str(),
+        })?;
+    }
+    let mut out = Vec::new(alloc);
+    if !push_spliced(text.as_bytes(), splices.as_slice(), &mut out)? {
+        return Ok(None);
+    }
+    Ok(String::from_utf8(out).ok())
+}
+
+/// What takes a member out of its object, and the comma before it; the one behind it, where no member is kept before it.
+fn cut_of(alloc: Global, member: &Member<'_>, has_kept: bool) -> Change {
+    let whole = member.whole;
+    let (start, end) = if has_kept {
+        (whole.at.saturating_sub(1), member.value.end())
+    } else {
+        (whole.at, whole.end().saturating_add(1))
+    };
+    Change {
+        start,
+        end,
+        text: String::new(alloc),
+    }
+}
+
+/// The text of a map without the contents of its sources, as of each section of an indexed map; all else stays, to the byte.
+pub fn cut_contents(alloc: Global, text: &str) -> Result<Option<String>> {
+    let mut changes = Vec::new(alloc);
+    for map in &maps_in(alloc, text)? {
+        let mut has_kept = false;
+        for member in &members_of(alloc, *map)? {
+            if member.key == KEY {
+                changes.push(cut_of(alloc, member, has_kept))?;
+            } else {
+                has_kept = true;
+            }
+        }
+    }
+    changed(alloc, text, changes.as_slice())
+}
+
+/// The list of the contents of a map: those that were found, and the entries that it has for the other sources.
+fn list_of(alloc: Global, had: &[Piece<'_>], found: &[Option<String>]) -> Result<String> {
+    let mut list = String::new(alloc);
+    for k in 0..had.len().max(found.len()) {
+        list.push(if k == 0 { '[' } else { ',' })?;
+        match (found.get(k), had.get(k)) {
+            (Some(Some(content)), _) => push_json_string(content.as_str(), &mut list)?,
+            (_, Some(entry)) => list.push_str(entry.text)?,
+            _ => list.push_str("null")?,
+        }
+    }
+    list.push(']')?;
+    Ok(list)
+}
+
+/// The contents that a map has, as they are written, if it has a list of them.
+fn contents_in<'t>(alloc: Global, members: &[Member<'t>]) -> Result<Vec<Piece<'t>>> {
+    for member in members {
+        if member.key == KEY && member.value.text.starts_with('[') {
+            return Ok(entries_of(alloc, member.value)?);
+        }
+    }
+    Ok(Vec::new(alloc))
+}
+
+/// Appends what puts contents, by the number of their source, into a map of a text (`maps_in`): into the list that it has, or else into a
+/// new one behind its sources.
+pub fn push_contents(
+    alloc: Global,
+    map: Piece<'_>,
+    found: &[Option<String>],
+    changes: &mut Vec<Change>,
+) -> Result<()> {
+    let members = members_of(alloc, map)?;
+    let had = contents_in(alloc, members.as_slice())?;
+    let list = list_of(alloc, had.as_slice(), found)?;
+    let has_list = members.iter().any(|member| member.key == KEY);
+    for member in &members {
+        if member.key == KEY {
+            changes.push(Change {
+                start: member.value.at,
+                end: member.value.end(),
+                text: String::from_str(alloc, list.as_str())?,
+            })?;
+        } else if !has_list && member.key == "\"sources\"" {
+            let end = member.value.end();
+            changes.push(Change {
+                start: end,
+                end,
+                text: format!(in alloc; ",{KEY}:{list}")?,
+            })?;
+        }
+    }
+    Ok(())
+}

@@ -1,0 +1,322 @@
+//! The frames of the source that a frame of a trace stands for, by the scopes of its map: their functions, and where they are.
+use crate::maps::{Led, Maps};
+use oxc_sourcemap_json::push_json_string;
+use oxc_sourcemap_scopes::{CallSite, Frames, ScopeFrame};
+use sourcemap_run::{
+    Frame, Paint, Spot, from_base, push_frame, push_number_member, push_object, push_original,
+    push_text_member,
+};
+use sourcemap_texts::push_shown;
+use sourcemap_words::{Calling, FrameForm, Named, Outcome};
+use std::alloc::Global;
+
+/// No colour.
+pub const PLAIN: Paint<'static> = Paint {
+    before: "",
+    after: "",
+};
+
+/// A frame with what it comes to.
+#[derive(Drop)]
+pub struct LedFrame {
+    pub named: Named,
+    pub led: Led,
+}
+
+/// The function that a frame names.
+#[derive(Clone, Copy)]
+enum Function<'m> {
+    /// That of the code: the scopes have none.
+    OfCode,
+    Unnamed,
+    Named(&'m str),
+}
+
+impl LedFrame {
+    /// The frames of the source, if they are to stand in the line, and how it names functions.
+    pub fn shown(&self) -> Option<(&Frames, &Calling)> {
+        match (&self.led.source, &self.named.calling) {
+            (Some(source), Some(calling)) if self.led.stay.is_none() => Some((source, calling)),
+            _ => None,
+        }
+    }
+
+    /// Whether its row is left out, since the source has no such frame.
+    pub fn is_left_out(&self) -> bool {
+        match (&self.led.source, &self.named.calling) {
+            (Some(source), Some(calling)) => source.is_hidden && calling.row.is_some(),
+            _ => false,
+        }
+    }
+}
+
+/// The name of the function that a frame of the source is in; None if the function has none, or there is none.
+fn function_name<'m>(maps: &'m Maps, map: usize, frame: &ScopeFrame) -> Option<&'m str> {
+    let Some(Some(scopes)) = maps.scopes.get(map) else {
+        return None;
+    };
+    let id = scopes.get_scope(frame.scope?)?.name?;
+    let names = maps.tracers.get(map)?.parts().names.as_slice();
+    let name = names.get(id as usize)?.as_str();
+    if name.is_empty() { None } else { Some(name) }
+}
+
+/// The function that a frame of the source names. Where the mappings lead and no function is known, it is that of the code.
+fn function_of<'m>(maps: &'m Maps, map: usize, frame: &ScopeFrame) -> Function<'m> {
+    match function_name(maps, map, frame) {
+        Some(name) => Function::Named(name),
+        None if frame.scope.is_none() && frame.call_site.is_none() => Function::OfCode,
+        None => Function::Unnamed,
+    }
+}
+
+/// The place of a call; None if the map has no such source.
+fn spot_of(maps: &Maps, map: usize, call: CallSite) -> Option<Spot<'_>> {
+    let sources = maps.tracers.get(map)?.parts().sources.as_slice();
+    Some(Spot {
+        source: sources.get(call.source as usize)?.as_str(),
+        line: call.line,
+        column: call.column,
+        name: None,
+        content: None,
+    })
+}
+
+/// A text as it stands in a line: as it is, or inside a JSON string.
+pub fn text_in_line(alloc: Global, text: String, is_in_json: bool) -> Outcome<String> {
+    if !is_in_json {
+        return Ok(text);
+    }
+    let mut string = String::new(alloc);
+    push_json_string(text.as_str(), &mut string)?;
+    let inside = string.as_str().strip_prefix('"').unwrap_or("");
+    let inside = inside.strip_suffix('"').unwrap_or(inside);
+    Ok(String::from_str(alloc, inside)?)
+}
+
+/// Where the mappings lead, as it stands in a line.
+pub fn first_place(
+    alloc: Global,
+    maps: &Maps,
+    frame: &LedFrame,
+    paint: Paint<'_>,
+) -> Outcome<String> {
+    let is_in_json = frame.named.is_in_json;
+    let place = Frame {
+        target: frame.led.target,
+        ..Frame::plain("")
+    };
+    let mut text = String::new(alloc);
+    let paint = if is_in_json { PLAIN } else { paint };
+    push_frame(alloc, maps.tracers.as_slice(), &place, paint, &mut text)?;
+    text_in_line(alloc, text, is_in_json)
+}
+
+/// The place of a call, as it stands in a line.
+fn call_place(
+    alloc: Global,
+    spot: &Spot<'_>,
+    is_in_json: bool,
+    paint: Paint<'_>,
+) -> Outcome<String> {
+    let paint = if is_in_json { PLAIN } else { paint };
+    let mut text = String::from_str(alloc, paint.before)?;
+    push_original(alloc, spot, 1, &mut text)?;
+    text.push_str(paint.after)?;
+    text_in_line(alloc, text, is_in_json)
+}
+
+/// The frames of the source, written as the frame of a line is.
+#[derive(Clone, Copy)]
+struct Rows<'a> {
+    maps: &'a Maps,
+    map: usize,
+    line: &'a str,
+    named: &'a Named,
+    calling: &'a Calling,
+    paint: Paint<'a>,
+}
+
+impl<'a> Rows<'a> {
+    /// A part of the line.
+    fn part(&self, start: usize, end: usize) -> &'a str {
+        self.line.get(start..end).unwrap_or("")
+    }
+
+    /// Appends a frame of a function with a name.
+    fn push_named(&self, alloc: Global, name: &str, place: &str, out: &mut String) -> Outcome<()> {
+        let mut shown = String::new(alloc);
+        push_shown(name, &mut shown)?;
+        out.push_str(text_in_line(alloc, shown, self.named.is_in_json)?.as_str())?;
+        let gap = self.part(self.calling.end, self.named.start);
+        if !gap.is_empty() {
+            out.push_str(gap)?;
+            out.push_str(place)?;
+            return Ok(out.push_str(self.part(self.named.end, self.calling.close))?);
+        }
+        let (before, behind) = match self.calling.form {
+            FrameForm::Call => (" (", ")"),
+            FrameForm::AtSign => ("@", ""),
+            FrameForm::Arrow => (" ", ""),
+        };
+        out.push_str(before)?;
+        out.push_str(place)?;
+        Ok(out.push_str(behind)?)
+    }
+
+    /// Appends a frame of a function without a name.
+    fn push_unnamed(&self, place: &str, out: &mut String) -> Outcome<()> {
+        if let FrameForm::AtSign = self.calling.form {
+            out.push_str(self.part(self.calling.end, self.named.start))?;
+        }
+        Ok(out.push_str(place)?)
+    }
+
+    /// Appends a frame; `is_outermost` if it is the one that the code called.
+    fn push(
+        &self,
+        alloc: Global,
+        function: Function<'_>,
+        place: &str,
+        is_outermost: bool,
+        out: &mut String,
+    ) -> Outcome<()> {
+        match function {
+            Function::Named(name) => self.push_named(alloc, name, place, out),
+            Function::Unnamed if is_outermost && !self.calling.unnamed.is_empty() => {
+                self.push_named(alloc, self.calling.unnamed, place, out)
+            }
+            Function::Unnamed => self.push_unnamed(place, out),
+            Function::OfCode => {
+                out.push_str(self.part(self.calling.start, self.named.start))?;
+                out.push_str(place)?;
+                Ok(out.push_str(self.part(self.named.end, self.calling.close))?)
+            }
+        }
+    }
+
+    /// Appends what is in front of the name: of `new` and `async` that which the code called has them, and of what caused the call the
+    /// first one.
+    fn push_lead(&self, is_first: bool, is_outermost: bool, out: &mut String) -> Outcome<()> {
+        let has_lead = match self.calling.form {
+            FrameForm::AtSign => is_first,
+            FrameForm::Call | FrameForm::Arrow => is_outermost,
+        };
+        if has_lead {
+            out.push_str(self.part(self.calling.lead, self.calling.start))?;
+        }
+        Ok(())
+    }
+
+    /// Ends a row, and begins one with what is in front of the frame in the line.
+    fn push_row(&self, out: &mut String) -> Outcome<()> {
+        let Some(row) = self.calling.row else {
+            return Ok(());
+        };
+        let text = self.part(row.start, row.end);
+        out.push_str(match (self.named.is_in_json, text) {
+            (true, text) if text.ends_with("\\r") => "\\r\\n",
+            (true, _) => "\\n",
+            (false, text) if text.ends_with('\r') => "\r\n",
+            (false, _) => "\n",
+        })?;
+        Ok(out.push_str(self.part(row.start, self.calling.lead))?)
+    }
+}
+
+/// What stands in a line for a frame and the name of its function: the frames of the source, the places of calls below it. In a row with
+/// other frames the first one alone.
+pub fn source_text(
+    alloc: Global,
+    maps: &Maps,
+    line: &str,
+    (frame, source, calling): (&LedFrame, &Frames, &Calling),
+    paint: Paint<'_>,
+) -> Outcome<String> {
+    let is_in_json = frame.named.is_in_json;
+    let map = frame.led.target.map_or(0, |target| target.map);
+    let rows = Rows {
+        maps,
+        map,
+        line,
+        named: &frame.named,
+        calling,
+        paint,
+    };
+    let mut out = String::new(alloc);
+    let count = if calling.row.is_some() {
+        source.frames.len()
+    } else {
+        1
+    };
+    for (i, at) in source.frames.iter().take(count).enumerate() {
+        let is_outermost = i.saturating_add(1) == count;
+        let place = match at.call_site {
+            None => first_place(alloc, maps, frame, paint)?,
+            Some(call) => match spot_of(maps, map, call) {
+                Some(spot) => call_place(alloc, &spot, is_in_json, paint)?,
+                None => continue,
+            },
+        };
+        if i > 0 {
+            rows.push_row(&mut out)?;
+        }
+        rows.push_lead(i == 0, is_outermost, &mut out)?;
+        let function = function_of(maps, map, at);
+        rows.push(alloc, function, place.as_str(), is_outermost, &mut out)?;
+    }
+    Ok(out)
+}
+
+/// The members of a frame of the source that is the place of a call.
+fn push_caller(
+    alloc: Global,
+    spot: &Spot<'_>,
+    function: Option<&str>,
+    out: &mut String,
+) -> Outcome<()> {
+    let mut members = String::new(alloc);
+    push_text_member("source", spot.source, &mut members)?;
+    let line = from_base(spot.line, 1);
+    push_number_member(alloc, "sourceLine", line, &mut members)?;
+    let column = from_base(spot.column, 1);
+    push_number_member(alloc, "sourceColumn", column, &mut members)?;
+    if let Some(function) = function {
+        push_text_member("function", function, &mut members)?;
+    }
+    Ok(push_object(members.as_str(), out)?)
+}
+
+/// The members of the frames of the source: the function where the mappings lead, the places of calls, and whether there is no such
+/// frame.
+pub fn push_source_members(
+    alloc: Global,
+    maps: &Maps,
+    map: usize,
+    source: &Frames,
+    out: &mut String,
+) -> Outcome<()> {
+    let mut callers = String::new(alloc);
+    for at in &source.frames {
+        let name = function_name(maps, map, at);
+        let Some(call) = at.call_site else {
+            if let Some(name) = name {
+                push_text_member("function", name, out)?;
+            }
+            continue;
+        };
+        if let Some(spot) = spot_of(maps, map, call) {
+            if !callers.is_empty() {
+                callers.push(',')?;
+            }
+            push_caller(alloc, &spot, name, &mut callers)?;
+        }
+    }
+    if !callers.is_empty() {
+        write!(out, ",\"callers\":[{callers}]")?;
+    }
+    if source.is_hidden {
+        out.push_str(",\"hidden\":true")?;
+    }
+    Ok(())
+}

@@ -44,7 +44,7 @@ test('the constants are those of the header', needsHeader, () => {
   for (const [name, number] of Object.entries(Language)) assert.equal(number, value(`SMAP_${name}`));
   for (const [name, words] of Object.entries(Words)) assert.match(text, new RegExp(`SMAP_HAS_SIZE\\(smap_${name}, 0, ${4 * words}\\)`, 'i'));
   assert.deepEqual(MENDS.slice(1), all(text, /^ {4}SMAP_MEND_(\w+) = \d+/gm));
-  const faults = text.split('`field` of SMAP_BAD_SCOPES.')[1].split('};')[0];
+  const faults = text.split('`field` of SMAP_BAD_SCOPES')[1].split('};')[0];
   assert.deepEqual(SCOPES_FAULTS.slice(1), all(faults, /^ {4}SMAP_SCOPES_(\w+) = \d+/gm));
   assert.deepEqual(all(read('lib/scopes.d.ts').split('export type ScopesFault =')[1].split(';')[0], /"(\w+)"/g), SCOPES_FAULTS.slice(1));
   assert.deepEqual(PLACES.slice(1), all(text, /^ {4}SMAP_PLACE_(\w+) = [1-9]/gm).map((it) => it.toLowerCase()));

@@ -57,5 +57,5 @@ test('the documents of the repository', needsDocuments, () => {
   const others = blocks.filter((it) => !isJob(it));
   assert.equal(others.length, 2);
   assert.equal(run(others[0], {}).said, "{ source: 'a.ts', line: 2, column: 4, name: 'f', index: 1 }\n4\n{ line: 0, column: 4 }\n");
-  assert.equal(run(others[1], {}).said, 'g null\nf { sourceId: 0, line: 5, column: 2 }\n');
+  assert.equal(run(others[1], {}).said, 'g 0\nf 5\n');
 });

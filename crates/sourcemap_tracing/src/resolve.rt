@@ -128,7 +128,7 @@ fn short(reason: Reason) -> (&'static str, &'static str) {
 /// Where in a line frames name positions.
 fn cuts_of(alloc: Global, frames: &[LedFrame]) -> Result<Vec<Cut>, AllocError> {
     let mut cuts = Vec::new(alloc);
-    for LedFrame { named, led } in frames {
+    for LedFrame { named, led, .. } in frames {
         cuts.push(Cut {
             start: named.start,
             end: named.end,
@@ -328,7 +328,7 @@ fn push_frame_members(
     frame: &LedFrame,
     out: &mut String,
 ) -> Outcome<()> {
-    let LedFrame { named, led } = frame;
+    let LedFrame { named, led, .. } = frame;
     push_text_member("file", named.file.as_str(), out)?;
     push_number_member(alloc, "line", u64::from(named.line), out)?;
     push_number_member(alloc, "column", u64::from(named.column), out)?;
@@ -437,7 +437,7 @@ impl<'a, 'm, 'r> Resolver<'a, 'm, 'r> {
         let mut frames = Vec::new(alloc);
         for named in found.frames {
             let led = self.maps.lead(self.asked, &named)?;
-            frames.push(LedFrame { named, led })?;
+            frames.push(LedFrame::new(text.as_str(), named, led))?;
         }
         Ok(LineRead {
             text,

@@ -21,6 +21,8 @@ pub const PLAIN: Paint<'static> = Paint {
 pub struct LedFrame {
     pub named: Named,
     pub led: Led,
+    /// Whether its row has nothing else.
+    is_alone: bool,
 }
 
 /// The function that a frame names.
@@ -32,7 +34,27 @@ enum Function<'m> {
     Named(&'m str),
 }
 
+/// Whether a frame is all that its row has, but for spaces and what engines write in front of a frame.
+fn is_alone(line: &str, calling: &Calling) -> bool {
+    let Some(row) = calling.row else {
+        return false;
+    };
+    let front = line.get(row.start..calling.lead).unwrap_or("");
+    let behind = line.get(calling.close..row.end).unwrap_or("");
+    matches!(front.trim(), "" | "at" | "❯") && matches!(behind.trim(), "" | "\\r")
+}
+
 impl LedFrame {
+    /// A frame of a line, with what it comes to.
+    pub fn new(line: &str, named: Named, led: Led) -> LedFrame {
+        let is_alone = named.calling.is_some_and(|calling| is_alone(line, &calling));
+        LedFrame {
+            named,
+            led,
+            is_alone,
+        }
+    }
+
     /// The frames of the source, if they are to stand in the line, and how it names functions.
     pub fn shown(&self) -> Option<(&Frames, &Calling)> {
         match (&self.led.source, &self.named.calling) {
@@ -43,9 +65,9 @@ impl LedFrame {
 
     /// Whether its row is left out, since the source has no such frame.
     pub fn is_left_out(&self) -> bool {
-        match (&self.led.source, &self.named.calling) {
-            (Some(source), Some(calling)) => source.is_hidden && calling.row.is_some(),
-            _ => false,
+        match &self.led.source {
+            Some(source) => source.is_hidden && self.is_alone,
+            None => false,
         }
     }
 }

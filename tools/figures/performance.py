@@ -1,12 +1,11 @@
 #!/usr/bin/env python3
-"""Measures the library on the maps that make_maps.py made, and prints the tables of docs/FIGURES.md.
+"""Measures the library on the maps that make_maps.py made, and prints the tables behind docs/FIGURES.md.
 
-    tools/figures/performance.py [--rounds N] [--beside PROGRAM].. [--whole PROGRAM].. [--smap PROGRAM] [--only TABLE].. [--into FILE] FOLDER
+    tools/figures/performance.py [--rounds N] [--beside PROGRAM].. [--whole PROGRAM].. [--smap PROGRAM] [--only TABLE].. FOLDER
 
 --beside names a program like tools/figures/bench over another library (see tools/figures/bench/bench), --whole one whose commands are
 `normalise`, and `compose` of texts separated by lines `---`, the last step's first. All sides run in turn, and the best of N
-rounds counts. --only prints one of the tables (TABLES below). --into replaces the part of FILE between the lines
-`<!-- measured -->` and `<!-- end -->`. Needs Debian's packages `time` and, for instructions, `valgrind`.
+rounds counts. --only prints one of the tables (TABLES below). Needs Debian's packages `time` and, for instructions, `valgrind`.
 """
 
 import argparse
@@ -51,7 +50,6 @@ COUNTED = ["esbuild-lodash", "pdf.js", "theme.css", "olm_legacy.min"]
 WHOLE_GOAL, PEAK_GOAL = 0.85, 0.8
 GROWTH = [1, 5, 20, 50, 100, 200]
 NAMES = [10_000, 100_000, 1_000_000]
-written = []
 
 
 @functools.cache
@@ -61,8 +59,7 @@ def smap():
 
 
 def write(line=""):
-    lines = [re.sub(r" *[|] *", "|", it) if it.startswith("|") else it for it in line.split("\n")]
-    written.extend(lines)
+    lines = (re.sub(r" *[|] *", "|", it) if it.startswith("|") else it for it in line.split("\n"))
     print(*lines, sep="\n", flush=True)
 
 
@@ -295,18 +292,12 @@ def main():
     parser.add_argument("--beside", action="append", default=[])
     parser.add_argument("--whole", action="append", default=[])
     parser.add_argument("--smap")
-    parser.add_argument("--into")
     parser.add_argument("--only", action="append", choices=TABLES)
     parser.add_argument("folder")
     options = parser.parse_args()
     write(f"{machine()}; best of {options.rounds} rounds.")
     for name in options.only or TABLES:
         TABLES[name]()
-    if options.into:
-        text = open(options.into).read()
-        head, rest = text.split("<!-- measured -->\n")
-        tail = rest.split("<!-- end -->\n")[1]
-        open(options.into, "w").write(head + "<!-- measured -->\n" + "\n".join(written) + "\n<!-- end -->\n" + tail)
 
 
 if __name__ == "__main__":

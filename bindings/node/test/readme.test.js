@@ -55,7 +55,6 @@ test('the documents of the repository', needsDocuments, () => {
   const blocks = documents.flatMap(blocksOf);
   assert.deepEqual(blocks.filter((it) => isJob(it) && !jobs.includes(it)), []);
   const others = blocks.filter((it) => !isJob(it));
-  assert.equal(others.length, 2);
+  assert.equal(others.length, 1);
   assert.equal(run(others[0], {}).said, "{ source: 'a.ts', line: 2, column: 4, name: 'f', index: 1 }\n4\n{ line: 0, column: 4 }\n");
-  assert.equal(run(others[1], {}).said, 'g 0\nf 5\n');
 });

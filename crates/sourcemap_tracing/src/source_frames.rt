@@ -47,7 +47,9 @@ fn is_alone(line: &str, calling: &Calling) -> bool {
 impl LedFrame {
     /// A frame of a line, with what it comes to.
     pub fn new(line: &str, named: Named, led: Led) -> LedFrame {
-        let is_alone = named.calling.is_some_and(|calling| is_alone(line, &calling));
+        let is_alone = named
+            .calling
+            .is_some_and(|calling| is_alone(line, &calling));
         LedFrame {
             named,
             led,

@@ -89,6 +89,7 @@ static void answers(sqlite3 *db, const char *sql, const maps *with, const char *
     "e"
 #define FRAMES "WITH frames(id, line, col) AS (VALUES (1, 0, 4), (2, 1, 0), (3, 1, 7), (4, 0, 8)) "
 #define MANY "WITH RECURSIVE many(i) AS (SELECT 0 UNION ALL SELECT i + 1 FROM many WHERE i < 99) "
+#define BOTH "WITH m(i, map) AS (VALUES (1, :json), (2, :other)) "
 #define IS_NUMBER " is an INTEGER from 0 to 4294967295"
 
 static const struct {
@@ -187,6 +188,12 @@ static const struct {
     { __LINE__, "SELECT smap_trace(smap_compile(" BAD("KACA,FAAA") "), 0, 6)",
       "{\"source\":\"a.js\",\"line\":1,\"column\":0,\"name\":null}|;" },
     { __LINE__, "SELECT smap_trace(:other, 0, 6)", "{\"source\":\"a.js\",\"line\":0,\"column\":0,\"name\":null}|;" },
+    /* compiled maps that are gone when columns are read */
+    { __LINE__,
+      BOTH
+      "SELECT s.source, t.source FROM m a, smap_trace_at(smap_compile(a.map), 0, 3) s, m b, smap_trace_at(smap_compile(b.map), 0, 3) t "
+      "ORDER BY a.i, b.i",
+      "a.ts|a.ts|;a.ts|a.js|;a.js|a.ts|;a.js|a.js|;" },
     /* errors */
     { __LINE__, "SELECT smap_trace(1, 0, 0)", "error: a map is TEXT (JSON) or a BLOB (compiled)" },
     { __LINE__, "SELECT smap_compile(1.5)", "error: a map is TEXT (JSON) or a BLOB (compiled)" },
@@ -227,6 +234,10 @@ static const struct {
     { __LINE__, 1, MANY "SELECT count(*) FROM many LEFT JOIN smap_trace_at(CASE i % 2 WHEN 0 THEN :json END, 0, i)", "100|;" },
     { __LINE__, 1, MANY "SELECT count(source) FROM many, smap_trace_at(CASE i % 2 WHEN 0 THEN :json ELSE :map END, 0, i)", "8|;" },
     { __LINE__, 0, MANY "SELECT count(smap_trace(:map, 0, i)) FROM many", "8|;" },
+    /* two texts of one length */
+    { __LINE__, 2,
+      "SELECT source FROM (VALUES (1), (2)), smap_trace_at(CASE column1 WHEN 1 THEN :json ELSE replace(:json, 'a.ts', 'c.ts') END, 0, 3)",
+      "a.ts|;c.ts|;" },
 };
 
 static void reads_of(sqlite3 *db, const maps *with) {

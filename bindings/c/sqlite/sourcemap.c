@@ -54,8 +54,10 @@ static int open_map(sqlite3_value *value, opened *out, char **words) {
     smap_fault fault;
     int type = sqlite3_value_type(value);
     if (type != SQLITE_TEXT && type != SQLITE_BLOB) return failed_with(sqlite3_mprintf("a map is TEXT (JSON) or a BLOB (compiled)"), words);
-    const char *at = type == SQLITE_BLOB ? sqlite3_value_blob(value) : (const char *)sqlite3_value_text(value);
+    /* (the length is that of the text in UTF-8; a BLOB that cannot be made of a zeroblob is NULL from then on, and has no length) */
+    const char *at = type == SQLITE_TEXT ? (const char *)sqlite3_value_text(value) : NULL;
     size_t len = (size_t)sqlite3_value_bytes(value);
+    if (type == SQLITE_BLOB) at = sqlite3_value_blob(value);
     if (!at && (type == SQLITE_TEXT || len > 0)) return SQLITE_NOMEM;
     if (type == SQLITE_BLOB) {
         if (smap_open_compiled(at, len, &out->compiled, &fault) == SMAP_OK) return SQLITE_OK;

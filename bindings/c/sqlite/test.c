@@ -123,6 +123,7 @@ static const struct {
     { __LINE__, "SELECT name FROM smap_trace_at(:map, 0, 3) WHERE map = :map", "error: no query solution" },
     { __LINE__, "SELECT name FROM smap_trace_at(:map, 0)", "error: no query solution" },
     { __LINE__, "SELECT name FROM smap_trace_at", "error: no query solution" },
+    { __LINE__, "SELECT name FROM smap_trace_at WHERE map = :map AND at_line >= 0 AND at_column = 3", "error: no query solution" },
     { __LINE__,
       "SELECT name FROM smap_trace_at(:map, 0, 3) WHERE line>=0 AND line>=0 AND line>=0 AND line>=0 AND line>=0 AND line>=0 AND "
       "line>=0 AND line>=0 AND line>=0 AND line>=0 AND line>=0 AND line>=0 AND line>=0 AND line>=0 AND line>=0 AND line>=0",
@@ -158,9 +159,9 @@ static const struct {
     { __LINE__, "SELECT smap_source_content(:map, 4294967296)", "error: a source_id" IS_NUMBER },
     /* what a schema may call: deterministic functions, and no unsafe ones */
     { __LINE__, "PRAGMA trusted_schema=OFF", "" },
-    { __LINE__, "CREATE TEMP TABLE t(map, name AS (smap_trace(map, 0, 3)), content AS (smap_source_content(smap_compile(map), 0)))", "" },
-    { __LINE__, "CREATE INDEX temp.name_of ON t(smap_trace(map, 0, 3))", "" },
-    { __LINE__, "CREATE TEMP VIEW v AS SELECT t.name, t.content, s.name FROM t, smap_trace_at(t.map, 0, 3) s", "" },
+    { __LINE__, "CREATE TABLE t(map, name AS (smap_trace(map, 0, 3)), content AS (smap_source_content(smap_compile(map), 0)))", "" },
+    { __LINE__, "CREATE INDEX name_of ON t(smap_trace(map, 0, 3))", "" },
+    { __LINE__, "CREATE VIEW v AS SELECT t.name, t.content, s.name FROM t, smap_trace_at(t.map, 0, 3) s", "" },
     { __LINE__, "INSERT INTO t VALUES (:map)", "" },
     { __LINE__, "SELECT * FROM v", "{\"source\":\"a.ts\",\"line\":0,\"column\":9,\"name\":\"hi\"}|let hi;|hi|;" },
     { __LINE__, "DROP VIEW v", "" },
@@ -188,7 +189,7 @@ static const struct {
     { __LINE__, "SELECT smap_trace(smap_compile(" BAD("KACA,FAAA") "), 0, 6)",
       "{\"source\":\"a.js\",\"line\":1,\"column\":0,\"name\":null}|;" },
     { __LINE__, "SELECT smap_trace(:other, 0, 6)", "{\"source\":\"a.js\",\"line\":0,\"column\":0,\"name\":null}|;" },
-    /* compiled maps that are gone when columns are read */
+    /* two rows of the table at once */
     { __LINE__,
       BOTH
       "SELECT s.source, t.source FROM m a, smap_trace_at(smap_compile(a.map), 0, 3) s, m b, smap_trace_at(smap_compile(b.map), 0, 3) t "

@@ -11,8 +11,8 @@
  * 4294967295, is an error of the statement, in the words of the library, with its place.
  *
  * smap_trace and smap_source_content read JSON once in a statement if it is a literal or a parameter, and else in each row; smap_trace_at
- * reads it once for rows with the same JSON that follow each other in a join. Compiled maps are looked up where SQLite holds them. But for
- * a literal or a parameter SQLite itself copies what is larger than a page for each row, also out of a subquery.
+ * reads it once for rows with the same JSON that follow each other in a join. Compiled maps are looked up where SQLite holds them; but
+ * SQLite itself copies a map that is larger than a page for each row, if it is no literal and no parameter, also out of a subquery.
  *
  *   cc -O2 -fPIC -fvisibility=hidden -shared -Itarget bindings/c/sqlite/sourcemap.c target/liboxc_sourcemap.a -Wl,--exclude-libs,ALL \
  *       -o sourcemap.so

@@ -222,11 +222,12 @@ typedef struct cursor {
 static int table_connect(sqlite3 *db, void *with, int argc, const char *const *argv, sqlite3_vtab **out, char **words) {
     (void)with, (void)argc, (void)argv, (void)words;
     int status = sqlite3_declare_vtab(db, "CREATE TABLE x(" COLUMNS ")");
+    if (status == SQLITE_OK) status = sqlite3_vtab_config(db, SQLITE_VTAB_INNOCUOUS);
     if (status != SQLITE_OK) return status;
     *out = sqlite3_malloc(sizeof **out);
     if (!*out) return SQLITE_NOMEM;
     memset(*out, 0, sizeof **out);
-    return sqlite3_vtab_config(db, SQLITE_VTAB_INNOCUOUS);
+    return SQLITE_OK;
 }
 
 static int table_disconnect(sqlite3_vtab *table) {

@@ -41,6 +41,7 @@ mod lookup;
 mod maps;
 mod owned_sourcemap;
 mod raw;
+pub mod resolver;
 mod scopes;
 mod sourcemap;
 mod sourcemap_builder;

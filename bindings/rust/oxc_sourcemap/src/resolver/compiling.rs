@@ -120,19 +120,18 @@ fn modified(status: &Metadata) -> Option<SystemTime> {
 
 /// The time of the file of a compiled map: that of its map, or, if this may yet change within a tick of the clock, an earlier one, by
 /// which the compiled map counts as older, so that its hash is compared.
-fn time_for(status: Option<&Metadata>) -> SystemTime {
-    let (now, second) = (SystemTime::now(), Duration::from_secs(1));
+fn time_for(status: Option<&Metadata>, now: SystemTime) -> SystemTime {
     match status.and_then(modified) {
         None => now,
         Some(it) if now.duration_since(it).is_ok_and(|age| age >= RECENT) => it,
-        Some(it) => it.checked_sub(second).unwrap_or(it),
+        Some(it) => it.checked_sub(Duration::from_secs(1)).unwrap_or(it),
     }
 }
 
 /// Gives a compiled map the time of its map, so that no hash is needed next time.
 fn touch(path: &Path, status: &Metadata) {
     // (if it cannot be, the hash is compared again)
-    let _ = File::open(path).and_then(|it| it.set_modified(time_for(Some(status))));
+    let _ = File::open(path).and_then(|it| it.set_modified(time_for(Some(status), SystemTime::now())));
 }
 
 /// A file that may be the compiled map of a map.
@@ -245,7 +244,7 @@ impl Compiler {
             }
             _ => return Some(()),
         };
-        replace_file(&path, bytes, text.status.as_ref(), time_for(text.status.as_ref())).ok()
+        replace_file(&path, bytes, text.status.as_ref(), time_for(text.status.as_ref(), SystemTime::now())).ok()
     }
 }
 
@@ -256,4 +255,46 @@ fn bad_map(name: &str, error: Error, fault: Option<Fault>) -> Missing {
     }
     let place = fault.and_then(|it| it.place_text()).map_or(String::new(), |it| format!(", at {it}"));
     Missing::held(Reason::BadMap, format!("{name}: {error}{place}"))
+}
+
+#[cfg(test)]
+mod tests {
+    use super::*;
+    use std::fs;
+
+    const MAP: &str = r#"{"version":3,"sources":["a.ts"],"names":[],"mappings":"AAAA"}"#;
+
+    #[test]
+    fn a_recent_map_gives_an_earlier_time() {
+        let path = std::env::temp_dir().join(format!("oxc_sourcemap-time-{}", std::process::id()));
+        let (then, ms) = (SystemTime::UNIX_EPOCH + Duration::from_secs(1_000_000_000), Duration::from_millis);
+        File::create(&path).unwrap().set_modified(then).unwrap();
+        let status = fs::metadata(&path).unwrap();
+        let ages = [ms(0), ms(1999), ms(2000), ms(9000)].map(|it| time_for(Some(&status), then + it));
+        assert_eq!(ages, [then - ms(1000), then - ms(1000), then, then]);
+        assert_eq!(time_for(Some(&status), then - ms(9000)), then - ms(1000));
+        assert_eq!(time_for(None, then), then);
+        fs::remove_file(path).unwrap();
+    }
+
+    #[test]
+    fn a_map_that_is_written_while_it_is_read_is_not_kept() {
+        let path = std::env::temp_dir().join(format!("oxc_sourcemap-compiling-{}", std::process::id()));
+        fs::create_dir_all(&path).unwrap();
+        let store = FolderStore::new(&path).unwrap();
+        let totals = Arc::new(Totals::default());
+        let compiler = Compiler { cache: None, writes_beside: true, always_hashes: false, map_bytes: 100, totals };
+        for (changes, wanted) in [(true, 1), (false, 2)] {
+            fs::write(path.join("a.js.map"), MAP).unwrap();
+            let opened = store.open("a.js.map").unwrap().unwrap();
+            if changes {
+                let later = SystemTime::now() + Duration::from_secs(9);
+                File::options().write(true).open(path.join("a.js.map")).unwrap().set_modified(later).unwrap();
+            }
+            let text = MapText::of_file("a.js.map", opened, 100);
+            assert_eq!(compiler.compiled(Some(&store), text).unwrap_or_else(|_| panic!()).name, "a.js.map");
+            assert_eq!(fs::read_dir(&path).unwrap().count(), wanted);
+        }
+        fs::remove_dir_all(&path).unwrap();
+    }
 }

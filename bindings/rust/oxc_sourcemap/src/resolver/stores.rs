@@ -264,3 +264,20 @@ pub(super) fn replace_file(path: &Path, data: &[u8], like: Option<&Metadata>, ti
     }
     written
 }
+
+#[cfg(test)]
+mod tests {
+    use super::*;
+
+    #[test]
+    fn a_file_that_grows_stays_within_the_limit() {
+        let path = std::env::temp_dir().join(format!("oxc_sourcemap-grows-{}", std::process::id()));
+        fs::write(&path, "1234").unwrap();
+        let (mut grown, mut same) = (opened(&path).unwrap().unwrap(), opened(&path).unwrap().unwrap());
+        assert_eq!(same.read_within("a", 4), Ok(b"1234".to_vec()));
+        fs::write(&path, "123456789").unwrap();
+        assert_eq!(grown.read_within("a", 4), Err(too_large("a", 5, 4)));
+        assert_eq!(opened(&path).unwrap().unwrap().read_within("a", 8), Err(too_large("a", 9, 8)));
+        fs::remove_file(path).unwrap();
+    }
+}

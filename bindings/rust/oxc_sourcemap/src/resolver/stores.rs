@@ -18,8 +18,8 @@ use super::table::Missing;
 /// use std::collections::HashMap;
 /// use oxc_sourcemap::resolver::Store;
 /// let store = HashMap::from([("a.js.map".to_string(), b"{}".to_vec())]);
-/// assert_eq!(store.get("a.js.map").unwrap().as_deref(), Some(&b"{}"[..]));
-/// assert_eq!(store.get("b.js.map").unwrap(), None);
+/// assert_eq!(Store::get(&store, "a.js.map").unwrap(), Some(b"{}".to_vec()));
+/// assert_eq!(Store::get(&store, "b.js.map").unwrap(), None);
 /// ```
 pub trait Store: Send + Sync {
     /// The bytes of this name, or None if it has none. A name has slashes between its parts, none of which is empty, `.` or `..`, or has

@@ -181,6 +181,7 @@ const FAULTS: &[(&str, usize, ScopesFaultKind, usize)] = &[
     // What is passed over has numbers too.
     ("A,J_", 0, NotADigit, 2),
     ("A,DAg", 0, CutShort, 2),
+    ("EAA,GAg,FA", 0, CutShort, 4),
     ("g", 0, CutShort, 0),
     ("A,g,A", 0, CutShort, 2),
     ("BAAg", 0, CutShort, 0),
@@ -228,6 +229,16 @@ const FAULTS: &[(&str, usize, ScopesFaultKind, usize)] = &[
     ("ECAA", 0, BadIndex, 0),
     ("BAAA,CAA,ECAC", 0, BadIndex, 9),
     ("BAAA,CAA,ECAD", 0, BadIndex, 9),
+    // The names of variables and of values.
+    ("BAAA,DC,CAA", 1, BadIndex, 5),
+    ("BAAA,DD,CAA", 1, BadIndex, 5),
+    ("BAAA,DCCC,CAA", 3, BadIndex, 5),
+    ("BAAA,DCFE,CAA", 3, BadIndex, 5),
+    ("BAAA,D+/////H,CAA", usize::MAX, BadIndex, 5),
+    ("EAA,GB,FA", 0, BadIndex, 4),
+    ("EAA,GC,FA", 1, BadIndex, 4),
+    ("EAA,GAABC,FA", 1, BadIndex, 4),
+    ("EAA,GggggggE,FA", usize::MAX, BadIndex, 4),
     // A scope that starts later is none yet.
     ("BAAA,CAA,ECAC,FA,BAAA,CAA", 0, BadIndex, 9),
     ("CAA", 0, NothingOpen, 0),
@@ -239,6 +250,12 @@ const FAULTS: &[(&str, usize, ScopesFaultKind, usize)] = &[
     ("BAAA,FA,CAA", 0, NothingOpen, 5),
     ("IAAA", 0, NothingOpen, 0),
     ("EAA,FA,IAAA", 0, NothingOpen, 7),
+    ("DA", 1, NothingOpen, 0),
+    ("BAAA,CAA,D", 1, NothingOpen, 9),
+    ("EAA,DA,FA", 1, NothingOpen, 4),
+    ("GA", 1, NothingOpen, 0),
+    ("EAA,FA,G", 1, NothingOpen, 7),
+    ("BAAA,GA,CAA", 1, NothingOpen, 5),
     ("BAAA,A,CAA", 0, NotClosed, 5),
     ("BAAA", 0, LeftOpen, 4),
     ("BAAA,BAAA,CAA", 0, LeftOpen, 13),
@@ -307,6 +324,47 @@ fn maps_have_scopes(rt: HostRuntime) {
         let found = read.map(|it| (it.source_count(), it.scope_count(), it.range_count()));
         same(&rt, *json, found, *wanted);
     }
+}
+
+/// A text, how many names there are, the variables of each scope, and the values in each range.
+type Bound = (&'static str, usize, &'static [&'static [u32]], &'static [&'static [Option<u32>]]);
+
+const BOUND: &[Bound] = &[
+    (INLINED, 7, &[&[], &[4], &[]], &[&[], &[Some(6)], &[]]),
+    ("BAAA,DAC,CJA,ECAA,GAD,FCE", 4, &[&[0, 1]], &[&[None, Some(2)]]),
+    // Of several items the variables add up, also around those of another scope; all are relative to the last one, over all sources.
+    ("BAAA,DC,BAAA,DCD,CAA,DA,CBA,BAAA,DEF,CAB", 5, &[&[1, 1], &[2, 1], &[3, 1]], &[]),
+    // So do values, which are not relative. There may be more than variables, or none.
+    ("EAA,GBA,EAA,GCAD,FB,GD,FB", 3, &[], &[&[Some(0), None, Some(2)], &[Some(1), None, Some(2)]]),
+    ("BAAA,D,DAA,CAA", 1, &[&[0, 0]], &[]),
+    ("EAA,G,FB", 0, &[], &[&[]]),
+    ("EAA,GB,FA", 1, &[], &[&[Some(0)]]),
+    // A name and a variable are each relative to the last of their own sort.
+    ("BBAAC,DAA,CAA,BBAAA,DC,CAA", 2, &[&[0, 0], &[1]], &[]),
+    // The greatest index.
+    ("BAAA,D8/////H,CAA,EAA,G//////D,FA", usize::MAX, &[&[MAX - 1]], &[&[Some(MAX - 1)]]),
+];
+
+#[test]
+fn variables_have_values(rt: HostRuntime) -> Result<(), ScopesError> {
+    for (text, names, variables, values) in BOUND {
+        let scopes = decode_scopes(rt.alloc(), *text, *names)?;
+        same(&rt, *text, (scopes.scope_count(), scopes.range_count()), (variables.len(), values.len()));
+        for (i, wanted) in variables.iter().enumerate() {
+            same(&rt, *text, scopes.get_variables(i), Some(*wanted));
+        }
+        for (i, wanted) in values.iter().enumerate() {
+            same(&rt, *text, scopes.value_count(i), wanted.len());
+            for (k, wanted) in wanted.iter().enumerate() {
+                same(&rt, *text, scopes.get_value(i, k), *wanted);
+            }
+            same(&rt, *text, scopes.get_value(i, wanted.len()), None);
+        }
+        same(&rt, *text, scopes.get_variables(variables.len()), None);
+        same(&rt, *text, scopes.get_variables(usize::MAX), None);
+        same(&rt, *text, (scopes.value_count(values.len()), scopes.get_value(values.len(), 0)), (0, None));
+    }
+    Ok(())
 }
 
 /// A frame: the scope that names it, and its call site.

@@ -1,7 +1,7 @@
 -- What each item keeps, all keep: of what items say, and of what was read at the end.
 use Rattle.std.proofs.Common.{◌≡◌, ℕ, ◌+◌, ◌-◌, ◌/◌, ◌%◌, ◌==◌, ◌<◌, Bool, true, false, List, []}
 use Rattle.std.proofs.Common.{◌∷◌, ◌++◌, length, Option, Some, None, Result, Ok, Err}
-use Rattle.std.proofs.Common.{min, nat_lt, if◌then◌else◌, is_some, arith, refl, ◌||◌}
+use Rattle.std.proofs.Common.{get_or, drop, min, nat_lt, if◌then◌else◌, is_some, arith, refl}
 use Rattle.std.specs.Option.{IfSome}
 use Rattle.std.specs.Result.{IfOk}
 use Rattle.std.proofs.lemmas.Bool.Decides.{nat_tests}
@@ -9,6 +9,7 @@ use Rattle.oxc_sourcemap_tokens.specs.declared.position.Position.{Position}
 use Rattle.oxc_sourcemap_scopes.specs.declared.errors.ScopesError.{ScopesError}
 use Rattle.oxc_sourcemap_scopes.specs.declared.scopes.ScopeInfo.{ScopeInfo}
 use Rattle.oxc_sourcemap_scopes.specs.declared.scopes.RangeInfo.{RangeInfo}
+use Rattle.oxc_sourcemap_scopes.specs.declared.scopes.Value.{Value}
 use Rattle.oxc_sourcemap_scopes.specs.Faults.{◌>>=◌}
 use Rattle.oxc_sourcemap_scopes.specs.Numbers.{numbers_of}
 use Rattle.oxc_sourcemap_scopes.specs.Trees.{Grown, started, ended}
@@ -18,6 +19,8 @@ use Rattle.oxc_sourcemap_scopes.specs.Items.{scope_started}
 use Rattle.oxc_sourcemap_scopes.specs.Items.{next_if_closed, source_passed, scope_ended}
 use Rattle.oxc_sourcemap_scopes.specs.Items.{range_started, range_end, range_ended, small_at}
 use Rattle.oxc_sourcemap_scopes.specs.Items.{source_at, call_site_read, item_read}
+use Rattle.oxc_sourcemap_scopes.specs.Items.{indices_moved, with_indices, variables_read}
+use Rattle.oxc_sourcemap_scopes.specs.Items.{all_values, with_values, values_read}
 use Rattle.oxc_sourcemap_scopes.specs.Reading.{ScopesRecord, items_read, items_of, finished}
 use Rattle.oxc_sourcemap_scopes.specs.Reading.{scopes_of}
 use Rattle.oxc_sourcemap_scopes.specs.Laws.{IsNamed}
@@ -61,10 +64,12 @@ index-if-below false at ns k last count = tt
 -- what a start, an end and what is said of ranges keep
 module _ (names : ℕ) (P : State → Type 0)
     (starts : (s : State) (here : Position) (info : ScopeInfo) (name kind : ℕ) → P s → IsNamed names info
-    → P (record s { scopes = started s.scopes here; scope_infos = s.scope_infos ++ info ∷ []; name = name; kind = kind }))
+    → P (record s { scopes = started s.scopes here; scope_infos = s.scope_infos ++ info ∷ []; variables = s.variables ++ [] ∷ []; name = name; kind = kind }))
     (closes : (at : ℕ) (s : State) → P s → IfOk (next_if_closed at s) P)
     (ends : (at : ℕ) (s : State) (i : ℕ) (here : Position) → P s → IfOk (next_if_closed at (record s { scopes = ended s.scopes i here })) P)
-    (ranges : (s : State) (t : Grown) (infos : List RangeInfo) (definition : ℕ) → P s → P (record s { ranges = t; range_infos = infos; definition = definition })) where
+    (binds : (s : State) (lists : List (List ℕ)) (variable : ℕ) → P s → P (record s { variables = lists; variable = variable }))
+    (ranges : (s : State) (t : Grown) (infos : List RangeInfo) (values : List (List Value)) (definition : ℕ) → P s
+    → P (record s { ranges = t; range_infos = infos; values = values; definition = definition })) where
   start-kept : (at : ℕ) (s : State) (ns : List ℕ) → P s → IfOk (scope_started names at s ns) P
   unfolding scope_started
   start-kept at s ns h =
@@ -87,22 +92,32 @@ module _ (names : ℕ) (P : State → Type 0)
   range-start-kept at s ns h =
       bound-any (number_at at ns 1) _ P (λ flags. bound-any (number_if (has_flag flags 1) at ns 2) _ P (λ line. bound-any (number_at at ns (if has_flag flags 1 then 3 else 2)) _ P (λ column.
       bound-any (moved at s.ranges.position line column) _ P (λ here. bound-any (index_if (has_flag flags 2) at ns (if has_flag flags 1 then 4 else 3) s.definition (length s.scopes.spans)) _ P (λ definition.
-      bound-any (room_in at s.ranges) _ P (λ room. ranges s _ _ _ h))))))
+      bound-any (room_in at s.ranges) _ P (λ room. ranges s _ _ _ _ h))))))
 
   range-end-kept : (at : ℕ) (s : State) (ns : List ℕ) → P s → IfOk (range_ended at s ns) P
   unfolding range_ended
-  range-end-kept at s ns h = bound-any (range_end at s.ranges.position ns) _ P (λ here. opened s.ranges.current _ _ P (λ i. ranges s _ s.range_infos s.definition h))
+  range-end-kept at s ns h = bound-any (range_end at s.ranges.position ns) _ P (λ here. opened s.ranges.current _ _ P (λ i. ranges s _ s.range_infos s.values s.definition h))
 
   call-kept : (at : ℕ) (s : State) (ns : List ℕ) → P s → IfOk (call_site_read at s ns) P
   unfolding call_site_read
   call-kept at s ns h =
-      bound-any (source_at at ns 1) _ P (λ source. bound-any (small_at at ns 2) _ P (λ line. bound-any (small_at at ns 3) _ P (λ column. opened s.ranges.current _ _ P (λ i. ranges s s.ranges _ s.definition h))))
+      bound-any (source_at at ns 1) _ P (λ source. bound-any (small_at at ns 2) _ P (λ line. bound-any (small_at at ns 3) _ P (λ column. opened s.ranges.current _ _ P (λ i. ranges s s.ranges _ s.values s.definition h))))
+
+  variables-kept : (at : ℕ) (s : State) (ns : List ℕ) → P s → IfOk (variables_read names at s ns) P
+  unfolding variables_read
+  variables-kept at s ns h = opened s.scopes.current _ _ P (λ i. bound-any (with_indices (get_or s.variables i []) s.variable (indices_moved at s.variable names (drop 1 ns))) _ P (λ found. binds s _ _ h))
+
+  values-kept : (at : ℕ) (s : State) (ns : List ℕ) → P s → IfOk (values_read names at s ns) P
+  unfolding values_read
+  values-kept at s ns h =
+      opened s.ranges.current _ _ P (λ i. bound-any (with_values (get_or s.values i []) (all_values at names (drop 1 ns))) _ P (λ found. ranges s s.ranges s.range_infos _ s.definition h))
 
   item-kept : (at : ℕ) (s : State) (ns : List ℕ) → P s → IfOk (item_read names at s ns) P
   unfolding item_read
   item-kept at s ns h =
       bound-any (number_at at ns 0) _ P (λ tag. branched (tag == 0) _ _ P (pass-kept at s h) (branched (tag == 1) _ _ P (start-kept at s ns h) (branched (tag == 2) _ _ P (end-kept at s ns h)
-      (branched (tag == 4) _ _ P (range-start-kept at s ns h) (branched (tag == 5) _ _ P (range-end-kept at s ns h) (branched (tag == 8) _ _ P (call-kept at s ns h) h))))))
+      (branched (tag == 3) _ _ P (variables-kept at s ns h) (branched (tag == 4) _ _ P (range-start-kept at s ns h) (branched (tag == 5) _ _ P (range-end-kept at s ns h)
+      (branched (tag == 6) _ _ P (values-kept at s ns h) (branched (tag == 8) _ _ P (call-kept at s ns h) h))))))))
 
   items-kept : (items : List (List ℕ)) (at : ℕ) (s : State) → P s → IfOk (items_read names at s items) P
   items-kept [] at s h = h

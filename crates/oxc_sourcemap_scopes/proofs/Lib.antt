@@ -1,3 +1,4 @@
+pub mod Appended
 pub mod Around
 pub mod Growing
 pub mod Innermost

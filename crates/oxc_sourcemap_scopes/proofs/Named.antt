@@ -1,7 +1,7 @@
 -- The names and the kinds of scopes that were read lead to names, and their sources are counted.
-use Rattle.std.proofs.Common.{◌≡◌, ℕ, ◌+◌, ◌<◌, ◌≤◌, ◌==◌, Bool, true, false, List, [], ◌∷◌, ◌++◌}
+use Rattle.std.proofs.Common.{◌≡◌, ℕ, ◌<◌, ◌≤◌, ◌==◌, Bool, true, false, List}
 use Rattle.std.proofs.Common.{length}
-use Rattle.std.proofs.Common.{slice_get, set, Option, Some, None, Result, Ok, Err, zero, suc, refl}
+use Rattle.std.proofs.Common.{Option, Some, None, Ok, Err, zero, suc, refl}
 use Rattle.std.proofs.Common.{sym}
 use Rattle.std.proofs.Common.{if◌then◌else◌, is_some, arith, ◌||◌}
 use Rattle.std.specs.Result.{IfOk}
@@ -34,7 +34,8 @@ scopes-named names text =
     (λ s here info name kind h n. each-more (IsNamed names) s.scope_infos info h n)
     (named-closed names)
     (λ at s i here h. named-closed names at (record s { scopes = ended s.scopes i here }) h)
-    (λ s t infos definition h. h)
+    (λ s lists variable h. h)
+    (λ s t infos values definition h. h)
     (λ s. AreNamed names s.scope_infos) text (nothing-named names)
     (λ s n. branched (is_some s.scopes.current || is_some s.ranges.current) _ _ (λ (r : ScopesRecord). AreNamed names r.scope_infos) tt n)
 
@@ -70,7 +71,7 @@ counted-ended at s k here h =
     (λ i l. each-set spans k x (λ n y. n < length spans → y.source ≤ s.scopes.source) (λ n m _ _. h.by n m) (λ m. h.by k m) i l (omega (arith, length-set spans k x)))
 
 last-by : (o : Option ℕ) (b : Bool) (e : ScopesError) (s : State) → s.scopes.current ≡ o → AllCounted s
-    → IfOk (if is_some o || b then Err e else Ok (record { sources = s.scopes.source; scopes = s.scopes.spans; scope_infos = s.scope_infos; ranges = s.ranges.spans; range_infos = s.range_infos })) AreCounted
+    → IfOk (if is_some o || b then Err e else Ok (record { sources = s.scopes.source; scopes = s.scopes.spans; scope_infos = s.scope_infos; variables = s.variables; ranges = s.ranges.spans; range_infos = s.range_infos; values = s.values })) AreCounted
 last-by (Some k) b e s c h = tt
 last-by None true e s c h = tt
 last-by None false e s c h = h.before c
@@ -85,6 +86,7 @@ scopes-counted names text =
     (λ s here info name kind h n. counted-started s.scopes here h)
     (λ at s h. counted-closed at s h.by)
     counted-ended
-    (λ s t infos definition h. h)
+    (λ s lists variable h. h)
+    (λ s t infos values definition h. h)
     AreCounted text (record { by = λ i l. absurd (omega (arith, l)); before = λ _ i l. absurd (omega (arith, l)) })
     (λ s n. counted-last (length text) s n)

@@ -7,6 +7,7 @@ use Rattle.std.proofs.lemmas.List.{length-set, length_push}
 use Rattle.oxc_sourcemap_tokens.specs.declared.position.Position.{Position}
 use Rattle.oxc_sourcemap_scopes.specs.declared.scopes.ScopeInfo.{ScopeInfo}
 use Rattle.oxc_sourcemap_scopes.specs.declared.scopes.RangeInfo.{RangeInfo}
+use Rattle.oxc_sourcemap_scopes.specs.declared.scopes.Value.{Value}
 use Rattle.oxc_sourcemap_scopes.specs.Trees.{span_at, started, ended}
 use Rattle.oxc_sourcemap_scopes.specs.Items.{State, IsState, IsDefined, no_range}
 
@@ -36,12 +37,14 @@ item-at (x ∷ xs) (suc i) d h = item-at xs i d (omega (arith, h))
 
 -- one scope more
 pub scope-added : (s : State) (here : Position) (info : ScopeInfo) (name kind : ℕ) → IsState s
-    → IsState (record s { scopes = started s.scopes here; scope_infos = s.scope_infos ++ info ∷ []; name = name; kind = kind })
+    → IsState (record s { scopes = started s.scopes here; scope_infos = s.scope_infos ++ info ∷ []; variables = s.variables ++ [] ∷ []; name = name; kind = kind })
 scope-added s here info name kind h =
     let long = length_push s.scopes.spans (record { source = s.scopes.source; start = here; end = here; parent = s.scopes.current }) in
     record {
       scopes = omega (arith, long, length_push s.scope_infos info, h.scopes);
+      variables = omega (arith, long, length_push s.variables [], h.variables);
       ranges = h.ranges;
+      values = h.values;
       definitions = λ i x e. more-below x.definition (length s.scopes.spans) _ (omega (arith, long)) (h.definitions i x e);
     }
 
@@ -50,23 +53,35 @@ scope-ended s k here h =
     let long = length-set s.scopes.spans k (record (span_at s.scopes.spans k) { end = here }) in
     record {
       scopes = omega (arith, long, h.scopes);
+      variables = omega (arith, long, h.variables);
       ranges = h.ranges;
+      values = h.values;
       definitions = λ i x e. more-below x.definition (length s.scopes.spans) _ (omega (arith, long)) (h.definitions i x e);
     }
 
 -- one range more, whose definition leads to a scope
 pub range-added : (s : State) (here : Position) (info : RangeInfo) (definition : ℕ) → IsState s → IsDefined (length s.scopes.spans) info
-    → IsState (record s { ranges = started s.ranges here; range_infos = s.range_infos ++ info ∷ []; definition = definition })
+    → IsState (record s { ranges = started s.ranges here; range_infos = s.range_infos ++ info ∷ []; values = s.values ++ [] ∷ []; definition = definition })
 range-added s here info definition h d =
     let long = length_push s.ranges.spans (record { source = s.ranges.source; start = here; end = here; parent = s.ranges.current }) in
     record {
       scopes = h.scopes;
+      variables = h.variables;
       ranges = omega (arith, long, length_push s.range_infos info, h.ranges);
+      values = omega (arith, long, length_push s.values [], h.values);
       definitions = each-more (IsDefined (length s.scopes.spans)) s.range_infos info h.definitions d;
     }
 
 pub range-ended : (s : State) (k : ℕ) (here : Position) → IsState s → IsState (record s { ranges = ended s.ranges k here })
-range-ended s k here h = record { scopes = h.scopes; ranges = omega (arith, length-set s.ranges.spans k (record (span_at s.ranges.spans k) { end = here }), h.ranges); definitions = h.definitions }
+range-ended s k here h =
+    let long = length-set s.ranges.spans k (record (span_at s.ranges.spans k) { end = here }) in
+    record {
+      scopes = h.scopes;
+      variables = h.variables;
+      ranges = omega (arith, long, h.ranges);
+      values = omega (arith, long, h.values);
+      definitions = h.definitions;
+    }
 
 -- a range with another call site
 pub call-set : (s : State) (k : ℕ) (info : RangeInfo) → IsState s → k < length s.range_infos → info.definition ≡ (get_or s.range_infos k no_range).definition
@@ -75,6 +90,28 @@ call-set s k info h l e =
     let old : IfSome (get_or s.range_infos k no_range).definition (λ i. i < length s.scopes.spans) = h.definitions k (get_or s.range_infos k no_range) (item-at s.range_infos k no_range l) in
     record {
       scopes = h.scopes;
+      variables = h.variables;
       ranges = omega (arith, length-set s.range_infos k info, h.ranges);
+      values = h.values;
       definitions = each-other (IsDefined (length s.scopes.spans)) s.range_infos k info h.definitions (rw e old);
     }
+
+-- a scope with other variables
+pub variables-set : (s : State) (k : ℕ) (list : List ℕ) (variable : ℕ) → IsState s → IsState (record s { variables = set s.variables k list; variable = variable })
+variables-set s k list variable h = record {
+  scopes = h.scopes;
+  variables = omega (arith, length-set s.variables k list, h.variables);
+  ranges = h.ranges;
+  values = h.values;
+  definitions = h.definitions;
+}
+
+-- a range with other values
+pub values-set : (s : State) (k : ℕ) (list : List Value) → IsState s → IsState (record s { values = set s.values k list })
+values-set s k list h = record {
+  scopes = h.scopes;
+  variables = h.variables;
+  ranges = h.ranges;
+  values = omega (arith, length-set s.values k list, h.values);
+  definitions = h.definitions;
+}

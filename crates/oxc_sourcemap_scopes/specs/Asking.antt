@@ -1,8 +1,8 @@
 -- What is asked of scopes: the innermost scope, range or function at a position, and the frames that a position stands for.
 use Rattle.std.specs.Prelude.{◌≡◌, ℕ, zero, suc, ◌*◌, ◌+◌, Bool, false, List, [], ◌∷◌, ◌++◌, get_or}
-use Rattle.std.specs.Prelude.{slice_get, Option, Some, None}
+use Rattle.std.specs.Prelude.{slice_get, length, Option, Some, None}
 use Rattle.std.specs.Prelude.{if◌then◌else◌}
-use Rattle.std.specs.Option.{option_map, option_and_then}
+use Rattle.std.specs.Option.{option_map, option_and_then, option_map_or}
 use Rattle.oxc_sourcemap_scopes.specs.declared.scopes.Span.{Span}
 use Rattle.oxc_sourcemap_scopes.specs.declared.scopes.ScopeInfo.{ScopeInfo}
 use Rattle.oxc_sourcemap_scopes.specs.declared.scopes.CallSite.{CallSite}
@@ -11,6 +11,7 @@ use Rattle.oxc_sourcemap_scopes.specs.declared.frames.OriginalScope.{OriginalSco
 use Rattle.oxc_sourcemap_scopes.specs.declared.frames.GeneratedRange.{GeneratedRange}
 use Rattle.oxc_sourcemap_scopes.specs.declared.frames.Frames.{Frames}
 use Rattle.oxc_sourcemap_scopes.specs.declared.scopes.RangeInfo.{RangeInfo}
+use Rattle.oxc_sourcemap_scopes.specs.declared.scopes.Value.{Value}
 use Rattle.oxc_sourcemap_scopes.specs.Trees.{rank, span_at, innermost}
 use Rattle.oxc_sourcemap_scopes.specs.Items.{no_range}
 use Rattle.oxc_sourcemap_scopes.specs.Reading.{ScopesRecord}
@@ -105,6 +106,26 @@ scope_seen s i = option_and_then (λ span. option_map (scope_of span) (slice_get
 -- the range at an index, if there is one
 abbrev pub range_seen : ScopesRecord → ℕ → Option GeneratedRange
 range_seen s i = option_and_then (λ span. option_map (range_of span) (slice_get s.range_infos i)) (slice_get s.ranges i)
+
+-- the variables of the scope at an index, as indices of names, if there is such a scope
+abbrev pub variables_of : ScopesRecord → ℕ → Option (List ℕ)
+variables_of s i = slice_get s.variables i
+
+-- the values in the range at an index, if there is such a range
+abbrev pub values_of : ScopesRecord → ℕ → Option (List Value)
+values_of s i = slice_get s.values i
+
+-- how many values there are
+abbrev pub value_count : Option (List Value) → ℕ
+value_count values = option_map_or length values 0
+
+-- the value at an index, if there is one
+abbrev pub value_seen : Option (List Value) → ℕ → Option Value
+value_seen values k = option_and_then (λ list. slice_get list k) values
+
+-- the name that has the expression of a value, if there is one
+abbrev pub expression_of : Option Value → Option ℕ
+expression_of value = option_and_then (λ v. v.expression) value
 
 -- these frames were appended to the old ones
 abbrev pub IsCalled : List ScopeFrame → List ScopeFrame → Bool → FramesRecord → Type 0

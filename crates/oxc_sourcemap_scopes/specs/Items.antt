@@ -1,6 +1,7 @@
 -- What each item of a `scopes` text adds to what was read before it.
 use Rattle.std.specs.Prelude.{◌≡◌, ℕ, ◌+◌, ◌-◌, ◌/◌, ◌%◌, ◌<◌, ◌==◌, nat_lt, min, Bool, false}
 use Rattle.std.specs.Prelude.{List, [], ◌∷◌, ◌++◌, length, set, slice_get, get_or, Option, Some}
+use Rattle.std.specs.Prelude.{drop}
 use Rattle.std.specs.Prelude.{None, unwrap_or}
 use Rattle.std.specs.Prelude.{Result, Ok, Err, IfSome, if◌then◌else◌, is_some}
 use Rattle.oxc_sourcemap_tokens.specs.declared.position.Position.{Position}
@@ -13,31 +14,38 @@ use Rattle.oxc_sourcemap_scopes.specs.declared.errors.ScopesFaultKind.TheVariant
 use Rattle.oxc_sourcemap_scopes.specs.declared.errors.ScopesFaultKind.TheVariants.{TooDeep}
 use Rattle.oxc_sourcemap_scopes.specs.declared.scopes.ScopeInfo.{ScopeInfo}
 use Rattle.oxc_sourcemap_scopes.specs.declared.scopes.RangeInfo.{RangeInfo}
+use Rattle.oxc_sourcemap_scopes.specs.declared.scopes.Value.{Value}
 use Rattle.oxc_sourcemap_scopes.specs.Faults.{error_at, ◌>>=◌}
+use Rattle.oxc_sourcemap_scopes.specs.Numbers.{before_others}
 use Rattle.oxc_sourcemap_scopes.specs.Trees.{Grown, nothing_grown, started, ended, at_next_source}
 
--- What the items so far say, and the name, the kind and the definition that the next ones are relative to.
+-- What the items so far say, and the name, the kind, the variable and the definition that the next ones are relative to.
 pub record State : Type 0 where
   pub scopes : Grown
   pub scope_infos : List ScopeInfo
+  pub variables : List (List ℕ)
   pub ranges : Grown
   pub range_infos : List RangeInfo
+  pub values : List (List Value)
   pub name : ℕ
   pub kind : ℕ
+  pub variable : ℕ
   pub definition : ℕ
 
 -- before the first item
 abbrev pub nothing_read : State
-nothing_read = record { scopes = nothing_grown; scope_infos = []; ranges = nothing_grown; range_infos = []; name = 0; kind = 0; definition = 0 }
+nothing_read = record { scopes = nothing_grown; scope_infos = []; variables = []; ranges = nothing_grown; range_infos = []; values = []; name = 0; kind = 0; variable = 0; definition = 0 }
 
 -- a definition leads to one of so many scopes
 abbrev pub IsDefined : ℕ → RangeInfo → Type 0
 IsDefined count info = IfSome info.definition (λ i. i < count)
 
--- each scope and each range is told of once, and definitions lead to scopes
+-- Each scope and each range is told of once, and has a list of variables or of values; and definitions lead to scopes.
 pub record IsState (s : State) : Type 0 where
   pub scopes : length s.scope_infos ≡ length s.scopes.spans
+  pub variables : length s.variables ≡ length s.scopes.spans
   pub ranges : length s.range_infos ≡ length s.ranges.spans
+  pub values : length s.values ≡ length s.ranges.spans
   pub definitions : (i : ℕ) → (info : RangeInfo) → slice_get s.range_infos i ≡ Some info → IsDefined (length s.scopes.spans) info
 
 -- a number of an item, which begins at this byte, by its index
@@ -89,6 +97,7 @@ scope_started names at s ns = do
   Ok (record s {
     scopes = started s.scopes here;
     scope_infos = s.scope_infos ++ record { name = name; kind = kind; is_stack_frame = has_flag flags 4 } ∷ [];
+    variables = s.variables ++ [] ∷ [];
     name = unwrap_or name s.name;
     kind = unwrap_or kind s.kind;
   })
@@ -115,6 +124,53 @@ scope_ended at s ns = do
     | Some i ↦ next_if_closed at (record s { scopes = ended s.scopes i here })
   ]
 
+-- the indices to which signed numbers lead, each moved from the one before, the first from the last one
+abbrev pub indices_moved : ℕ → ℕ → ℕ → List ℕ → Result (List ℕ) ScopesError
+indices_moved at last count [] = Ok []
+indices_moved at last count (raw ∷ more) = index_moved at last raw count >>= λ i. before_others i (indices_moved at i count more)
+
+-- the last of these, else the one before them
+abbrev pub last_of : ℕ → List ℕ → ℕ
+last_of before [] = before
+last_of before (i ∷ more) = last_of i more
+
+-- a list with the indices that were read behind it, and the last one
+abbrev pub with_indices : List ℕ → ℕ → Result (List ℕ) ScopesError → Result (List ℕ × ℕ) ScopesError
+with_indices list before (Ok found) = Ok (list ++ found, last_of before found)
+with_indices list before (Err e) = Err e
+
+-- `D` NAME ..: variables of the innermost scope that is open
+unfoldable pub variables_read : ℕ → ℕ → State → List ℕ → Result State ScopesError
+variables_read names at s ns = elim s.scopes.current [
+  | None ↦ Err (error_at NothingOpen at)
+  | Some i ↦ (with_indices (get_or s.variables i []) s.variable (indices_moved at s.variable names (drop 1 ns)) >>= λ found.
+      Ok (record s { variables = set s.variables i found.0; variable = found.1 }))
+]
+
+-- a value: none, or the expression that the name has whose index is one less
+abbrev pub value_read : ℕ → ℕ → ℕ → Result Value ScopesError
+value_read at count raw =
+    if raw == 0 then Ok (record { expression = None })
+    else if nat_lt (raw - 1) (min count 4294967295) then Ok (record { expression = Some (raw - 1) })
+    else Err (error_at BadIndex at)
+
+-- the values that numbers stand for
+abbrev pub all_values : ℕ → ℕ → List ℕ → Result (List Value) ScopesError
+all_values at count [] = Ok []
+all_values at count (raw ∷ more) = value_read at count raw >>= λ value. all_values at count more >>= λ values. Ok (value ∷ values)
+
+-- a list with the values that were read behind it
+abbrev pub with_values : List Value → Result (List Value) ScopesError → Result (List Value) ScopesError
+with_values list (Ok found) = Ok (list ++ found)
+with_values list (Err e) = Err e
+
+-- `G` VALUE ..: values in the innermost range that is open, of the variables of its scope in their order
+unfoldable pub values_read : ℕ → ℕ → State → List ℕ → Result State ScopesError
+values_read names at s ns = elim s.ranges.current [
+  | None ↦ Err (error_at NothingOpen at)
+  | Some i ↦ (with_values (get_or s.values i []) (all_values at names (drop 1 ns)) >>= λ found. Ok (record s { values = set s.values i found }))
+]
+
 -- `E` FLAGS [LINE] COLUMN [DEFINITION]: a range starts, within the innermost that is open
 unfoldable pub range_started : ℕ → State → List ℕ → Result State ScopesError
 range_started at s ns = do
@@ -127,6 +183,7 @@ range_started at s ns = do
   Ok (record s {
     ranges = started s.ranges here;
     range_infos = s.range_infos ++ record { definition = definition; is_stack_frame = has_flag flags 4; is_hidden = has_flag flags 8; call_site = None } ∷ [];
+    values = s.values ++ [] ∷ [];
     definition = unwrap_or definition s.definition;
   })
 
@@ -173,7 +230,9 @@ item_read names at s ns = number_at at ns 0 >>= λ tag.
     if tag == 0 then source_passed at s
     else if tag == 1 then scope_started names at s ns
     else if tag == 2 then scope_ended at s ns
+    else if tag == 3 then variables_read names at s ns
     else if tag == 4 then range_started at s ns
     else if tag == 5 then range_ended at s ns
+    else if tag == 6 then values_read names at s ns
     else if tag == 8 then call_site_read at s ns
     else Ok s

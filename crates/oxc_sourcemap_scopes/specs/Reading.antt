@@ -16,27 +16,33 @@ use Rattle.oxc_sourcemap_scopes.specs.declared.errors.ScopesFaultKind.TheVariant
 use Rattle.oxc_sourcemap_scopes.specs.declared.scopes.Span.{Span}
 use Rattle.oxc_sourcemap_scopes.specs.declared.scopes.ScopeInfo.{ScopeInfo}
 use Rattle.oxc_sourcemap_scopes.specs.declared.scopes.RangeInfo.{RangeInfo}
+use Rattle.oxc_sourcemap_scopes.specs.declared.scopes.Value.{Value}
 use Rattle.oxc_sourcemap_scopes.specs.Faults.{error_at, ◌>>=◌}
 use Rattle.oxc_sourcemap_scopes.specs.Numbers.{numbers_of}
 use Rattle.oxc_sourcemap_scopes.specs.Items.{State, nothing_read, item_read, IsDefined}
 use Rattle.oxc_sourcemap_scopes.specs.Trees.{AreNested, AreWithin}
 
--- Scopes: those of all sources, one source after the other, and ranges, both in the order of their starts.
+-- Scopes: those of all sources, one source after the other, each with its variables, and ranges, each with their values; both in the
+-- order of their starts.
 pub record ScopesRecord : Type 0 where
   pub sources : ℕ
   pub scopes : List Span
   pub scope_infos : List ScopeInfo
+  pub variables : List (List ℕ)
   pub ranges : List Span
   pub range_infos : List RangeInfo
+  pub values : List (List Value)
 
--- scopes and ranges are nested, each is told of once, and definitions lead to scopes
+-- Scopes and ranges are nested, each is told of once, and has a list of variables or of values; and definitions lead to scopes.
 pub record AreSound (s : ScopesRecord) : Type 0 where
   pub scopes : AreNested s.scopes
   pub ranges : AreNested s.ranges
   pub scopes_within : AreWithin s.scopes
   pub ranges_within : AreWithin s.ranges
   pub scope_infos : length s.scope_infos ≡ length s.scopes
+  pub variables : length s.variables ≡ length s.scopes
   pub range_infos : length s.range_infos ≡ length s.ranges
+  pub values : length s.values ≡ length s.ranges
   pub definitions : (i : ℕ) → (info : RangeInfo) → slice_get s.range_infos i ≡ Some info → IsDefined (length s.scopes) info
 
 -- `,`, which separates items
@@ -53,7 +59,7 @@ items_read names at s (item ∷ more) =
 abbrev pub finished : ℕ → State → Result ScopesRecord ScopesError
 finished end s =
     if is_some s.scopes.current || is_some s.ranges.current then Err (error_at LeftOpen end)
-    else Ok (record { sources = s.scopes.source; scopes = s.scopes.spans; scope_infos = s.scope_infos; ranges = s.ranges.spans; range_infos = s.range_infos })
+    else Ok (record { sources = s.scopes.source; scopes = s.scopes.spans; scope_infos = s.scope_infos; variables = s.variables; ranges = s.ranges.spans; range_infos = s.range_infos; values = s.values })
 
 -- the items of a text, of which the empty one has none
 abbrev pub items_of : List ℕ → List (List ℕ)

@@ -9,7 +9,9 @@ pub use Rattle.oxc_sourcemap_scopes.specs.Items.{number_at, number_if, moved, in
 pub use Rattle.oxc_sourcemap_scopes.specs.Items.{has_flag, small_at, source_at, range_end, room_in}
 pub use Rattle.oxc_sourcemap_scopes.specs.Items.{nothing_read, scope_started, next_if_closed}
 pub use Rattle.oxc_sourcemap_scopes.specs.Items.{source_passed, scope_ended, range_started}
-pub use Rattle.oxc_sourcemap_scopes.specs.Items.{range_ended}
+pub use Rattle.oxc_sourcemap_scopes.specs.Items.{range_ended, indices_moved, with_indices}
+pub use Rattle.oxc_sourcemap_scopes.specs.Items.{variables_read, value_read, all_values, with_values}
+pub use Rattle.oxc_sourcemap_scopes.specs.Items.{values_read}
 pub use Rattle.oxc_sourcemap_scopes.specs.Items.{call_site_read, item_read}
 pub use Rattle.oxc_sourcemap_scopes.specs.Reading.{items_read, items_of, finished, scopes_of}
 pub use Rattle.oxc_sourcemap_scopes.specs.Reading.{read_scopes, scopes_text, name_count}
@@ -20,6 +22,8 @@ pub use Rattle.oxc_sourcemap_scopes.specs.Asking.{function_at}
 pub use Rattle.oxc_sourcemap_scopes.specs.Asking.{callers_of, frames_of, frames_at, frames_record}
 pub use Rattle.oxc_sourcemap_scopes.specs.Asking.{with_frames}
 pub use Rattle.oxc_sourcemap_scopes.specs.Asking.{scope_seen, range_seen, IsCalled}
+pub use Rattle.oxc_sourcemap_scopes.specs.Asking.{variables_of, values_of, value_count}
+pub use Rattle.oxc_sourcemap_scopes.specs.Asking.{value_seen, expression_of}
 pub use Rattle.oxc_sourcemap_scopes.specs.Items.{no_range}
 pub use Rattle.oxc_sourcemap_tokens.specs.Results.{lent_items}
 pub use Rattle.oxc_sourcemap_scopes.specs.Messages.{fault_text, error_text}

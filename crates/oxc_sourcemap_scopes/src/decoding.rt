@@ -24,8 +24,7 @@ fn items_of(alloc: Global, text: &str) -> Memory<Vec<&str>>
 }
 
 /// The scopes that a text means, the member `scopes` of a map with so many names; or its first fault. Its names and kinds are indices
-/// of names. Variables of scopes, their values in ranges, and items of
-/// other tags are passed over, but for faults of their digits.
+/// of names. Items of other tags are passed over, but for faults of their digits.
 ///
 /// Fails with `Fault` of the first fault, with the index of the byte at which its item begins, and with `OutOfMemory`.
 ///
@@ -50,7 +49,7 @@ pub fn decode_scopes(alloc: Global, text: &str, names: usize) -> Result<Scopes, 
     let mut at: usize = 0;
     for item in &items {
         read_numbers(alloc, item.as_bytes(), at, &mut numbers)?;
-        read = read.read_item(names, at, &numbers)?;
+        read = read.read_item(alloc, names, at, &numbers)?;
         at += item.len() + 1;
     }
     read.finish(text.len())

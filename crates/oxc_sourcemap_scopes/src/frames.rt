@@ -1,9 +1,11 @@
 //! What is asked of scopes: the innermost scope, range or function at a position, and the frames that a position stands for.
-ghost use Rattle.std.specs.Prelude.{◌≡◌, ◌<◌, length, get_or, Some, IfSome, IfOk};
+ghost use Rattle.std.specs.Prelude.{◌≡◌, ◌<◌, length, get_or, option_map, Some, IfSome, IfOk};
 ghost use Rattle.oxc_sourcemap_scopes.specs.Words.{scope_at, range_at, function_of, function_at};
 ghost use Rattle.oxc_sourcemap_scopes.specs.Words.{frames_at, frames_record, scope_seen};
 ghost use Rattle.oxc_sourcemap_scopes.specs.Words.{range_seen, place, AreNested};
 ghost use Rattle.oxc_sourcemap_scopes.specs.Words.{callers_of, no_range, IsCalled};
+ghost use Rattle.oxc_sourcemap_scopes.specs.Words.{variables_of, values_of, value_count};
+ghost use Rattle.oxc_sourcemap_scopes.specs.Words.{value_seen, expression_of};
 
 use crate::scopes::{CallSite, ScopeFrame, ScopeInfo, Scopes, Span};
 use crate::trees::innermost_at;
@@ -109,6 +111,35 @@ impl Scopes {
             call_site: info.call_site,
             parent: span.parent,
         })
+    }
+
+    /// The variables of a scope by its index, as indices of names, in their order; None past the last scope.
+    pub fn get_variables(&self, scope: usize) -> Option<&[u32]>
+        ensures { option_map (λ list. list.now) result ≡ variables_of self.now scope }
+    {
+        match self.variables.get(scope) {
+            Some(list) => Some(list.as_slice()),
+            None => None,
+        }
+    }
+
+    /// How many values a range has, by its index: of as many variables of its scope, the first ones. A range past the last one has none.
+    pub fn value_count(&self, range: usize) -> usize
+        ensures { result ≡ value_count (values_of self.now range) }
+    {
+        match self.values.get(range) {
+            Some(list) => list.len(),
+            None => 0,
+        }
+    }
+
+    /// The value of a variable in a range, both by their index: the index of the name that has the expression for it. None if it has no
+    /// value there, and past the last value or range.
+    pub fn get_value(&self, range: usize, variable: usize) -> Option<u32>
+        ensures { result ≡ expression_of (value_seen (values_of self.now range) variable) }
+    {
+        let list = self.values.get(range)?;
+        list.get(variable)?.expression
     }
 
     /// The index of the innermost scope of a source that contains a position.

@@ -4,30 +4,36 @@ ghost use Rattle.oxc_sourcemap_scopes.specs.Words.{Reads, nothing_read, scope_st
 ghost use Rattle.oxc_sourcemap_scopes.specs.Words.{next_if_closed};
 ghost use Rattle.oxc_sourcemap_scopes.specs.Words.{source_passed, scope_ended, range_started};
 ghost use Rattle.oxc_sourcemap_scopes.specs.Words.{range_ended, call_site_read, item_read};
+ghost use Rattle.oxc_sourcemap_scopes.specs.Words.{variables_read, values_read};
 ghost use Rattle.oxc_sourcemap_scopes.specs.Words.{finished};
 
 use crate::errors::{ScopesError, ScopesFaultKind};
 use crate::fields::{
     has_flag, index_if, moved, number_at, number_if, range_end, room_in, small_at, source_at,
 };
-use crate::scopes::{CallSite, RangeInfo, ScopeInfo, Scopes};
+use crate::lists::{after_tag, push_indices, push_values};
+use crate::scopes::{CallSite, RangeInfo, ScopeInfo, Scopes, Value};
 use crate::trees::Tree;
 use std::alloc::Global;
 use std::marker::Model;
 
-/// What the items so far say, and the name, the kind and the definition that the next ones are relative to.
+/// What the items so far say, and the name, the kind, the variable and the definition that the next ones are relative to.
 #[derive(Drop)]
 pub(crate) struct Read {
     scopes: Tree,
     scope_infos: Vec<ScopeInfo>,
+    variables: Vec<Vec<u32>>,
     ranges: Tree,
     range_infos: Vec<RangeInfo>,
+    values: Vec<Vec<Value>>,
     name: u32,
     kind: u32,
+    variable: u32,
     definition: u32,
 }
 
 impl Model for Read {
+    ghost use Rattle.std.specs.Prelude.{map};
     ghost use Rattle.oxc_sourcemap_scopes.specs.Items.{State, IsState};
 
     ghost Value = { State };
@@ -35,20 +41,26 @@ impl Model for Read {
     ghost view = { λ r. record {
       scopes = r.scopes;
       scope_infos = r.scope_infos.items;
+      variables = map (λ v. v.items) r.variables.items;
       ranges = r.ranges;
       range_infos = r.range_infos.items;
+      values = map (λ v. v.items) r.values.items;
       name = r.name;
       kind = r.kind;
+      variable = r.variable;
       definition = r.definition;
     } };
 
     ghost invariant = { λ r. IsState (record {
       scopes = r.scopes;
       scope_infos = r.scope_infos.items;
+      variables = map (λ v. v.items) r.variables.items;
       ranges = r.ranges;
       range_infos = r.range_infos.items;
+      values = map (λ v. v.items) r.values.items;
       name = r.name;
       kind = r.kind;
+      variable = r.variable;
       definition = r.definition;
     }) };
 }
@@ -60,10 +72,13 @@ impl Read {
         Self {
             scopes: Tree::new(alloc),
             scope_infos: Vec::new(alloc),
+            variables: Vec::new(alloc),
             ranges: Tree::new(alloc),
             range_infos: Vec::new(alloc),
+            values: Vec::new(alloc),
             name: 0,
             kind: 0,
+            variable: 0,
             definition: 0,
         }
     }
@@ -95,7 +110,13 @@ impl Read {
 
     /// `B` FLAGS LINE COLUMN [NAME] [KIND]: a scope starts, within the innermost that is open.
     #[tactic(auto, unfolding(crate::specs::Items::scope_started))]
-    fn start_scope(mut self, names: usize, at: usize, numbers: &[u64]) -> Result<Self, ScopesError>
+    fn start_scope(
+        mut self,
+        alloc: Global,
+        names: usize,
+        at: usize,
+        numbers: &[u64],
+    ) -> Result<Self, ScopesError>
         ensures { Reads (λ r. r) result (scope_started names at self numbers.now) }
     {
         let flags = number_at(at, numbers, 1)?;
@@ -113,6 +134,7 @@ impl Read {
             kind,
             is_stack_frame: has_flag(flags, 4),
         })?;
+        self.variables.push(Vec::new(alloc))?;
         self.name = name.unwrap_or(self.name);
         self.kind = kind.unwrap_or(self.kind);
         Ok(self)
@@ -133,9 +155,28 @@ impl Read {
         self.next_if_closed(at)
     }
 
+    /// `D` NAME ..: variables of the innermost scope that is open.
+    #[tactic(auto, unfolding(crate::specs::Items::variables_read))]
+    fn read_variables(
+        mut self,
+        names: usize,
+        at: usize,
+        numbers: &[u64],
+    ) -> Result<Self, ScopesError>
+        ensures { Reads (λ r. r) result (variables_read names at self numbers.now) }
+    {
+        let Some(index) = self.scopes.current() else {
+            return Err(ScopesError::at(ScopesFaultKind::NothingOpen, at));
+        };
+        let before = self.variable;
+        let found = after_tag(numbers);
+        self.variable = push_indices(&mut self.variables[index], at, before, names, found)?;
+        Ok(self)
+    }
+
     /// `E` FLAGS [LINE] COLUMN [DEFINITION]: a range starts, within the innermost that is open.
     #[tactic(auto, unfolding(crate::specs::Items::range_started))]
-    fn start_range(mut self, at: usize, numbers: &[u64]) -> Result<Self, ScopesError>
+    fn start_range(mut self, alloc: Global, at: usize, numbers: &[u64]) -> Result<Self, ScopesError>
         ensures { Reads (λ r. r) result (range_started at self numbers.now) }
     {
         let flags = number_at(at, numbers, 1)?;
@@ -154,6 +195,7 @@ impl Read {
             is_hidden: has_flag(flags, 8),
             call_site: None,
         })?;
+        self.values.push(Vec::new(alloc))?;
         self.definition = definition.unwrap_or(self.definition);
         Ok(self)
     }
@@ -168,6 +210,18 @@ impl Read {
             return Err(ScopesError::at(ScopesFaultKind::NothingOpen, at));
         };
         self.ranges.end(index, here);
+        Ok(self)
+    }
+
+    /// `G` VALUE ..: values in the innermost range that is open, of the variables of its scope in their order.
+    #[tactic(auto, unfolding(crate::specs::Items::values_read))]
+    fn read_values(mut self, names: usize, at: usize, numbers: &[u64]) -> Result<Self, ScopesError>
+        ensures { Reads (λ r. r) result (values_read names at self numbers.now) }
+    {
+        let Some(index) = self.ranges.current() else {
+            return Err(ScopesError::at(ScopesFaultKind::NothingOpen, at));
+        };
+        push_values(&mut self.values[index], at, names, after_tag(numbers))?;
         Ok(self)
     }
 
@@ -198,6 +252,7 @@ impl Read {
     #[tactic(auto, unfolding(crate::specs::Items::item_read))]
     pub(crate) fn read_item(
         self,
+        alloc: Global,
         names: usize,
         at: usize,
         numbers: &[u64],
@@ -206,10 +261,12 @@ impl Read {
     {
         match number_at(at, numbers, 0)? {
             0 => self.pass_source(at),
-            1 => self.start_scope(names, at, numbers),
+            1 => self.start_scope(alloc, names, at, numbers),
             2 => self.end_scope(at, numbers),
-            4 => self.start_range(at, numbers),
+            3 => self.read_variables(names, at, numbers),
+            4 => self.start_range(alloc, at, numbers),
             5 => self.end_range(at, numbers),
+            6 => self.read_values(names, at, numbers),
             8 => self.read_call_site(at, numbers),
             _ => Ok(self),
         }
@@ -226,8 +283,10 @@ impl Read {
             sources: self.scopes.source(),
             scopes: self.scopes.into_spans(),
             scope_infos: self.scope_infos,
+            variables: self.variables,
             ranges: self.ranges.into_spans(),
             range_infos: self.range_infos,
+            values: self.values,
         })
     }
 }

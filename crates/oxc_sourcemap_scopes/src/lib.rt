@@ -9,6 +9,7 @@ mod fields;
 mod frames;
 mod items;
 mod laws;
+mod lists;
 mod numbers;
 mod scopes;
 mod trees;

@@ -53,17 +53,29 @@ pub struct ScopeFrame {
     pub call_site: Option<CallSite>,
 }
 
+/// The value of a variable in a range of the generated code.
+#[derive(Clone, Copy)]
+pub(crate) struct Value {
+    /// The index of the name that has its expression; None if it has no value.
+    pub(crate) expression: Option<u32>,
+}
+
 /// The scopes of a map: for each source the tree of its scopes, and for the generated code a tree of ranges.
 #[derive(Drop)]
 pub struct Scopes {
     pub(crate) sources: u32,
     pub(crate) scopes: Vec<Span>,
     pub(crate) scope_infos: Vec<ScopeInfo>,
+    /// The variables of each scope, as indices of names.
+    pub(crate) variables: Vec<Vec<u32>>,
     pub(crate) ranges: Vec<Span>,
     pub(crate) range_infos: Vec<RangeInfo>,
+    /// The values in each range, of the variables of its scope.
+    pub(crate) values: Vec<Vec<Value>>,
 }
 
 impl Model for Scopes {
+    ghost use Rattle.std.specs.Prelude.{map};
     ghost use Rattle.oxc_sourcemap_scopes.specs.Reading.{ScopesRecord, AreSound};
 
     ghost Value = { ScopesRecord };
@@ -72,16 +84,20 @@ impl Model for Scopes {
       sources = s.sources;
       scopes = s.scopes.items;
       scope_infos = s.scope_infos.items;
+      variables = map (λ v. v.items) s.variables.items;
       ranges = s.ranges.items;
       range_infos = s.range_infos.items;
+      values = map (λ v. v.items) s.values.items;
     } };
 
     ghost invariant = { λ s. AreSound (record {
       sources = s.sources;
       scopes = s.scopes.items;
       scope_infos = s.scope_infos.items;
+      variables = map (λ v. v.items) s.variables.items;
       ranges = s.ranges.items;
       range_infos = s.range_infos.items;
+      values = map (λ v. v.items) s.values.items;
     }) };
 }
 

@@ -1,5 +1,5 @@
 use Rattle.std.proofs.Common.{◌≡◌, ◌<◌, ◌≤◌, ◌++◌, ◌∷◌, [], length, get_or, true, false, Some, None}
-use Rattle.std.proofs.Common.{refl, sym, ap, ◌∙◌, arith, rules}
+use Rattle.std.proofs.Common.{map, refl, sym, ap, ◌∙◌, arith, rules}
 use Rattle.std.proofs.lemmas.List.{get_or_read, append-nil}
 use Rattle.oxc_sourcemap_scopes.specs.declared.scopes.RangeInfo.{RangeInfo}
 use Rattle.oxc_sourcemap_scopes.specs.Trees.{rank, span_at, parent_rank, no_span}
@@ -14,7 +14,7 @@ use Rattle.oxc_sourcemap_scopes.proofs.scopes.Scopes.push_callers.Goals.{in_defa
 
 pub returns-then-info : goal.returns-then-info
 returns-then-info c =
-    let s : ScopesRecord = record { sources = c.self.inside.sources; scopes = c.self.inside.scopes.items; scope_infos = c.self.inside.scope_infos.items; ranges = c.self.inside.ranges.items; range_infos = c.self.inside.range_infos.items } in
+    let s : ScopesRecord = record { sources = c.self.inside.sources; scopes = c.self.inside.scopes.items; scope_infos = c.self.inside.scope_infos.items; variables = map (λ v. v.items) c.self.inside.variables.items; ranges = c.self.inside.ranges.items; range_infos = c.self.inside.range_infos.items; values = map (λ v. v.items) c.self.inside.values.items } in
     let v : s ≡ c.args.self.now = c.self.view_is in
     let i = c.in-Some.index in
     let within : rank c.loop-next.next ≤ length s.ranges = rw (← v) at c.loop-next.invariant.within in
@@ -26,7 +26,7 @@ returns-then-info c =
 
 pub loop-next-preserved : goal.loop-next-preserved
 loop-next-preserved c =
-    let s : ScopesRecord = record { sources = c.self.inside.sources; scopes = c.self.inside.scopes.items; scope_infos = c.self.inside.scope_infos.items; ranges = c.self.inside.ranges.items; range_infos = c.self.inside.range_infos.items } in
+    let s : ScopesRecord = record { sources = c.self.inside.sources; scopes = c.self.inside.scopes.items; scope_infos = c.self.inside.scope_infos.items; variables = map (λ v. v.items) c.self.inside.variables.items; ranges = c.self.inside.ranges.items; range_infos = c.self.inside.range_infos.items; values = map (λ v. v.items) c.self.inside.values.items } in
     let v : s ≡ c.args.self.now = c.self.view_is in
     let i = c.in-Some.index in
     let within : rank c.loop-next.next ≤ length s.ranges = rw (← v) at c.loop-next.invariant.within in

@@ -1,0 +1,21 @@
+use Rattle.std.proofs.Common.{◌≡◌, ◌<◌, [], length, map, get_or, drop, Some, Ok, arith, rules}
+use Rattle.std.proofs.lemmas.List.{get_or_read, length-map}
+use Rattle.oxc_sourcemap_scopes.specs.Items.{State, with_indices, indices_moved}
+use Rattle.oxc_sourcemap_scopes.proofs.Appended.{list-at, list-set, variables-appended}
+use Rattle.oxc_sourcemap_scopes.proofs.items.Read.read_variables.Goals as goal
+
+pub returns : goal.returns
+returns c =
+    let r = c.self.inside in
+    let s : State = record { scopes = r.scopes; scope_infos = r.scope_infos.items; variables = map (λ v. v.items) r.variables.items; ranges = r.ranges; range_infos = r.range_infos.items; values = map (λ v. v.items) r.values.items; name = r.name; kind = r.kind; variable = r.variable; definition = r.definition } in
+    let v : s ≡ c.args.self = c.self.view_is in
+    let i = c.in-Some.index in
+    let x = c.index_mut.result.now in
+    let new = c.push_indices.new.list in
+    let last = c.in_ok-self-inside.field-0 in
+    let o : s.scopes.current ≡ Some i = search rules in
+    let within : i < length s.scopes.spans = search rules in
+    let l : i < length r.variables.items = omega (arith, within, c.self.invariant.variables, length-map r.variables.items (λ v. v.items)) in
+    let at : get_or s.variables i [] ≡ x.items = list-at r.variables.items i x l (get_or_read r.variables.items i x l c.index_mut.ensures.value x) in
+    let read : with_indices (get_or s.variables i []) s.variable (indices_moved c.args.at s.variable c.args.names (drop 1 c.args.numbers.now)) ≡ Ok (new.items, last) = rw at (search rules) in
+    rw (← v, list-set r.variables.items i new) (variables-appended c.args.names c.args.at s c.args.numbers.now i last new.items o read, tt)

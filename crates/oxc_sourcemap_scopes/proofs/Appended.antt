@@ -1,6 +1,7 @@
 -- What is appended to the lists of scopes and ranges.
 use Rattle.std.proofs.Common.{◌≡◌, ℕ, ◌<◌, List, [], ◌∷◌, ◌++◌, length, map, get_or, set}
-use Rattle.std.proofs.Common.{Some, drop, Result, Ok, Err, refl, append_assoc, sym, ap, ◌∙◌, Vec, Global}
+use Rattle.std.proofs.Common.{Some, drop, Result, Ok, Err, refl, append_assoc, sym, ap, ◌∙◌, Vec}
+use Rattle.std.proofs.Common.{Global}
 use Rattle.std.proofs.lemmas.List.{map-set, get_or-map}
 use Rattle.oxc_sourcemap_scopes.specs.declared.errors.ScopesError.{ScopesError}
 use Rattle.oxc_sourcemap_scopes.specs.declared.scopes.Value.{Value}

@@ -10,8 +10,8 @@ pub use Rattle.oxc_sourcemap_scopes.specs.Items.{has_flag, small_at, source_at, 
 pub use Rattle.oxc_sourcemap_scopes.specs.Items.{nothing_read, scope_started, next_if_closed}
 pub use Rattle.oxc_sourcemap_scopes.specs.Items.{source_passed, scope_ended, range_started}
 pub use Rattle.oxc_sourcemap_scopes.specs.Items.{range_ended, indices_moved, with_indices}
-pub use Rattle.oxc_sourcemap_scopes.specs.Items.{variables_read, value_read, all_values, with_values}
-pub use Rattle.oxc_sourcemap_scopes.specs.Items.{values_read}
+pub use Rattle.oxc_sourcemap_scopes.specs.Items.{variables_read, value_read, all_values}
+pub use Rattle.oxc_sourcemap_scopes.specs.Items.{with_values, values_read}
 pub use Rattle.oxc_sourcemap_scopes.specs.Items.{call_site_read, item_read}
 pub use Rattle.oxc_sourcemap_scopes.specs.Reading.{items_read, items_of, finished, scopes_of}
 pub use Rattle.oxc_sourcemap_scopes.specs.Reading.{read_scopes, scopes_text, name_count}

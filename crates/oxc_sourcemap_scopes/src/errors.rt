@@ -43,7 +43,7 @@ pub enum ScopesFaultKind {
     /// Its index of a name or of a scope is below 0, past the last one (of scopes, the last that starts before it in the text), or above
     /// 4294967294.
     BadIndex,
-    /// It is an end, or a call site, and nothing that it could belong to is open.
+    /// It is an end, variables, values or a call site, and nothing that it could belong to is open.
     NothingOpen,
     /// A source without scopes comes within the scopes of another.
     NotClosed,

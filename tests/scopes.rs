@@ -250,6 +250,19 @@ const FAULTS: &[(&str, usize, ScopesFaultKind, usize)] = &[
     ("BAAA,FA,CAA", 0, NothingOpen, 5),
     ("IAAA", 0, NothingOpen, 0),
     ("EAA,FA,IAAA", 0, NothingOpen, 7),
+    // Sub-ranges of a variable that has no value yet, or has some already; and their numbers.
+    ("EAA,HA,FB", 1, BadIndex, 4),
+    ("EAA,GB,HB,FB", 1, BadIndex, 7),
+    ("EAA,HAAAB,GA,FB", 1, BadIndex, 4),
+    ("EAA,GB,HA,HA,FB", 1, BadIndex, 10),
+    ("EAA,GB,HAACB,HAADB,FB", 1, BadIndex, 13),
+    ("EAA,GB,HAAAC,FB", 1, BadIndex, 7),
+    ("EAA,GB,H,FB", 1, MissingNumber, 7),
+    ("EAA,GB,HAA,FB", 1, MissingNumber, 7),
+    ("EAA,GB,HAAB,FB", 1, MissingNumber, 7),
+    ("EAA,GB,HAggggggEAA,FB", 1, TooLarge, 7),
+    ("HA", 1, NothingOpen, 0),
+    ("EAA,GB,FB,HA", 1, NothingOpen, 10),
     ("DA", 1, NothingOpen, 0),
     ("BAAA,CAA,D", 1, NothingOpen, 9),
     ("EAA,DA,FA", 1, NothingOpen, 4),
@@ -363,6 +376,38 @@ fn variables_have_values(rt: HostRuntime) -> Result<(), ScopesError> {
         same(&rt, *text, scopes.get_variables(variables.len()), None);
         same(&rt, *text, scopes.get_variables(usize::MAX), None);
         same(&rt, *text, (scopes.value_count(values.len()), scopes.get_value(values.len(), 0)), (0, None));
+    }
+    Ok(())
+}
+
+/// A text, how many names there are, a range, a variable, a position, and the value there.
+const PIECES: &[(&str, usize, usize, usize, At, Option<u32>)] = &[
+    ("BAAA,DAC,CJA,ECAA,GAD,HBBBE,FCE", 4, 0, 0, (1, 1), None),
+    ("BAAA,DAC,CJA,ECAA,GAD,HBBBE,FCE", 4, 0, 1, (0, 0), Some(2)),
+    ("BAAA,DAC,CJA,ECAA,GAD,HBBBE,FCE", 4, 0, 1, (1, 0), Some(2)),
+    ("BAAA,DAC,CJA,ECAA,GAD,HBBBE,FCE", 4, 0, 1, (1, 1), Some(3)),
+    ("BAAA,DAC,CJA,ECAA,GAD,HBBBE,FCE", 4, 0, 1, (2, 3), Some(3)),
+    ("EAC,GBC,HBACAADA,HAACD,FK", 3, 0, 0, (0, 3), Some(0)),
+    ("EAC,GBC,HBACAADA,HAACD,FK", 3, 0, 0, (0, 4), Some(2)),
+    ("EAC,GBC,HBACAADA,HAACD,FK", 3, 0, 1, (0, 3), Some(1)),
+    ("EAC,GBC,HBACAADA,HAACD,FK", 3, 0, 1, (0, 4), None),
+    ("EAC,GBC,HBACAADA,HAACD,FK", 3, 0, 1, (0, 7), None),
+    ("EAC,GBC,HBACAADA,HAACD,FK", 3, 0, 2, (0, 4), None),
+    ("EAC,GBC,HBACAADA,HAACD,FK", 3, 1, 0, (0, 4), None),
+    // Around another range, and from its start on.
+    ("EAC,GAA,HABAB,EAA,GA,HAAAB,FB,HBACC,FCA", 3, 0, 0, (0, 9), None),
+    ("EAC,GAA,HABAB,EAA,GA,HAAAB,FB,HBACC,FCA", 3, 0, 0, (1, 0), Some(0)),
+    ("EAC,GAA,HABAB,EAA,GA,HAAAB,FB,HBACC,FCA", 3, 0, 1, (0, 3), None),
+    ("EAC,GAA,HABAB,EAA,GA,HAAAB,FB,HBACC,FCA", 3, 0, 1, (0, 4), Some(1)),
+    ("EAC,GAA,HABAB,EAA,GA,HAAAB,FB,HBACC,FCA", 3, 1, 0, (0, 2), Some(0)),
+    ("EAA,GB,HA,FB", 1, 0, 0, (0, 0), Some(0)),
+];
+
+#[test]
+fn values_have_pieces(rt: HostRuntime) -> Result<(), ScopesError> {
+    for (text, names, range, variable, (line, column), wanted) in PIECES {
+        let scopes = decode_scopes(rt.alloc(), *text, *names)?;
+        same(&rt, *text, scopes.value_at(*range, *variable, *line, *column), *wanted);
     }
     Ok(())
 }

@@ -12,7 +12,7 @@ use Rattle.oxc_sourcemap_scopes.specs.declared.scopes.RangeInfo.{RangeInfo}
 use Rattle.oxc_sourcemap_scopes.specs.declared.scopes.Value.{Value}
 use Rattle.oxc_sourcemap_scopes.specs.Faults.{◌>>=◌}
 use Rattle.oxc_sourcemap_scopes.specs.Numbers.{numbers_of}
-use Rattle.oxc_sourcemap_scopes.specs.Trees.{Grown, started, ended}
+use Rattle.oxc_sourcemap_scopes.specs.Trees.{Grown, started, ended, span_at}
 use Rattle.oxc_sourcemap_scopes.specs.Items.{State, nothing_read, number_at, number_if, moved}
 use Rattle.oxc_sourcemap_scopes.specs.Items.{index_moved, index_if, has_flag, room_in}
 use Rattle.oxc_sourcemap_scopes.specs.Items.{scope_started}
@@ -20,7 +20,9 @@ use Rattle.oxc_sourcemap_scopes.specs.Items.{next_if_closed, source_passed, scop
 use Rattle.oxc_sourcemap_scopes.specs.Items.{range_started, range_end, range_ended, small_at}
 use Rattle.oxc_sourcemap_scopes.specs.Items.{source_at, call_site_read, item_read}
 use Rattle.oxc_sourcemap_scopes.specs.Items.{indices_moved, with_indices, variables_read}
-use Rattle.oxc_sourcemap_scopes.specs.Items.{all_values, with_values, values_read}
+use Rattle.oxc_sourcemap_scopes.specs.Items.{all_values, with_others, values_read, sub_ranges_read}
+use Rattle.oxc_sourcemap_scopes.specs.Items.{value_to_split, all_pieces}
+use Rattle.oxc_sourcemap_scopes.specs.declared.scopes.ValuePiece.{ValuePiece}
 use Rattle.oxc_sourcemap_scopes.specs.Reading.{ScopesRecord, items_read, items_of, finished}
 use Rattle.oxc_sourcemap_scopes.specs.Reading.{scopes_of}
 use Rattle.oxc_sourcemap_scopes.specs.Laws.{IsNamed}
@@ -68,8 +70,8 @@ module _ (names : ℕ) (P : State → Type 0)
     (closes : (at : ℕ) (s : State) → P s → IfOk (next_if_closed at s) P)
     (ends : (at : ℕ) (s : State) (i : ℕ) (here : Position) → P s → IfOk (next_if_closed at (record s { scopes = ended s.scopes i here })) P)
     (binds : (s : State) (lists : List (List ℕ)) (variable : ℕ) → P s → P (record s { variables = lists; variable = variable }))
-    (ranges : (s : State) (t : Grown) (infos : List RangeInfo) (values : List (List Value)) (definition : ℕ) → P s
-    → P (record s { ranges = t; range_infos = infos; values = values; definition = definition })) where
+    (ranges : (s : State) (t : Grown) (infos : List RangeInfo) (values : List (List Value)) (pieces : List (List ValuePiece)) (definition : ℕ) → P s
+    → P (record s { ranges = t; range_infos = infos; values = values; pieces = pieces; definition = definition })) where
   start-kept : (at : ℕ) (s : State) (ns : List ℕ) → P s → IfOk (scope_started names at s ns) P
   unfolding scope_started
   start-kept at s ns h =
@@ -92,16 +94,16 @@ module _ (names : ℕ) (P : State → Type 0)
   range-start-kept at s ns h =
       bound-any (number_at at ns 1) _ P (λ flags. bound-any (number_if (has_flag flags 1) at ns 2) _ P (λ line. bound-any (number_at at ns (if has_flag flags 1 then 3 else 2)) _ P (λ column.
       bound-any (moved at s.ranges.position line column) _ P (λ here. bound-any (index_if (has_flag flags 2) at ns (if has_flag flags 1 then 4 else 3) s.definition (length s.scopes.spans)) _ P (λ definition.
-      bound-any (room_in at s.ranges) _ P (λ room. ranges s _ _ _ _ h))))))
+      bound-any (room_in at s.ranges) _ P (λ room. ranges s _ _ _ _ _ h))))))
 
   range-end-kept : (at : ℕ) (s : State) (ns : List ℕ) → P s → IfOk (range_ended at s ns) P
   unfolding range_ended
-  range-end-kept at s ns h = bound-any (range_end at s.ranges.position ns) _ P (λ here. opened s.ranges.current _ _ P (λ i. ranges s _ s.range_infos s.values s.definition h))
+  range-end-kept at s ns h = bound-any (range_end at s.ranges.position ns) _ P (λ here. opened s.ranges.current _ _ P (λ i. ranges s _ s.range_infos s.values s.pieces s.definition h))
 
   call-kept : (at : ℕ) (s : State) (ns : List ℕ) → P s → IfOk (call_site_read at s ns) P
   unfolding call_site_read
   call-kept at s ns h =
-      bound-any (source_at at ns 1) _ P (λ source. bound-any (small_at at ns 2) _ P (λ line. bound-any (small_at at ns 3) _ P (λ column. opened s.ranges.current _ _ P (λ i. ranges s s.ranges _ s.values s.definition h))))
+      bound-any (source_at at ns 1) _ P (λ source. bound-any (small_at at ns 2) _ P (λ line. bound-any (small_at at ns 3) _ P (λ column. opened s.ranges.current _ _ P (λ i. ranges s s.ranges _ s.values s.pieces s.definition h))))
 
   variables-kept : (at : ℕ) (s : State) (ns : List ℕ) → P s → IfOk (variables_read names at s ns) P
   unfolding variables_read
@@ -110,14 +112,20 @@ module _ (names : ℕ) (P : State → Type 0)
   values-kept : (at : ℕ) (s : State) (ns : List ℕ) → P s → IfOk (values_read names at s ns) P
   unfolding values_read
   values-kept at s ns h =
-      opened s.ranges.current _ _ P (λ i. bound-any (with_values (get_or s.values i []) (all_values at names (drop 1 ns))) _ P (λ found. ranges s s.ranges s.range_infos _ s.definition h))
+      opened s.ranges.current _ _ P (λ i. bound-any (with_others (get_or s.values i []) (all_values at names (drop 1 ns))) _ P (λ found. ranges s s.ranges s.range_infos _ s.pieces s.definition h))
+
+  sub-ranges-kept : (at : ℕ) (s : State) (ns : List ℕ) → P s → IfOk (sub_ranges_read names at s ns) P
+  unfolding sub_ranges_read
+  sub-ranges-kept at s ns h =
+      opened s.ranges.current _ _ P (λ i. bound-any (number_at at ns 1) _ P (λ k. bound-any (value_to_split at (get_or s.values i []) k) _ P (λ value.
+      bound-any (with_others (get_or s.pieces i []) (all_pieces at k (span_at s.ranges.spans i).start names (drop 2 ns))) _ P (λ pieces. ranges s s.ranges s.range_infos _ _ s.definition h))))
 
   item-kept : (at : ℕ) (s : State) (ns : List ℕ) → P s → IfOk (item_read names at s ns) P
   unfolding item_read
   item-kept at s ns h =
       bound-any (number_at at ns 0) _ P (λ tag. branched (tag == 0) _ _ P (pass-kept at s h) (branched (tag == 1) _ _ P (start-kept at s ns h) (branched (tag == 2) _ _ P (end-kept at s ns h)
       (branched (tag == 3) _ _ P (variables-kept at s ns h) (branched (tag == 4) _ _ P (range-start-kept at s ns h) (branched (tag == 5) _ _ P (range-end-kept at s ns h)
-      (branched (tag == 6) _ _ P (values-kept at s ns h) (branched (tag == 8) _ _ P (call-kept at s ns h) h))))))))
+      (branched (tag == 6) _ _ P (values-kept at s ns h) (branched (tag == 7) _ _ P (sub-ranges-kept at s ns h) (branched (tag == 8) _ _ P (call-kept at s ns h) h)))))))))
 
   items-kept : (items : List (List ℕ)) (at : ℕ) (s : State) → P s → IfOk (items_read names at s items) P
   items-kept [] at s h = h

@@ -35,7 +35,7 @@ scopes-named names text =
     (named-closed names)
     (λ at s i here h. named-closed names at (record s { scopes = ended s.scopes i here }) h)
     (λ s lists variable h. h)
-    (λ s t infos values definition h. h)
+    (λ s t infos values pieces definition h. h)
     (λ s. AreNamed names s.scope_infos) text (nothing-named names)
     (λ s n. branched (is_some s.scopes.current || is_some s.ranges.current) _ _ (λ (r : ScopesRecord). AreNamed names r.scope_infos) tt n)
 
@@ -71,7 +71,7 @@ counted-ended at s k here h =
     (λ i l. each-set spans k x (λ n y. n < length spans → y.source ≤ s.scopes.source) (λ n m _ _. h.by n m) (λ m. h.by k m) i l (omega (arith, length-set spans k x)))
 
 last-by : (o : Option ℕ) (b : Bool) (e : ScopesError) (s : State) → s.scopes.current ≡ o → AllCounted s
-    → IfOk (if is_some o || b then Err e else Ok (record { sources = s.scopes.source; scopes = s.scopes.spans; scope_infos = s.scope_infos; variables = s.variables; ranges = s.ranges.spans; range_infos = s.range_infos; values = s.values })) AreCounted
+    → IfOk (if is_some o || b then Err e else Ok (record { sources = s.scopes.source; scopes = s.scopes.spans; scope_infos = s.scope_infos; variables = s.variables; ranges = s.ranges.spans; range_infos = s.range_infos; values = s.values; pieces = s.pieces })) AreCounted
 last-by (Some k) b e s c h = tt
 last-by None true e s c h = tt
 last-by None false e s c h = h.before c
@@ -87,6 +87,6 @@ scopes-counted names text =
     (λ at s h. counted-closed at s h.by)
     counted-ended
     (λ s lists variable h. h)
-    (λ s t infos values definition h. h)
+    (λ s t infos values pieces definition h. h)
     AreCounted text (record { by = λ i l. absurd (omega (arith, l)); before = λ _ i l. absurd (omega (arith, l)) })
     (λ s n. counted-last (length text) s n)

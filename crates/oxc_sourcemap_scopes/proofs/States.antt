@@ -45,6 +45,7 @@ scope-added s here info name kind h =
       variables = omega (arith, long, length_push s.variables [], h.variables);
       ranges = h.ranges;
       values = h.values;
+      pieces = h.pieces;
       definitions = λ i x e. more-below x.definition (length s.scopes.spans) _ (omega (arith, long)) (h.definitions i x e);
     }
 
@@ -56,12 +57,13 @@ scope-ended s k here h =
       variables = omega (arith, long, h.variables);
       ranges = h.ranges;
       values = h.values;
+      pieces = h.pieces;
       definitions = λ i x e. more-below x.definition (length s.scopes.spans) _ (omega (arith, long)) (h.definitions i x e);
     }
 
 -- one range more, whose definition leads to a scope
 pub range-added : (s : State) (here : Position) (info : RangeInfo) (definition : ℕ) → IsState s → IsDefined (length s.scopes.spans) info
-    → IsState (record s { ranges = started s.ranges here; range_infos = s.range_infos ++ info ∷ []; values = s.values ++ [] ∷ []; definition = definition })
+    → IsState (record s { ranges = started s.ranges here; range_infos = s.range_infos ++ info ∷ []; values = s.values ++ [] ∷ []; pieces = s.pieces ++ [] ∷ []; definition = definition })
 range-added s here info definition h d =
     let long = length_push s.ranges.spans (record { source = s.ranges.source; start = here; end = here; parent = s.ranges.current }) in
     record {
@@ -69,6 +71,7 @@ range-added s here info definition h d =
       variables = h.variables;
       ranges = omega (arith, long, length_push s.range_infos info, h.ranges);
       values = omega (arith, long, length_push s.values [], h.values);
+      pieces = omega (arith, long, length_push s.pieces [], h.pieces);
       definitions = each-more (IsDefined (length s.scopes.spans)) s.range_infos info h.definitions d;
     }
 
@@ -80,6 +83,7 @@ range-ended s k here h =
       variables = h.variables;
       ranges = omega (arith, long, h.ranges);
       values = omega (arith, long, h.values);
+      pieces = omega (arith, long, h.pieces);
       definitions = h.definitions;
     }
 
@@ -93,6 +97,7 @@ call-set s k info h l e =
       variables = h.variables;
       ranges = omega (arith, length-set s.range_infos k info, h.ranges);
       values = h.values;
+      pieces = h.pieces;
       definitions = each-other (IsDefined (length s.scopes.spans)) s.range_infos k info h.definitions (rw e old);
     }
 
@@ -103,6 +108,7 @@ variables-set s k list variable h = record {
   variables = omega (arith, length-set s.variables k list, h.variables);
   ranges = h.ranges;
   values = h.values;
+  pieces = h.pieces;
   definitions = h.definitions;
 }
 
@@ -113,5 +119,6 @@ values-set s k list h = record {
   variables = h.variables;
   ranges = h.ranges;
   values = omega (arith, length-set s.values k list, h.values);
+  pieces = h.pieces;
   definitions = h.definitions;
 }

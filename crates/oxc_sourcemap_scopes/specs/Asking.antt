@@ -1,6 +1,6 @@
 -- What is asked of scopes: the innermost scope, range or function at a position, and the frames that a position stands for.
 use Rattle.std.specs.Prelude.{◌≡◌, ℕ, zero, suc, ◌*◌, ◌+◌, Bool, false, List, [], ◌∷◌, ◌++◌, get_or}
-use Rattle.std.specs.Prelude.{slice_get, length, Option, Some, None}
+use Rattle.std.specs.Prelude.{slice_get, length, filter, nat_le, ◌&&◌, ◌==◌, Option, Some, None}
 use Rattle.std.specs.Prelude.{if◌then◌else◌}
 use Rattle.std.specs.Option.{option_map, option_and_then, option_map_or}
 use Rattle.oxc_sourcemap_scopes.specs.declared.scopes.Span.{Span}
@@ -12,7 +12,8 @@ use Rattle.oxc_sourcemap_scopes.specs.declared.frames.GeneratedRange.{GeneratedR
 use Rattle.oxc_sourcemap_scopes.specs.declared.frames.Frames.{Frames}
 use Rattle.oxc_sourcemap_scopes.specs.declared.scopes.RangeInfo.{RangeInfo}
 use Rattle.oxc_sourcemap_scopes.specs.declared.scopes.Value.{Value}
-use Rattle.oxc_sourcemap_scopes.specs.Trees.{rank, span_at, innermost}
+use Rattle.oxc_sourcemap_scopes.specs.declared.scopes.ValuePiece.{ValuePiece}
+use Rattle.oxc_sourcemap_scopes.specs.Trees.{rank, span_at, innermost, place_of}
 use Rattle.oxc_sourcemap_scopes.specs.Items.{no_range}
 use Rattle.oxc_sourcemap_scopes.specs.Reading.{ScopesRecord}
 
@@ -126,6 +127,25 @@ value_seen values k = option_and_then (λ list. slice_get list k) values
 -- the name that has the expression of a value, if there is one
 abbrev pub expression_of : Option Value → Option ℕ
 expression_of value = option_and_then (λ v. v.expression) value
+
+-- a piece of this variable's value starts at a place or before it
+abbrev pub starts_by : ℕ → ℕ → ValuePiece → Bool
+starts_by variable place piece = piece.variable == variable && nat_le (place_of piece.start) place
+
+-- the expression of the last of these pieces, else the one before them
+abbrev pub last_expression : Option ℕ → List ValuePiece → Option ℕ
+last_expression before [] = before
+last_expression before (piece ∷ more) = last_expression piece.expression more
+
+-- The name that has the expression of a variable's value in a range at a position: that of the last of its pieces that starts by there,
+-- else that of the whole value.
+abbrev pub value_at : ScopesRecord → ℕ → ℕ → ℕ → ℕ → Option ℕ
+value_at s range variable line column =
+    let whole : Option ℕ = expression_of (value_seen (values_of s range) variable) in
+    elim (slice_get s.pieces range) [
+      | None ↦ whole
+      | Some pieces ↦ last_expression whole (filter (starts_by variable (place line column)) pieces)
+    ]
 
 -- these frames were appended to the old ones
 abbrev pub IsCalled : List ScopeFrame → List ScopeFrame → Bool → FramesRecord → Type 0

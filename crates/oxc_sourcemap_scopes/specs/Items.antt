@@ -1,7 +1,7 @@
 -- What each item of a `scopes` text adds to what was read before it.
 use Rattle.std.specs.Prelude.{◌≡◌, ℕ, ◌+◌, ◌-◌, ◌/◌, ◌%◌, ◌<◌, ◌==◌, nat_lt, min, Bool, false}
 use Rattle.std.specs.Prelude.{List, [], ◌∷◌, ◌++◌, length, set, slice_get, get_or, Option, Some}
-use Rattle.std.specs.Prelude.{drop}
+use Rattle.std.specs.Prelude.{drop, true}
 use Rattle.std.specs.Prelude.{None, unwrap_or}
 use Rattle.std.specs.Prelude.{Result, Ok, Err, IfSome, if◌then◌else◌, is_some}
 use Rattle.oxc_sourcemap_tokens.specs.declared.position.Position.{Position}
@@ -15,9 +15,11 @@ use Rattle.oxc_sourcemap_scopes.specs.declared.errors.ScopesFaultKind.TheVariant
 use Rattle.oxc_sourcemap_scopes.specs.declared.scopes.ScopeInfo.{ScopeInfo}
 use Rattle.oxc_sourcemap_scopes.specs.declared.scopes.RangeInfo.{RangeInfo}
 use Rattle.oxc_sourcemap_scopes.specs.declared.scopes.Value.{Value}
+use Rattle.oxc_sourcemap_scopes.specs.declared.scopes.ValuePiece.{ValuePiece}
 use Rattle.oxc_sourcemap_scopes.specs.Faults.{error_at, ◌>>=◌}
 use Rattle.oxc_sourcemap_scopes.specs.Numbers.{before_others}
 use Rattle.oxc_sourcemap_scopes.specs.Trees.{Grown, nothing_grown, started, ended, at_next_source}
+use Rattle.oxc_sourcemap_scopes.specs.Trees.{span_at}
 
 -- What the items so far say, and the name, the kind, the variable and the definition that the next ones are relative to.
 pub record State : Type 0 where
@@ -27,6 +29,7 @@ pub record State : Type 0 where
   pub ranges : Grown
   pub range_infos : List RangeInfo
   pub values : List (List Value)
+  pub pieces : List (List ValuePiece)
   pub name : ℕ
   pub kind : ℕ
   pub variable : ℕ
@@ -34,7 +37,7 @@ pub record State : Type 0 where
 
 -- before the first item
 abbrev pub nothing_read : State
-nothing_read = record { scopes = nothing_grown; scope_infos = []; variables = []; ranges = nothing_grown; range_infos = []; values = []; name = 0; kind = 0; variable = 0; definition = 0 }
+nothing_read = record { scopes = nothing_grown; scope_infos = []; variables = []; ranges = nothing_grown; range_infos = []; values = []; pieces = []; name = 0; kind = 0; variable = 0; definition = 0 }
 
 -- a definition leads to one of so many scopes
 abbrev pub IsDefined : ℕ → RangeInfo → Type 0
@@ -46,6 +49,7 @@ pub record IsState (s : State) : Type 0 where
   pub variables : length s.variables ≡ length s.scopes.spans
   pub ranges : length s.range_infos ≡ length s.ranges.spans
   pub values : length s.values ≡ length s.ranges.spans
+  pub pieces : length s.pieces ≡ length s.ranges.spans
   pub definitions : (i : ℕ) → (info : RangeInfo) → slice_get s.range_infos i ≡ Some info → IsDefined (length s.scopes.spans) info
 
 -- a number of an item, which begins at this byte, by its index
@@ -150,8 +154,8 @@ variables_read names at s ns = elim s.scopes.current [
 -- a value: none, or the expression that the name has whose index is one less
 abbrev pub value_read : ℕ → ℕ → ℕ → Result Value ScopesError
 value_read at count raw =
-    if raw == 0 then Ok (record { expression = None })
-    else if nat_lt (raw - 1) (min count 4294967295) then Ok (record { expression = Some (raw - 1) })
+    if raw == 0 then Ok (record { expression = None; is_split = false })
+    else if nat_lt (raw - 1) (min count 4294967295) then Ok (record { expression = Some (raw - 1); is_split = false })
     else Err (error_at BadIndex at)
 
 -- the values that numbers stand for
@@ -159,16 +163,51 @@ abbrev pub all_values : ℕ → ℕ → List ℕ → Result (List Value) ScopesE
 all_values at count [] = Ok []
 all_values at count (raw ∷ more) = value_read at count raw >>= λ value. all_values at count more >>= λ values. Ok (value ∷ values)
 
--- a list with the values that were read behind it
-abbrev pub with_values : List Value → Result (List Value) ScopesError → Result (List Value) ScopesError
-with_values list (Ok found) = Ok (list ++ found)
-with_values list (Err e) = Err e
+-- a list with what was read behind it
+abbrev pub with_others : {A : Type 0} → List A → Result (List A) ScopesError → Result (List A) ScopesError
+with_others list (Ok found) = Ok (list ++ found)
+with_others list (Err e) = Err e
 
 -- `G` VALUE ..: values in the innermost range that is open, of the variables of its scope in their order
 unfoldable pub values_read : ℕ → ℕ → State → List ℕ → Result State ScopesError
 values_read names at s ns = elim s.ranges.current [
   | None ↦ Err (error_at NothingOpen at)
-  | Some i ↦ (with_values (get_or s.values i []) (all_values at names (drop 1 ns)) >>= λ found. Ok (record s { values = set s.values i found }))
+  | Some i ↦ (with_others (get_or s.values i []) (all_values at names (drop 1 ns)) >>= λ found. Ok (record s { values = set s.values i found }))
+]
+
+-- a value that has no sub-ranges yet
+abbrev pub value_to_split : ℕ → List Value → ℕ → Result Value ScopesError
+value_to_split at values k = elim (slice_get values k) [
+  | None ↦ Err (error_at BadIndex at)
+  | Some value ↦ if value.is_split then Err (error_at BadIndex at) else Ok value
+]
+
+-- the piece of a variable's value that three numbers stand for, the piece before it or the range starting at this position
+abbrev pub piece_read : ℕ → ℕ → Position → ℕ → ℕ → ℕ → ℕ → Result ValuePiece ScopesError
+piece_read at variable from count line column raw =
+    moved at from line column >>= λ here. value_read at count raw >>= λ value. Ok (record { variable = variable; start = here; expression = value.expression })
+
+-- the piece that the first three of these numbers stand for
+abbrev pub first_piece : ℕ → ℕ → Position → ℕ → List ℕ → Result ValuePiece ScopesError
+first_piece at variable from count ns =
+    number_at at ns 0 >>= λ line. number_at at ns 1 >>= λ column. number_at at ns 2 >>= λ raw. piece_read at variable from count line column raw
+
+-- the pieces that numbers stand for, three each
+abbrev pub all_pieces : ℕ → ℕ → Position → ℕ → List ℕ → Result (List ValuePiece) ScopesError
+all_pieces at variable from count [] = Ok []
+all_pieces at variable from count (line ∷ []) = Err (error_at MissingNumber at)
+all_pieces at variable from count (line ∷ column ∷ []) = Err (error_at MissingNumber at)
+all_pieces at variable from count (line ∷ column ∷ raw ∷ more) =
+    piece_read at variable from count line column raw >>= λ piece. all_pieces at variable piece.start count more >>= λ pieces. Ok (piece ∷ pieces)
+
+-- `H` VARIABLE [LINE COLUMN VALUE] ..: the value of a variable in the innermost range that is open is another from each of these
+-- positions on
+unfoldable pub sub_ranges_read : ℕ → ℕ → State → List ℕ → Result State ScopesError
+sub_ranges_read names at s ns = elim s.ranges.current [
+  | None ↦ Err (error_at NothingOpen at)
+  | Some i ↦ (number_at at ns 1 >>= λ k. value_to_split at (get_or s.values i []) k >>= λ value.
+      with_others (get_or s.pieces i []) (all_pieces at k (span_at s.ranges.spans i).start names (drop 2 ns)) >>= λ pieces.
+      Ok (record s { values = set s.values i (set (get_or s.values i []) k (record value { is_split = true })); pieces = set s.pieces i pieces }))
 ]
 
 -- `E` FLAGS [LINE] COLUMN [DEFINITION]: a range starts, within the innermost that is open
@@ -184,6 +223,7 @@ range_started at s ns = do
     ranges = started s.ranges here;
     range_infos = s.range_infos ++ record { definition = definition; is_stack_frame = has_flag flags 4; is_hidden = has_flag flags 8; call_site = None } ∷ [];
     values = s.values ++ [] ∷ [];
+    pieces = s.pieces ++ [] ∷ [];
     definition = unwrap_or definition s.definition;
   })
 
@@ -234,5 +274,6 @@ item_read names at s ns = number_at at ns 0 >>= λ tag.
     else if tag == 4 then range_started at s ns
     else if tag == 5 then range_ended at s ns
     else if tag == 6 then values_read names at s ns
+    else if tag == 7 then sub_ranges_read names at s ns
     else if tag == 8 then call_site_read at s ns
     else Ok s

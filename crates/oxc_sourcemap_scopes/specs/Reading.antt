@@ -17,6 +17,7 @@ use Rattle.oxc_sourcemap_scopes.specs.declared.scopes.Span.{Span}
 use Rattle.oxc_sourcemap_scopes.specs.declared.scopes.ScopeInfo.{ScopeInfo}
 use Rattle.oxc_sourcemap_scopes.specs.declared.scopes.RangeInfo.{RangeInfo}
 use Rattle.oxc_sourcemap_scopes.specs.declared.scopes.Value.{Value}
+use Rattle.oxc_sourcemap_scopes.specs.declared.scopes.ValuePiece.{ValuePiece}
 use Rattle.oxc_sourcemap_scopes.specs.Faults.{error_at, ◌>>=◌}
 use Rattle.oxc_sourcemap_scopes.specs.Numbers.{numbers_of}
 use Rattle.oxc_sourcemap_scopes.specs.Items.{State, nothing_read, item_read, IsDefined}
@@ -32,6 +33,7 @@ pub record ScopesRecord : Type 0 where
   pub ranges : List Span
   pub range_infos : List RangeInfo
   pub values : List (List Value)
+  pub pieces : List (List ValuePiece)
 
 -- Scopes and ranges are nested, each is told of once, and has a list of variables or of values; and definitions lead to scopes.
 pub record AreSound (s : ScopesRecord) : Type 0 where
@@ -43,6 +45,7 @@ pub record AreSound (s : ScopesRecord) : Type 0 where
   pub variables : length s.variables ≡ length s.scopes
   pub range_infos : length s.range_infos ≡ length s.ranges
   pub values : length s.values ≡ length s.ranges
+  pub pieces : length s.pieces ≡ length s.ranges
   pub definitions : (i : ℕ) → (info : RangeInfo) → slice_get s.range_infos i ≡ Some info → IsDefined (length s.scopes) info
 
 -- `,`, which separates items
@@ -59,7 +62,7 @@ items_read names at s (item ∷ more) =
 abbrev pub finished : ℕ → State → Result ScopesRecord ScopesError
 finished end s =
     if is_some s.scopes.current || is_some s.ranges.current then Err (error_at LeftOpen end)
-    else Ok (record { sources = s.scopes.source; scopes = s.scopes.spans; scope_infos = s.scope_infos; variables = s.variables; ranges = s.ranges.spans; range_infos = s.range_infos; values = s.values })
+    else Ok (record { sources = s.scopes.source; scopes = s.scopes.spans; scope_infos = s.scope_infos; variables = s.variables; ranges = s.ranges.spans; range_infos = s.range_infos; values = s.values; pieces = s.pieces })
 
 -- the items of a text, of which the empty one has none
 abbrev pub items_of : List ℕ → List (List ℕ)

@@ -11,7 +11,8 @@ pub use Rattle.oxc_sourcemap_scopes.specs.Items.{nothing_read, scope_started, ne
 pub use Rattle.oxc_sourcemap_scopes.specs.Items.{source_passed, scope_ended, range_started}
 pub use Rattle.oxc_sourcemap_scopes.specs.Items.{range_ended, indices_moved, with_indices}
 pub use Rattle.oxc_sourcemap_scopes.specs.Items.{variables_read, value_read, all_values}
-pub use Rattle.oxc_sourcemap_scopes.specs.Items.{with_values, values_read}
+pub use Rattle.oxc_sourcemap_scopes.specs.Items.{with_others, values_read, value_to_split}
+pub use Rattle.oxc_sourcemap_scopes.specs.Items.{first_piece, all_pieces, sub_ranges_read}
 pub use Rattle.oxc_sourcemap_scopes.specs.Items.{call_site_read, item_read}
 pub use Rattle.oxc_sourcemap_scopes.specs.Reading.{items_read, items_of, finished, scopes_of}
 pub use Rattle.oxc_sourcemap_scopes.specs.Reading.{read_scopes, scopes_text, name_count}
@@ -23,7 +24,9 @@ pub use Rattle.oxc_sourcemap_scopes.specs.Asking.{callers_of, frames_of, frames_
 pub use Rattle.oxc_sourcemap_scopes.specs.Asking.{with_frames}
 pub use Rattle.oxc_sourcemap_scopes.specs.Asking.{scope_seen, range_seen, IsCalled}
 pub use Rattle.oxc_sourcemap_scopes.specs.Asking.{variables_of, values_of, value_count}
-pub use Rattle.oxc_sourcemap_scopes.specs.Asking.{value_seen, expression_of}
+pub use Rattle.oxc_sourcemap_scopes.specs.Asking.{value_seen, expression_of, starts_by}
+pub use Rattle.oxc_sourcemap_scopes.specs.Asking.{last_expression, value_at}
+pub use Rattle.oxc_sourcemap_scopes.specs.Trees.{span_at}
 pub use Rattle.oxc_sourcemap_scopes.specs.Items.{no_range}
 pub use Rattle.oxc_sourcemap_tokens.specs.Results.{lent_items}
 pub use Rattle.oxc_sourcemap_scopes.specs.Messages.{fault_text, error_text}

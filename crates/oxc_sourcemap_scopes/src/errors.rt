@@ -41,7 +41,7 @@ pub enum ScopesFaultKind {
     /// It is empty, or lacks a number that its tag and flags ask for.
     MissingNumber,
     /// Its index of a name or of a scope is below 0, past the last one (of scopes, the last that starts before it in the text), or above
-    /// 4294967294.
+    /// 4294967294; or sub-ranges are told of a variable that has no value yet, or has sub-ranges already.
     BadIndex,
     /// It is an end, variables, values or a call site, and nothing that it could belong to is open.
     NothingOpen,

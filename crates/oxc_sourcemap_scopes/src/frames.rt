@@ -1,13 +1,15 @@
 //! What is asked of scopes: the innermost scope, range or function at a position, and the frames that a position stands for.
-ghost use Rattle.std.specs.Prelude.{◌≡◌, ◌<◌, length, get_or, option_map, Some, IfSome, IfOk};
+ghost use Rattle.std.specs.Prelude.{◌≡◌, ◌<◌, length, get_or, option_map, filter, Some};
+ghost use Rattle.std.specs.Prelude.{IfSome, IfOk};
 ghost use Rattle.oxc_sourcemap_scopes.specs.Words.{scope_at, range_at, function_of, function_at};
 ghost use Rattle.oxc_sourcemap_scopes.specs.Words.{frames_at, frames_record, scope_seen};
 ghost use Rattle.oxc_sourcemap_scopes.specs.Words.{range_seen, place, AreNested};
 ghost use Rattle.oxc_sourcemap_scopes.specs.Words.{callers_of, no_range, IsCalled};
 ghost use Rattle.oxc_sourcemap_scopes.specs.Words.{variables_of, values_of, value_count};
-ghost use Rattle.oxc_sourcemap_scopes.specs.Words.{value_seen, expression_of};
+ghost use Rattle.oxc_sourcemap_scopes.specs.Words.{value_seen, expression_of, starts_by};
+ghost use Rattle.oxc_sourcemap_scopes.specs.Words.{last_expression, value_at};
 
-use crate::scopes::{CallSite, ScopeFrame, ScopeInfo, Scopes, Span};
+use crate::scopes::{CallSite, ScopeFrame, ScopeInfo, Scopes, Span, ValuePiece, place_of};
 use crate::trees::innermost_at;
 use oxc_sourcemap_tokens::{Memory, Position};
 use std::alloc::Global;
@@ -142,6 +144,19 @@ impl Scopes {
         list.get(variable)?.expression
     }
 
+    /// The value of a variable in a range, both by their index, at a position of the generated code that the range contains: the index
+    /// of the name that has the expression for it. None if it has no value there, and past the last value or range. It takes time by
+    /// the pieces of the values of the range.
+    pub fn value_at(&self, range: usize, variable: usize, line: u32, column: u32) -> Option<u32>
+        ensures { result ≡ value_at self.now range variable line column }
+    {
+        let whole = self.get_value(range, variable);
+        match self.pieces.get(range) {
+            Some(list) => expression_at(list, variable as u64, place(line, column), whole),
+            None => whole,
+        }
+    }
+
     /// The index of the innermost scope of a source that contains a position.
     pub fn scope_at(&self, source: u32, line: u32, column: u32) -> Option<usize>
         ensures index { result ≡ scope_at self.now source line column }
@@ -226,6 +241,24 @@ impl Scopes {
         }
         Ok(false)
     }
+}
+
+/// The expression of the last of the pieces of a variable's value that starts by a place, else the one before them.
+fn expression_at(
+    pieces: &[ValuePiece],
+    variable: u64,
+    place: u64,
+    before: Option<u32>,
+) -> Option<u32>
+    ensures { result ≡ last_expression before (filter (starts_by variable place) pieces.now) }
+{
+    let mut found = before;
+    for piece in pieces {
+        if piece.variable == variable && place_of(piece.start) <= place {
+            found = piece.expression;
+        }
+    }
+    found
 }
 
 /// The index of the first of a scope and those around it, from the inside out, that is a stack frame.

@@ -4,15 +4,15 @@ ghost use Rattle.oxc_sourcemap_scopes.specs.Words.{Reads, nothing_read, scope_st
 ghost use Rattle.oxc_sourcemap_scopes.specs.Words.{next_if_closed};
 ghost use Rattle.oxc_sourcemap_scopes.specs.Words.{source_passed, scope_ended, range_started};
 ghost use Rattle.oxc_sourcemap_scopes.specs.Words.{range_ended, call_site_read, item_read};
-ghost use Rattle.oxc_sourcemap_scopes.specs.Words.{variables_read, values_read};
+ghost use Rattle.oxc_sourcemap_scopes.specs.Words.{variables_read, values_read, sub_ranges_read};
 ghost use Rattle.oxc_sourcemap_scopes.specs.Words.{finished};
 
 use crate::errors::{ScopesError, ScopesFaultKind};
 use crate::fields::{
     has_flag, index_if, moved, number_at, number_if, range_end, room_in, small_at, source_at,
 };
-use crate::lists::{after_tag, push_indices, push_values};
-use crate::scopes::{CallSite, RangeInfo, ScopeInfo, Scopes, Value};
+use crate::lists::{after_tag, push_indices, push_pieces, push_values, split_value};
+use crate::scopes::{CallSite, RangeInfo, ScopeInfo, Scopes, Value, ValuePiece};
 use crate::trees::Tree;
 use std::alloc::Global;
 use std::marker::Model;
@@ -26,6 +26,7 @@ pub(crate) struct Read {
     ranges: Tree,
     range_infos: Vec<RangeInfo>,
     values: Vec<Vec<Value>>,
+    pieces: Vec<Vec<ValuePiece>>,
     name: u32,
     kind: u32,
     variable: u32,
@@ -45,6 +46,7 @@ impl Model for Read {
       ranges = r.ranges;
       range_infos = r.range_infos.items;
       values = map (λ v. v.items) r.values.items;
+      pieces = map (λ v. v.items) r.pieces.items;
       name = r.name;
       kind = r.kind;
       variable = r.variable;
@@ -58,6 +60,7 @@ impl Model for Read {
       ranges = r.ranges;
       range_infos = r.range_infos.items;
       values = map (λ v. v.items) r.values.items;
+      pieces = map (λ v. v.items) r.pieces.items;
       name = r.name;
       kind = r.kind;
       variable = r.variable;
@@ -76,6 +79,7 @@ impl Read {
             ranges: Tree::new(alloc),
             range_infos: Vec::new(alloc),
             values: Vec::new(alloc),
+            pieces: Vec::new(alloc),
             name: 0,
             kind: 0,
             variable: 0,
@@ -196,6 +200,7 @@ impl Read {
             call_site: None,
         })?;
         self.values.push(Vec::new(alloc))?;
+        self.pieces.push(Vec::new(alloc))?;
         self.definition = definition.unwrap_or(self.definition);
         Ok(self)
     }
@@ -222,6 +227,28 @@ impl Read {
             return Err(ScopesError::at(ScopesFaultKind::NothingOpen, at));
         };
         push_values(&mut self.values[index], at, names, after_tag(numbers))?;
+        Ok(self)
+    }
+
+    /// `H` VARIABLE [LINE COLUMN VALUE] ..: the value of a variable in the innermost range that is open is another from each of these
+    /// positions on.
+    #[tactic(auto, unfolding(crate::specs::Items::sub_ranges_read))]
+    fn read_sub_ranges(
+        mut self,
+        names: usize,
+        at: usize,
+        numbers: &[u64],
+    ) -> Result<Self, ScopesError>
+        ensures { Reads (λ r. r) result (sub_ranges_read names at self numbers.now) }
+    {
+        let Some(index) = self.ranges.current() else {
+            return Err(ScopesError::at(ScopesFaultKind::NothingOpen, at));
+        };
+        let variable = number_at(at, numbers, 1)?;
+        split_value(&mut self.values[index], at, variable)?;
+        let start = self.ranges.start_of(index);
+        let triples = after_tag(after_tag(numbers));
+        push_pieces(&mut self.pieces[index], at, variable, start, names, triples)?;
         Ok(self)
     }
 
@@ -267,6 +294,7 @@ impl Read {
             4 => self.start_range(alloc, at, numbers),
             5 => self.end_range(at, numbers),
             6 => self.read_values(names, at, numbers),
+            7 => self.read_sub_ranges(names, at, numbers),
             8 => self.read_call_site(at, numbers),
             _ => Ok(self),
         }
@@ -287,6 +315,7 @@ impl Read {
             ranges: self.ranges.into_spans(),
             range_infos: self.range_infos,
             values: self.values,
+            pieces: self.pieces,
         })
     }
 }

@@ -58,6 +58,18 @@ pub struct ScopeFrame {
 pub(crate) struct Value {
     /// The index of the name that has its expression; None if it has no value.
     pub(crate) expression: Option<u32>,
+    /// It is another from positions on that its pieces tell.
+    pub(crate) is_split: bool,
+}
+
+/// What the value of a variable is from a position on, until its next piece.
+#[derive(Clone, Copy)]
+pub(crate) struct ValuePiece {
+    /// The index of the variable in its scope.
+    pub(crate) variable: u64,
+    pub(crate) start: Position,
+    /// The index of the name that has the expression; None if it has no value.
+    pub(crate) expression: Option<u32>,
 }
 
 /// The scopes of a map: for each source the tree of its scopes, and for the generated code a tree of ranges.
@@ -72,6 +84,8 @@ pub struct Scopes {
     pub(crate) range_infos: Vec<RangeInfo>,
     /// The values in each range, of the variables of its scope.
     pub(crate) values: Vec<Vec<Value>>,
+    /// The pieces of values in each range.
+    pub(crate) pieces: Vec<Vec<ValuePiece>>,
 }
 
 impl Model for Scopes {
@@ -88,6 +102,7 @@ impl Model for Scopes {
       ranges = s.ranges.items;
       range_infos = s.range_infos.items;
       values = map (λ v. v.items) s.values.items;
+      pieces = map (λ v. v.items) s.pieces.items;
     } };
 
     ghost invariant = { λ s. AreSound (record {
@@ -98,6 +113,7 @@ impl Model for Scopes {
       ranges = s.ranges.items;
       range_infos = s.range_infos.items;
       values = map (λ v. v.items) s.values.items;
+      pieces = map (λ v. v.items) s.pieces.items;
     }) };
 }
 

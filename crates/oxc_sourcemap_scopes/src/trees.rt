@@ -1,7 +1,7 @@
 //! Trees of spans: how they grow, and which of their spans contain a place.
 ghost use Rattle.std.specs.Prelude.{◌≡◌, ◌<◌, ◌≤◌, length, OnOk, IfSome, Some, None, nat_le};
 ghost use Rattle.oxc_sourcemap_scopes.specs.Words.{place_of, started, ended, nothing_grown};
-ghost use Rattle.oxc_sourcemap_scopes.specs.Words.{at_next_source};
+ghost use Rattle.oxc_sourcemap_scopes.specs.Words.{at_next_source, span_at};
 ghost use Rattle.oxc_sourcemap_scopes.specs.Words.{AreNested, AreWithin, innermost, start_key, key};
 
 use crate::scopes::{Span, place_of};
@@ -73,6 +73,14 @@ impl Tree {
         ensures { result ≡ self.now.position }
     {
         self.position
+    }
+
+    /// Where the span at an index starts.
+    pub(crate) fn start_of(&self, index: usize) -> Position
+        requires { index < length self.now.spans }
+        ensures { result ≡ (span_at self.now.spans index).start }
+    {
+        self.spans[index].start
     }
 
     /// How many spans there are.

@@ -7,7 +7,7 @@ use Rattle.oxc_sourcemap_scopes.proofs.items.Read.read_variables.Goals as goal
 pub returns : goal.returns
 returns c =
     let r = c.self.inside in
-    let s : State = record { scopes = r.scopes; scope_infos = r.scope_infos.items; variables = map (λ v. v.items) r.variables.items; ranges = r.ranges; range_infos = r.range_infos.items; values = map (λ v. v.items) r.values.items; name = r.name; kind = r.kind; variable = r.variable; definition = r.definition } in
+    let s : State = record { scopes = r.scopes; scope_infos = r.scope_infos.items; variables = map (λ v. v.items) r.variables.items; ranges = r.ranges; range_infos = r.range_infos.items; values = map (λ v. v.items) r.values.items; pieces = map (λ v. v.items) r.pieces.items; name = r.name; kind = r.kind; variable = r.variable; definition = r.definition } in
     let v : s ≡ c.args.self = c.self.view_is in
     let i = c.in-Some.index in
     let x = c.index_mut.result.now in

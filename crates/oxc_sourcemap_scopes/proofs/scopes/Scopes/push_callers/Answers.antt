@@ -14,7 +14,7 @@ use Rattle.oxc_sourcemap_scopes.proofs.scopes.Scopes.push_callers.Goals.{in_defa
 
 pub returns-then-info : goal.returns-then-info
 returns-then-info c =
-    let s : ScopesRecord = record { sources = c.self.inside.sources; scopes = c.self.inside.scopes.items; scope_infos = c.self.inside.scope_infos.items; variables = map (λ v. v.items) c.self.inside.variables.items; ranges = c.self.inside.ranges.items; range_infos = c.self.inside.range_infos.items; values = map (λ v. v.items) c.self.inside.values.items } in
+    let s : ScopesRecord = record { sources = c.self.inside.sources; scopes = c.self.inside.scopes.items; scope_infos = c.self.inside.scope_infos.items; variables = map (λ v. v.items) c.self.inside.variables.items; ranges = c.self.inside.ranges.items; range_infos = c.self.inside.range_infos.items; values = map (λ v. v.items) c.self.inside.values.items; pieces = map (λ v. v.items) c.self.inside.pieces.items } in
     let v : s ≡ c.args.self.now = c.self.view_is in
     let i = c.in-Some.index in
     let within : rank c.loop-next.next ≤ length s.ranges = rw (← v) at c.loop-next.invariant.within in
@@ -26,7 +26,7 @@ returns-then-info c =
 
 pub loop-next-preserved : goal.loop-next-preserved
 loop-next-preserved c =
-    let s : ScopesRecord = record { sources = c.self.inside.sources; scopes = c.self.inside.scopes.items; scope_infos = c.self.inside.scope_infos.items; variables = map (λ v. v.items) c.self.inside.variables.items; ranges = c.self.inside.ranges.items; range_infos = c.self.inside.range_infos.items; values = map (λ v. v.items) c.self.inside.values.items } in
+    let s : ScopesRecord = record { sources = c.self.inside.sources; scopes = c.self.inside.scopes.items; scope_infos = c.self.inside.scope_infos.items; variables = map (λ v. v.items) c.self.inside.variables.items; ranges = c.self.inside.ranges.items; range_infos = c.self.inside.range_infos.items; values = map (λ v. v.items) c.self.inside.values.items; pieces = map (λ v. v.items) c.self.inside.pieces.items } in
     let v : s ≡ c.args.self.now = c.self.view_is in
     let i = c.in-Some.index in
     let within : rank c.loop-next.next ≤ length s.ranges = rw (← v) at c.loop-next.invariant.within in

@@ -9,12 +9,12 @@ use Rattle.oxc_sourcemap_scopes.specs.declared.scopes.Span.{Span}
 use Rattle.oxc_sourcemap_scopes.specs.Trees.{place_of, key, start_key, rank}
 use Rattle.oxc_sourcemap_scopes.specs.Trees.{span_at}
 use Rattle.oxc_sourcemap_scopes.specs.Trees.{parent_rank, AreNested, AreWithin, contains, innermost}
-use Rattle.oxc_sourcemap_scopes.specs.Laws.{containing_below, around_within, around}
+use Rattle.oxc_sourcemap_scopes.specs.Laws.{containing_below}
 use Rattle.oxc_sourcemap_scopes.specs.Laws.{first_function, callers_in, frames_in}
 use Rattle.oxc_sourcemap_scopes.specs.Asking.{no_scope, function_within, function_of, FramesRecord}
 use Rattle.oxc_sourcemap_scopes.specs.Asking.{with_frames, calling_frames, callers_within}
 use Rattle.oxc_sourcemap_scopes.specs.Asking.{callers_of}
-use Rattle.oxc_sourcemap_scopes.specs.Asking.{frames_of}
+use Rattle.oxc_sourcemap_scopes.specs.Asking.{frames_of, around_within, around}
 use Rattle.oxc_sourcemap_scopes.specs.Items.{no_range}
 use Rattle.oxc_sourcemap_scopes.specs.Reading.{ScopesRecord}
 use Rattle.oxc_sourcemap_scopes.specs.declared.scopes.ScopeInfo.{ScopeInfo}
@@ -89,6 +89,7 @@ chain spans source place (suc n) i nested within few l h =
 search-down : (spans : List Span) (source place n : ℕ) → AreNested spans → AreWithin spans → n ≤ length spans
     → ((j : ℕ) → j < length spans → n ≤ j → contains source place (span_at spans j) ≡ false)
     → around spans (innermost spans source place) ≡ containing_below n spans source place
+unfolding around
 search-down spans source place zero nested within l past =
     let none : innermost spans source place ≡ None = sym (none-innermost spans source place (λ j a. past j a (omega arith))) in
     rw none refl
@@ -114,7 +115,7 @@ function-in (suc n) scopes infos (Some i) =
 
 pub function-contains : (s : ScopesRecord) (source place : ℕ) → AreNested s.scopes → AreWithin s.scopes
     → function_of s.scopes s.scope_infos (innermost s.scopes source place) ≡ first_function s.scope_infos (containing_below (length s.scopes) s.scopes source place)
-unfolding function_of
+unfolding function_of around
 function-contains s source place nested within =
     function-in (rank (innermost s.scopes source place)) s.scopes s.scope_infos (innermost s.scopes source place)
     ∙ ap (first_function s.scope_infos) (around-all s.scopes source place nested within)
@@ -128,7 +129,7 @@ callers-in (suc n) s (Some i) =
     (callers-in n s (span_at s.ranges i).parent)
 
 frames-around : (s : ScopesRecord) (at : Option ℕ) → frames_of s at ≡ frames_in s (around s.ranges at)
-unfolding callers_of
+unfolding callers_of around
 frames-around s None = refl
 frames-around s (Some i) =
     let first : List ScopeFrame = record { scope = function_of s.scopes s.scope_infos (get_or s.range_infos i no_range).definition; call_site = None } ∷ [] in

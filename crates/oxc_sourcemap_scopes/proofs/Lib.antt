@@ -1,5 +1,6 @@
 pub mod Appended
 pub mod Around
+pub mod Chained
 pub mod Growing
 pub mod Innermost
 pub mod Kept

@@ -1,12 +1,14 @@
 -- What is asked of scopes: the innermost scope, range or function at a position, and the frames that a position stands for.
 use Rattle.std.specs.Prelude.{◌≡◌, ℕ, zero, suc, ◌*◌, ◌+◌, Bool, false, List, [], ◌∷◌, ◌++◌, get_or}
-use Rattle.std.specs.Prelude.{slice_get, length, filter, nat_le, ◌&&◌, ◌==◌, Option, Some, None}
+use Rattle.std.specs.Prelude.{slice_get, length, filter, map, nat_le, nat_lt, ◌&&◌, ◌==◌, Option}
+use Rattle.std.specs.Prelude.{Some, None}
 use Rattle.std.specs.Prelude.{if◌then◌else◌}
 use Rattle.std.specs.Option.{option_map, option_and_then, option_map_or}
 use Rattle.oxc_sourcemap_scopes.specs.declared.scopes.Span.{Span}
 use Rattle.oxc_sourcemap_scopes.specs.declared.scopes.ScopeInfo.{ScopeInfo}
 use Rattle.oxc_sourcemap_scopes.specs.declared.scopes.CallSite.{CallSite}
 use Rattle.oxc_sourcemap_scopes.specs.declared.scopes.ScopeFrame.{ScopeFrame}
+use Rattle.oxc_sourcemap_scopes.specs.declared.chains.ScopeChainEntry.{ScopeChainEntry}
 use Rattle.oxc_sourcemap_scopes.specs.declared.frames.OriginalScope.{OriginalScope}
 use Rattle.oxc_sourcemap_scopes.specs.declared.frames.GeneratedRange.{GeneratedRange}
 use Rattle.oxc_sourcemap_scopes.specs.declared.frames.Frames.{Frames}
@@ -150,3 +152,42 @@ value_at s range variable line column =
 -- these frames were appended to the old ones
 abbrev pub IsCalled : List ScopeFrame → List ScopeFrame → Bool → FramesRecord → Type 0
 IsCalled old new is_hidden callers = (new ≡ old ++ callers.frames) × (is_hidden ≡ callers.is_hidden)
+
+-- the indices of a span and those around it, from the inside out; the number bounds how many are looked at
+abbrev pub around_within : ℕ → List Span → Option ℕ → List ℕ
+around_within zero spans at = []
+around_within (suc n) spans None = []
+around_within (suc n) spans (Some i) = i ∷ around_within n spans (span_at spans i).parent
+
+-- the indices of a span and those around it, from the inside out
+unfoldable pub around : List Span → Option ℕ → List ℕ
+around spans at = around_within (rank at) spans at
+
+-- a range is the code of a scope
+abbrev pub is_code_of : ℕ → RangeInfo → Bool
+is_code_of scope range = option_map_or (λ i. i == scope) range.definition false
+
+-- the first of these ranges that is the code of a scope
+abbrev pub code_of : List RangeInfo → ℕ → List ℕ → Option ℕ
+code_of infos scope [] = None
+code_of infos scope (i ∷ more) = if is_code_of scope (get_or infos i no_range) then Some i else code_of infos scope more
+
+-- a scope, with the first of a range and those around it that is its code
+abbrev pub entry_of : ScopesRecord → Option ℕ → ℕ → ScopeChainEntry
+entry_of s range i = record { scope = i; range = code_of s.range_infos i (around s.ranges range) }
+
+-- such an entry for a scope and each of those around it, from the inside out
+abbrev pub chain_of : ScopesRecord → Option ℕ → Option ℕ → List ScopeChainEntry
+chain_of s scope range = map (entry_of s range) (around s.scopes scope)
+
+-- the scope that a range is the code of
+abbrev pub definition_of : ScopesRecord → Option ℕ → Option ℕ
+definition_of s range = option_and_then (λ i. (get_or s.range_infos i no_range).definition) range
+
+-- A scope and those around it, each with the innermost range at a position of the generated code that is its code.
+abbrev pub scope_chain : ScopesRecord → ℕ → ℕ → ℕ → List ScopeChainEntry
+scope_chain s scope line column = if nat_lt scope (length s.scopes) then chain_of s (Some scope) (range_at s line column) else []
+
+-- The scopes that a position of the generated code is in: that which the innermost range is the code of, and those around it.
+abbrev pub scope_chain_at : ScopesRecord → ℕ → ℕ → List ScopeChainEntry
+scope_chain_at s line column = chain_of s (definition_of s (range_at s line column)) (range_at s line column)

@@ -12,6 +12,7 @@ use Rattle.oxc_sourcemap_scopes.specs.declared.errors.ScopesFaultKind.TheVariant
 use Rattle.oxc_sourcemap_scopes.specs.declared.errors.ScopesFaultKind.TheVariants.{NothingOpen}
 use Rattle.oxc_sourcemap_scopes.specs.declared.errors.ScopesFaultKind.TheVariants.{NotClosed}
 use Rattle.oxc_sourcemap_scopes.specs.declared.errors.ScopesFaultKind.TheVariants.{TooDeep}
+use Rattle.oxc_sourcemap_scopes.specs.declared.errors.ScopesFaultKind.TheVariants.{SplitTwice}
 use Rattle.oxc_sourcemap_scopes.specs.declared.scopes.ScopeInfo.{ScopeInfo}
 use Rattle.oxc_sourcemap_scopes.specs.declared.scopes.RangeInfo.{RangeInfo}
 use Rattle.oxc_sourcemap_scopes.specs.declared.scopes.Value.{Value}
@@ -179,7 +180,7 @@ values_read names at s ns = elim s.ranges.current [
 abbrev pub value_to_split : ℕ → List Value → ℕ → Result Value ScopesError
 value_to_split at values k = elim (slice_get values k) [
   | None ↦ Err (error_at BadIndex at)
-  | Some value ↦ if value.is_split then Err (error_at BadIndex at) else Ok value
+  | Some value ↦ if value.is_split then Err (error_at SplitTwice at) else Ok value
 ]
 
 -- the piece of a variable's value that three numbers stand for, the piece before it or the range starting at this position

@@ -3,11 +3,11 @@ use Rattle.std.specs.Prelude.{◌≡◌, ℕ, zero, suc, false, List, [], ◌∷
 use Rattle.std.specs.Prelude.{Option, Some, None, ◌<◌, IfSome, IfOk, slice_get}
 use Rattle.std.specs.Prelude.{if◌then◌else◌}
 use Rattle.oxc_sourcemap_scopes.specs.declared.scopes.Span.{Span}
-use Rattle.oxc_sourcemap_scopes.specs.Trees.{rank, span_at, contains}
+use Rattle.oxc_sourcemap_scopes.specs.Trees.{span_at, contains}
 use Rattle.oxc_sourcemap_scopes.specs.Reading.{ScopesRecord, AreSound, scopes_of}
 use Rattle.oxc_sourcemap_scopes.specs.Asking.{place, scope_at, range_at, function_at, frames_at}
 use Rattle.oxc_sourcemap_scopes.specs.Asking.{no_scope, FramesRecord, with_frames, calling_frames}
-use Rattle.oxc_sourcemap_scopes.specs.Asking.{function_of}
+use Rattle.oxc_sourcemap_scopes.specs.Asking.{function_of, around}
 use Rattle.oxc_sourcemap_scopes.specs.Items.{no_range}
 use Rattle.oxc_sourcemap_scopes.specs.declared.scopes.ScopeInfo.{ScopeInfo}
 
@@ -21,16 +21,6 @@ containing_below (suc i) spans source place =
 -- the indices of all spans that contain a place of a source, from the inside out
 abbrev pub containing : List Span → ℕ → ℕ → List ℕ
 containing spans source place = containing_below (length spans) spans source place
-
--- the indices of a span and those around it, from the inside out; the number bounds how many are looked at
-abbrev pub around_within : ℕ → List Span → Option ℕ → List ℕ
-around_within zero spans at = []
-around_within (suc n) spans None = []
-around_within (suc n) spans (Some i) = i ∷ around_within n spans (span_at spans i).parent
-
--- the indices of a span and those around it, from the inside out
-abbrev pub around : List Span → Option ℕ → List ℕ
-around spans at = around_within (rank at) spans at
 
 -- The innermost range at a position and those around it are all ranges that contain it.
 abbrev pub RangesAround : Type 0

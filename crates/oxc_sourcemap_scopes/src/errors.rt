@@ -41,7 +41,7 @@ pub enum ScopesFaultKind {
     /// It is empty, or lacks a number that its tag and flags ask for.
     MissingNumber,
     /// Its index of a name or of a scope is below 0, past the last one (of scopes, the last that starts before it in the text), or above
-    /// 4294967294; or sub-ranges are told of a variable that has no value yet, or has sub-ranges already.
+    /// 4294967294; or it has sub-ranges of the value of a variable that has no value before it.
     BadIndex,
     /// It is an end, variables, values or a call site, and nothing that it could belong to is open.
     NothingOpen,
@@ -51,6 +51,8 @@ pub enum ScopesFaultKind {
     TooDeep,
     /// The text ends, and a scope or a range has no end.
     LeftOpen,
+    /// It has sub-ranges of a value that has some already.
+    SplitTwice,
 }
 
 impl fmt::Display for ScopesFaultKind {
@@ -67,6 +69,7 @@ impl fmt::Display for ScopesFaultKind {
             ScopesFaultKind::NotClosed => write!(f, "the scopes before it are not closed"),
             ScopesFaultKind::TooDeep => write!(f, "more than 1024 scopes or ranges are nested"),
             ScopesFaultKind::LeftOpen => write!(f, "a scope or a range has no end"),
+            ScopesFaultKind::SplitTwice => write!(f, "the value has sub-ranges already"),
         }
     }
 }

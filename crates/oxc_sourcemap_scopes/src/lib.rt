@@ -3,6 +3,7 @@
 //! source, and the frames of calls that were inlined. Part of `oxc_sourcemap`.
 #![tactic(auto)]
 
+mod chains;
 mod decoding;
 mod errors;
 mod fields;
@@ -14,6 +15,7 @@ mod numbers;
 mod scopes;
 mod trees;
 
+pub use chains::ScopeChainEntry;
 pub use decoding::{decode_scopes, read_scopes};
 pub use errors::{ScopesError, ScopesFault, ScopesFaultKind};
 pub use frames::{Frames, GeneratedRange, OriginalScope};

@@ -93,7 +93,7 @@ pub(crate) fn split_value(
         None => return Err(ScopesError::at(ScopesFaultKind::BadIndex, at)),
     };
     if value.is_split {
-        return Err(ScopesError::at(ScopesFaultKind::BadIndex, at));
+        return Err(ScopesError::at(ScopesFaultKind::SplitTwice, at));
     }
     list[index] = Value {
         is_split: true,

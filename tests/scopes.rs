@@ -1,7 +1,8 @@
 //! The scopes of a map: what their texts mean, the first fault of each that means nothing, and the frames at a position. The rows are
 //! worked by hand from the rules. tools/compare/scopes compares random texts with another implementation.
 use crate::helpers::same;
-use oxc_sourcemap::{CallSite, GeneratedRange, OriginalScope, ScopeFrame, Scopes, ScopesError, ScopesFault, ScopesFaultKind, decode_scopes};
+use oxc_sourcemap::{CallSite, GeneratedRange, OriginalScope, ScopeChainEntry, ScopeFrame, Scopes, ScopesError, ScopesFault};
+use oxc_sourcemap::{ScopesFaultKind, decode_scopes};
 use oxc_sourcemap::read_scopes;
 use std::alloc::Global;
 use std::process::Abort;
@@ -168,7 +169,7 @@ fn texts_mean(rt: HostRuntime) -> Result<(), ScopesError> {
     Ok(())
 }
 
-use ScopesFaultKind::{BadIndex, CutShort, LeftOpen, MissingNumber, NotADigit, NotClosed, NothingOpen, TooDeep, TooLarge};
+use ScopesFaultKind::{BadIndex, CutShort, LeftOpen, MissingNumber, NotADigit, NotClosed, NothingOpen, SplitTwice, TooDeep, TooLarge};
 
 /// A text, how many names there are, and its first fault.
 const FAULTS: &[(&str, usize, ScopesFaultKind, usize)] = &[
@@ -254,8 +255,8 @@ const FAULTS: &[(&str, usize, ScopesFaultKind, usize)] = &[
     ("EAA,HA,FB", 1, BadIndex, 4),
     ("EAA,GB,HB,FB", 1, BadIndex, 7),
     ("EAA,HAAAB,GA,FB", 1, BadIndex, 4),
-    ("EAA,GB,HA,HA,FB", 1, BadIndex, 10),
-    ("EAA,GB,HAACB,HAADB,FB", 1, BadIndex, 13),
+    ("EAA,GB,HA,HA,FB", 1, SplitTwice, 10),
+    ("EAA,GB,HAACB,HAADB,FB", 1, SplitTwice, 13),
     ("EAA,GB,HAAAC,FB", 1, BadIndex, 7),
     ("EAA,GB,H,FB", 1, MissingNumber, 7),
     ("EAA,GB,HAA,FB", 1, MissingNumber, 7),
@@ -595,5 +596,53 @@ fn deeper_trees_are_refused(rt: HostRuntime) -> Result<(), ScopesError> {
     same(&rt, "scopes", scopes, Some(ScopesFault { kind: TooDeep, byte: 5 * (DEPTH + 1) }));
     let ranges = fault_of(rt.alloc(), "EAA", ",EAA", 100000)?;
     same(&rt, "ranges", ranges, Some(ScopesFault { kind: TooDeep, byte: 4 * (DEPTH + 1) }));
+    Ok(())
+}
+
+/// The entries of a chain: the index of a scope, and that of a range.
+type Chain = &'static [(usize, Option<usize>)];
+
+/// Three scopes, one in another; the outer one has a range, and in it the inner one.
+const SKIPPED: &str = "BAAA,BABA,BABA,CBA,CBA,CBA,ECAA,ECFE,FF,FK";
+
+/// A range of the inner of two scopes, in another one of it; then one of the outer; then one of none.
+const TWICE: &str = "BAAA,BABA,CBA,CBA,ECAC,ECFA,FF,FK,ECAD,FB,EAA,FB";
+
+/// A text, how many names there are, a position, and the chain there.
+const CHAINS: &[(&str, usize, At, Chain)] = &[
+    (INLINED, 7, (0, 25), &[(2, Some(2)), (0, Some(0))]),
+    (INLINED, 7, (0, 20), &[(2, Some(2)), (0, Some(0))]),
+    (INLINED, 7, (0, 30), &[(1, Some(1)), (0, Some(0))]),
+    (INLINED, 7, (0, 15), &[(1, Some(1)), (0, Some(0))]),
+    (INLINED, 7, (0, 5), &[(0, Some(0))]),
+    (INLINED, 7, (1, 0), &[]),
+    (SKIPPED, 0, (0, 7), &[(2, Some(1)), (1, None), (0, Some(0))]),
+    (SKIPPED, 0, (0, 12), &[(0, Some(0))]),
+    // The innermost range of a scope counts.
+    (TWICE, 0, (0, 7), &[(1, Some(1)), (0, None)]),
+    (TWICE, 0, (0, 12), &[(1, Some(0)), (0, None)]),
+    (TWICE, 0, (0, 20), &[(0, Some(2))]),
+    (TWICE, 0, (0, 21), &[]),
+    ("", 0, (0, 0), &[]),
+];
+
+fn same_chain(rt: &HostRuntime, text: &str, found: Vec<ScopeChainEntry>, wanted: Chain) {
+    same(rt, text, found.len(), wanted.len());
+    for (entry, wanted) in found.iter().zip(wanted) {
+        same(rt, text, (entry.scope, entry.range), *wanted);
+    }
+}
+
+#[test]
+fn chains_lead_outward(rt: HostRuntime) -> Result<(), ScopesError> {
+    for (text, names, (line, column), wanted) in CHAINS {
+        let scopes = decode_scopes(rt.alloc(), *text, *names)?;
+        same_chain(&rt, *text, scopes.scope_chain_at(rt.alloc(), *line, *column)?, *wanted);
+    }
+    // The frame of a call that was inlined has the scope at its call site.
+    let scopes = decode_scopes(rt.alloc(), INLINED, 7)?;
+    same_chain(&rt, "caller", scopes.scope_chain(rt.alloc(), 1, 0, 25)?, &[(1, Some(1)), (0, Some(0))]);
+    same_chain(&rt, "elsewhere", scopes.scope_chain(rt.alloc(), 2, 0, 15)?, &[(2, None), (0, Some(0))]);
+    same_chain(&rt, "past", scopes.scope_chain(rt.alloc(), 3, 0, 25)?, &[]);
     Ok(())
 }

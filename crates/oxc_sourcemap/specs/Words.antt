@@ -64,7 +64,8 @@ pub use Rattle.oxc_sourcemap_queries.specs.RangePieces.{place, pieces_of, DoCove
 pub use Rattle.oxc_sourcemap_scopes.specs.Asking.{frames_at, frames_record, scope_at, range_at}
 pub use Rattle.oxc_sourcemap_scopes.specs.Asking.{function_at, scope_seen, range_seen}
 pub use Rattle.oxc_sourcemap_scopes.specs.Asking.{variables_of, values_of, value_count, value_seen}
-pub use Rattle.oxc_sourcemap_scopes.specs.Asking.{expression_of, value_at}
+pub use Rattle.oxc_sourcemap_scopes.specs.Asking.{expression_of, value_at, scope_chain}
+pub use Rattle.oxc_sourcemap_scopes.specs.Asking.{scope_chain_at}
 pub use Rattle.oxc_sourcemap_scopes.specs.Reading.{scopes_of, read_scopes, ScopesRecord, AreSound}
 pub use Rattle.oxc_sourcemap_scopes.specs.Faults.{Reads}
 pub use Rattle.oxc_sourcemap_scopes.specs.Laws.{RangesAround, ScopesAround, FunctionsContain}

@@ -32,8 +32,8 @@ pub use oxc_sourcemap_parts::{Contents, Names, SourceMapParts, Sources, Tokens};
 pub use oxc_sourcemap_plan::{Plan, plan_fault_at};
 pub use oxc_sourcemap_queries::{Piece, Pieces};
 pub use oxc_sourcemap_scopes::{
-    CallSite, Frames, GeneratedRange, OriginalScope, ScopeFrame, Scopes, ScopesError, ScopesFault,
-    ScopesFaultKind, decode_scopes, read_scopes,
+    CallSite, Frames, GeneratedRange, OriginalScope, ScopeChainEntry, ScopeFrame, Scopes,
+    ScopesError, ScopesFault, ScopesFaultKind, decode_scopes, read_scopes,
 };
 pub use oxc_sourcemap_text::{
     DataUrlError, Language, PositionError, SourceMappingComment, TextPositions, decode_data_url,

@@ -1,11 +1,13 @@
 -- What is around a span does not rest on how many spans may be looked at.
 use Rattle.std.proofs.Common.{◌≡◌, ℕ, zero, suc, ◌<◌, ◌≤◌, true, false, List, length, get_or, refl}
-use Rattle.std.proofs.Common.{Option, Some, None, [], ◌∷◌, ap, arith, add-one}
+use Rattle.std.proofs.Common.{Option, Some, None, [], ◌∷◌, map, ap, arith, add-one}
 use Rattle.oxc_sourcemap_scopes.specs.declared.scopes.Span.{Span}
 use Rattle.oxc_sourcemap_scopes.specs.declared.scopes.RangeInfo.{RangeInfo}
 use Rattle.oxc_sourcemap_scopes.specs.Trees.{rank, span_at, parent_rank, AreNested}
 use Rattle.oxc_sourcemap_scopes.specs.Items.{no_range}
+use Rattle.oxc_sourcemap_scopes.specs.Reading.{ScopesRecord}
 use Rattle.oxc_sourcemap_scopes.specs.Asking.{around_within, around, is_code_of, code_of}
+use Rattle.oxc_sourcemap_scopes.specs.Asking.{entry_of, chain_of}
 
 same-around : (spans : List Span) (n m : ℕ) (at : Option ℕ) → AreNested spans → rank at ≤ n → rank at ≤ m → rank at ≤ length spans
     → around_within n spans at ≡ around_within m spans at
@@ -42,3 +44,11 @@ code-step spans infos scope i h l not = rw (← around-step spans i h l) (rw not
 
 pub code-none : (spans : List Span) (infos : List RangeInfo) (scope : ℕ) → None ≡ code_of infos scope (around spans None)
 code-none spans infos scope = rw (around-none spans) refl
+
+-- a scope's entry, and those of what is around it
+pub chain-step : (s : ScopesRecord) (range : Option ℕ) (i : ℕ) → AreNested s.scopes → i < length s.scopes
+    → entry_of s range i ∷ chain_of s (span_at s.scopes i).parent range ≡ chain_of s (Some i) range
+chain-step s range i h l = ap (map (entry_of s range)) (around-step s.scopes i h l)
+
+pub chain-none : (s : ScopesRecord) (range : Option ℕ) → [] ≡ chain_of s None range
+chain-none s range = rw (around-none s.scopes) refl

@@ -2,7 +2,10 @@
 use Rattle.std.specs.Prelude.{◌≡◌, ℕ, zero, suc, false, List, [], ◌∷◌, length, get_or}
 use Rattle.std.specs.Prelude.{Option, Some, None, ◌<◌, IfSome, IfOk, slice_get}
 use Rattle.std.specs.Prelude.{if◌then◌else◌}
+use Rattle.std.specs.List.{All}
 use Rattle.oxc_sourcemap_scopes.specs.declared.scopes.Span.{Span}
+use Rattle.oxc_sourcemap_scopes.specs.declared.scopes.Value.{Value}
+use Rattle.oxc_sourcemap_scopes.specs.declared.scopes.ValuePiece.{ValuePiece}
 use Rattle.oxc_sourcemap_scopes.specs.Trees.{span_at, contains}
 use Rattle.oxc_sourcemap_scopes.specs.Reading.{ScopesRecord, AreSound, scopes_of}
 use Rattle.oxc_sourcemap_scopes.specs.Asking.{place, scope_at, range_at, function_at, frames_at}
@@ -82,3 +85,21 @@ SourcesLead = (text : List ℕ) (names : ℕ) → IfOk (scopes_of text names) Ar
 -- The names and the kinds of scopes that were read are below the number of names.
 abbrev pub NamesLead : Type 0
 NamesLead = (text : List ℕ) (names : ℕ) → IfOk (scopes_of text names) (λ s. AreNamed names s.scope_infos)
+
+-- a value has the expression of one of so many names, or none
+abbrev pub IsValueNamed : ℕ → Value → Type 0
+IsValueNamed names value = IfSome value.expression (λ i. i < names)
+
+-- a piece has the expression of one of so many names, or none
+abbrev pub IsPieceNamed : ℕ → ValuePiece → Type 0
+IsPieceNamed names piece = IfSome piece.expression (λ i. i < names)
+
+-- variables, the expressions of values and those of their pieces are among so many names
+pub record AreBound (names : ℕ) (s : ScopesRecord) : Type 0 where
+  pub variables : All (All (λ i. i < names)) s.variables
+  pub values : All (All (IsValueNamed names)) s.values
+  pub pieces : All (All (IsPieceNamed names)) s.pieces
+
+-- The variables of scopes that were read, and the expressions of values, are below the number of names.
+abbrev pub ValuesLead : Type 0
+ValuesLead = (text : List ℕ) (names : ℕ) → IfOk (scopes_of text names) (AreBound names)

@@ -1,7 +1,7 @@
 //! Laws of scopes. Each is a function that does nothing: its contract is the law.
 ghost use Rattle.oxc_sourcemap_scopes.specs.Laws.{RangesAround, ScopesAround};
 ghost use Rattle.oxc_sourcemap_scopes.specs.Laws.{FunctionsContain, FramesContain, NamesLead};
-ghost use Rattle.oxc_sourcemap_scopes.specs.Laws.{SourcesLead};
+ghost use Rattle.oxc_sourcemap_scopes.specs.Laws.{SourcesLead, ValuesLead};
 
 /// What is found from the inside out at a position are all ranges, and all scopes of a source, that contain it: they start by the
 /// position, and end after it. So its function is the innermost of these scopes that is a stack frame, and its frames are those of
@@ -23,9 +23,9 @@ pub fn found_contain()
     ensures frames { FramesContain }
 {}
 
-/// The indices that scopes were read with lead somewhere: names and kinds are below the number of names, and the source of a scope is
-/// below the number of sources (`source_count`). That of a call site may be any; that a definition leads to a scope is an invariant of
-/// `Scopes`.
+/// The indices that scopes were read with lead somewhere: the names, kinds and variables of scopes, and the expressions of values, are
+/// below the number of names, and the source of a scope is below the number of sources (`source_count`). That of a call site may be
+/// any; that a definition leads to a scope is an invariant of `Scopes`.
 ///
 /// ```rust
 /// use oxc_sourcemap::decode_scopes;
@@ -40,4 +40,5 @@ pub fn found_contain()
 pub fn scopes_lead()
     ensures names { NamesLead }
     ensures sources { SourcesLead }
+    ensures values { ValuesLead }
 {}

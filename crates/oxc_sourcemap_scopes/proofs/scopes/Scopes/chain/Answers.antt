@@ -1,4 +1,5 @@
-use Rattle.std.proofs.Common.{◌≡◌, ◌<◌, ◌≤◌, ◌++◌, ◌∷◌, [], length, Some, None, map, ap, sym, ◌∙◌, append_assoc}
+use Rattle.std.proofs.Common.{◌≡◌, ◌<◌, ◌≤◌, ◌++◌, ◌∷◌, [], length, Some, None, map}
+use Rattle.std.proofs.Common.{ap, sym, ◌∙◌, append_assoc}
 use Rattle.std.proofs.Common.{arith, rules}
 use Rattle.std.proofs.lemmas.List.{get_or_read, append-nil}
 use Rattle.oxc_sourcemap_scopes.specs.Trees.{rank, span_at, parent_rank, no_span}

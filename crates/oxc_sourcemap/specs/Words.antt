@@ -17,14 +17,14 @@ pub use Rattle.oxc_sourcemap_join.specs.Joined.{joined, lent_maps, IsWithinLimit
 pub use Rattle.oxc_sourcemap_join.specs.Joined.{at_lines, added, nothing_joined, position}
 pub use Rattle.oxc_sourcemap_join.specs.Joined.{at_positions}
 pub use Rattle.oxc_sourcemap_json.specs.JsonRecord.{json_record}
-pub use Rattle.oxc_sourcemap_laws.specs.ComposeLaws.{grouped_left, grouped_right, IsSeveralSources}
-pub use Rattle.oxc_sourcemap_laws.specs.ComposedDecodedMaps.{composed_decoded_maps}
-pub use Rattle.oxc_sourcemap_laws.specs.JoinLaws.{HaveSameTraces, without_chunks}
-pub use Rattle.oxc_sourcemap_laws.specs.JoinLaws.{decoded_maps_of}
-pub use Rattle.oxc_sourcemap_laws.specs.JoinedDecodedMaps.{joined_decoded_maps}
-pub use Rattle.oxc_sourcemap_laws.specs.RemapLaws.{each_remapped}
-pub use Rattle.oxc_sourcemap_laws.specs.RemappedDecodedMaps.{remapped_decoded_map}
-pub use Rattle.oxc_sourcemap_laws.specs.Repeats.{EqualUpToRepeats}
+pub use Rattle.oxc_sourcemap_plan.specs.ComposeLaws.{grouped_left, grouped_right, IsSeveralSources}
+pub use Rattle.oxc_sourcemap_plan.specs.ComposedDecodedMaps.{composed_decoded_maps}
+pub use Rattle.oxc_sourcemap_plan.specs.JoinLaws.{HaveSameTraces, without_chunks}
+pub use Rattle.oxc_sourcemap_plan.specs.JoinLaws.{decoded_maps_of}
+pub use Rattle.oxc_sourcemap_plan.specs.JoinedDecodedMaps.{joined_decoded_maps}
+pub use Rattle.oxc_sourcemap_plan.specs.RemapLaws.{each_remapped}
+pub use Rattle.oxc_sourcemap_plan.specs.RemappedDecodedMaps.{remapped_decoded_map}
+pub use Rattle.oxc_sourcemap_plan.specs.Repeats.{EqualUpToRepeats}
 pub use Rattle.oxc_sourcemap_steps.specs.Composed.{composition, composition_fault, SomeComposition}
 pub use Rattle.oxc_sourcemap_steps.specs.Composed.{NoColumnGoesBack}
 pub use Rattle.oxc_sourcemap_compiled.specs.Compiled.{AreBytesOf, FitsCompiled}

@@ -4,9 +4,9 @@ use Rattle.std.proofs.lemmas.Bool.Decides.{nat_tests}
 use Rattle.oxc_sourcemap_parts.specs.Record.{MapRecord}
 use Rattle.oxc_sourcemap_parts.specs.DecodedMap.{decoded_map_of}
 use Rattle.oxc_sourcemap_json.specs.Encoded.{encoded_record}
-use Rattle.oxc_sourcemap_laws.specs.MapLaws.{rewritten, SoundIsWritten, SoundReadsBack}
-use Rattle.oxc_sourcemap_laws.specs.JoinLaws.{TracesAgree}
-use Rattle.oxc_sourcemap_laws.proofs.UpToRepeats.{matches}
+use Rattle.oxc_sourcemap_plan.specs.MapLaws.{rewritten, SoundIsWritten, SoundReadsBack}
+use Rattle.oxc_sourcemap_plan.specs.JoinLaws.{TracesAgree}
+use Rattle.oxc_sourcemap_plan.proofs.UpToRepeats.{matches}
 use Rattle.oxc_sourcemap_tokens.specs.declared.errors.error.Error.TheVariants.{OutOfMemory}
 use Rattle.oxc_sourcemap_tokens.specs.declared.errors.plan_error.PlanError.{PlanError}
 use Rattle.oxc_sourcemap_tokens.specs.declared.errors.plan_error.PlanError.TheVariants.{Map}

@@ -26,10 +26,10 @@ use Rattle.oxc_sourcemap_json.specs.JoinLimits.{is_map_within_limits}
 use Rattle.oxc_sourcemap_json.specs.ReadMap.{ReadForm, plain, indexed, indexed_record, map_of_form}
 use Rattle.oxc_sourcemap_json.specs.ReadMap.{form_of_text, read_map}
 use Rattle.oxc_sourcemap_json.proofs.WellRead.{IsWellRead, sections_well, read_is_form}
-use Rattle.oxc_sourcemap_laws.specs.Repeats.{is_sorted_decoded_map}
-use Rattle.oxc_sourcemap_laws.specs.JoinedDecodedMaps.{joined_decoded_maps}
-use Rattle.oxc_sourcemap_laws.specs.JoinLaws.{decoded_maps_of}
-use Rattle.oxc_sourcemap_laws.specs.ComposedDecodedMaps.{composed_decoded_maps}
+use Rattle.oxc_sourcemap_plan.specs.Repeats.{is_sorted_decoded_map}
+use Rattle.oxc_sourcemap_plan.specs.JoinedDecodedMaps.{joined_decoded_maps}
+use Rattle.oxc_sourcemap_plan.specs.JoinLaws.{decoded_maps_of}
+use Rattle.oxc_sourcemap_plan.specs.ComposedDecodedMaps.{composed_decoded_maps}
 use Rattle.oxc_sourcemap_plan.specs.declared.plan.Plan.{Plan}
 use Rattle.oxc_sourcemap_plan.specs.declared.plan.Plan.TheOpen.{Plan-F}
 use Rattle.oxc_sourcemap_plan.specs.declared.plan.Plan.TheViews.{roll-Plan}

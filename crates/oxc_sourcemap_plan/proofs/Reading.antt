@@ -24,12 +24,12 @@ use Rattle.oxc_sourcemap_json.specs.ReadMap.{ReadForm, plain, indexed, indexed_r
 use Rattle.oxc_sourcemap_json.specs.ReadMap.{form_of_text, read_map}
 use Rattle.oxc_sourcemap_json.proofs.JoinLimits.{limits_decided}
 use Rattle.oxc_sourcemap_json.proofs.WellRead.{IsWellRead, sections_well, read_is_form}
-use Rattle.oxc_sourcemap_laws.specs.Repeats.{EqualUpToRepeats, is_sorted_decoded_map}
-use Rattle.oxc_sourcemap_laws.specs.JoinedDecodedMaps.{lowered, joined_decoded_maps}
-use Rattle.oxc_sourcemap_laws.specs.JoinLaws.{AreIgnoreListsInRange, decoded_maps_of}
-use Rattle.oxc_sourcemap_laws.proofs.JoinStands.{sorted-mappings}
-use Rattle.oxc_sourcemap_laws.proofs.Sections.{all-in-range, from-sections, joined-of}
-use Rattle.oxc_sourcemap_laws.proofs.UpToRepeats.{sorted_decoded_map_up_to_repeats}
+use Rattle.oxc_sourcemap_plan.specs.Repeats.{EqualUpToRepeats, is_sorted_decoded_map}
+use Rattle.oxc_sourcemap_plan.specs.JoinedDecodedMaps.{lowered, joined_decoded_maps}
+use Rattle.oxc_sourcemap_plan.specs.JoinLaws.{AreIgnoreListsInRange, decoded_maps_of}
+use Rattle.oxc_sourcemap_plan.proofs.JoinStands.{sorted-mappings}
+use Rattle.oxc_sourcemap_plan.proofs.Sections.{all-in-range, from-sections, joined-of}
+use Rattle.oxc_sourcemap_plan.proofs.UpToRepeats.{sorted_decoded_map_up_to_repeats}
 use Rattle.oxc_sourcemap_tokens.specs.declared.errors.plan_error.PlanError.TheVariants.{Map}
 use Rattle.oxc_sourcemap_tokens.specs.declared.errors.plan_error.PlanError.TheVariants.{Unsorted}
 use Rattle.oxc_sourcemap_plan.specs.Limits.{are_counts_within_limits, are_positions_within_limits}

@@ -35,8 +35,8 @@ use Rattle.oxc_sourcemap_parts.specs.DecodedMap.{sources_of, mapping_of, decoded
 use Rattle.oxc_sourcemap_json.specs.Decoded.{decoded}
 use Rattle.oxc_sourcemap_json.specs.Encoded.{encoded, encoded_record, written_contents}
 use Rattle.oxc_sourcemap_mappings.specs.ChunkTexts.{writing_fault}
-use Rattle.oxc_sourcemap_laws.specs.MapLaws.{SoundIsWritten, SoundIsTooLarge, SoundReadsBack}
-use Rattle.oxc_sourcemap_laws.specs.MapLaws.{SoundStaysSound, rewritten}
+use Rattle.oxc_sourcemap_plan.specs.MapLaws.{SoundIsWritten, SoundIsTooLarge, SoundReadsBack}
+use Rattle.oxc_sourcemap_plan.specs.MapLaws.{SoundStaysSound, rewritten}
 use Rattle.oxc_sourcemap_tokens.specs.declared.position.Position.{Position}
 use Rattle.oxc_sourcemap_join.specs.Joined.{is_same_token, without_repeat, shifted, added}
 use Rattle.oxc_sourcemap_join.specs.Joined.{added_all, nothing_joined, joined, AreEntriesInBounds}
@@ -45,19 +45,19 @@ use Rattle.oxc_sourcemap_join.proofs.Fitted.{length-fitted}
 use Rattle.oxc_sourcemap_tokens.specs.Errors.{unless}
 use Rattle.oxc_sourcemap_steps.specs.Composed.{targets, composed_names, composed, are_ids}
 use Rattle.oxc_sourcemap_steps.specs.Composed.{composition}
-use Rattle.oxc_sourcemap_laws.specs.Repeats.{decoded_map_without_repeats, EqualUpToRepeats}
-use Rattle.oxc_sourcemap_laws.specs.Repeats.{is_sorted_decoded_map}
-use Rattle.oxc_sourcemap_laws.proofs.UpToRepeats.{matches}
-use Rattle.oxc_sourcemap_laws.specs.JoinedDecodedMaps.{joined_decoded_maps, lowered}
-use Rattle.oxc_sourcemap_laws.specs.ComposedDecodedMaps.{composed_decoded_maps}
-use Rattle.oxc_sourcemap_laws.specs.JoinLaws.{TestsAgree, DecodedMapOfJoin}
-use Rattle.oxc_sourcemap_laws.specs.JoinLaws.{JoinKeepsEqualUpToRepeats, JoinStandsFor, JoinInRange}
-use Rattle.oxc_sourcemap_laws.specs.JoinLaws.{JoinNames, JoinTokens, AreAllInRange}
-use Rattle.oxc_sourcemap_laws.specs.JoinLaws.{AreIgnoreListsInRange, AreEqualUpToRepeats}
-use Rattle.oxc_sourcemap_laws.specs.JoinLaws.{decoded_maps_of, AllStandFor}
-use Rattle.oxc_sourcemap_laws.specs.ComposeLaws.{CompositionStandsFor, CompositionNames}
-use Rattle.oxc_sourcemap_laws.specs.ComposeLaws.{CompositionTokens, CompositionTooLarge}
-use Rattle.oxc_sourcemap_laws.specs.ComposeLaws.{CompositionInBounds}
+use Rattle.oxc_sourcemap_plan.specs.Repeats.{decoded_map_without_repeats, EqualUpToRepeats}
+use Rattle.oxc_sourcemap_plan.specs.Repeats.{is_sorted_decoded_map}
+use Rattle.oxc_sourcemap_plan.proofs.UpToRepeats.{matches}
+use Rattle.oxc_sourcemap_plan.specs.JoinedDecodedMaps.{joined_decoded_maps, lowered}
+use Rattle.oxc_sourcemap_plan.specs.ComposedDecodedMaps.{composed_decoded_maps}
+use Rattle.oxc_sourcemap_plan.specs.JoinLaws.{TestsAgree, DecodedMapOfJoin}
+use Rattle.oxc_sourcemap_plan.specs.JoinLaws.{JoinKeepsEqualUpToRepeats, JoinStandsFor, JoinInRange}
+use Rattle.oxc_sourcemap_plan.specs.JoinLaws.{JoinNames, JoinTokens, AreAllInRange}
+use Rattle.oxc_sourcemap_plan.specs.JoinLaws.{AreIgnoreListsInRange, AreEqualUpToRepeats}
+use Rattle.oxc_sourcemap_plan.specs.JoinLaws.{decoded_maps_of, AllStandFor}
+use Rattle.oxc_sourcemap_plan.specs.ComposeLaws.{CompositionStandsFor, CompositionNames}
+use Rattle.oxc_sourcemap_plan.specs.ComposeLaws.{CompositionTokens, CompositionTooLarge}
+use Rattle.oxc_sourcemap_plan.specs.ComposeLaws.{CompositionInBounds}
 use Rattle.oxc_sourcemap_tokens.specs.declared.errors.plan_error.PlanError.{PlanError}
 use Rattle.oxc_sourcemap_tokens.specs.declared.errors.plan_error.PlanError.TheVariants.{Map}
 use Rattle.oxc_sourcemap_tokens.specs.declared.errors.plan_error.PlanError.TheVariants.{Unsorted}

@@ -11,14 +11,14 @@ use Rattle.oxc_sourcemap_parts.specs.Record.{Text, MapRecord}
 use Rattle.oxc_sourcemap_parts.specs.Roots.{rooted}
 use Rattle.oxc_sourcemap_parts.specs.DecodedMap.{DecodedMap}
 use Rattle.oxc_sourcemap_steps.specs.Remapped.{remapped, remapping}
-use Rattle.oxc_sourcemap_laws.specs.RemappedDecodedMaps.{remapped_mapping, remapped_decoded_map}
-use Rattle.oxc_sourcemap_laws.specs.RootedDecodedMaps.{rooted_mapping, rooted_decoded_map}
-use Rattle.oxc_sourcemap_laws.specs.RootLaws.{RootingStandsFor}
-use Rattle.oxc_sourcemap_laws.specs.RemapLaws.{InputsStandFor, RemappingStandsFor, RemappingCounts}
-use Rattle.oxc_sourcemap_laws.specs.RemapLaws.{names_of_inputs, RemappingNames, AreInputsSorted}
-use Rattle.oxc_sourcemap_laws.specs.RemapLaws.{SortedInputsGoOn, RemappingAnswered}
-use Rattle.oxc_sourcemap_laws.specs.RemapLaws.{RemappingTooLarge, AreInputsInBounds}
-use Rattle.oxc_sourcemap_laws.specs.RemapLaws.{RemappingInBounds}
+use Rattle.oxc_sourcemap_plan.specs.RemappedDecodedMaps.{remapped_mapping, remapped_decoded_map}
+use Rattle.oxc_sourcemap_plan.specs.RootedDecodedMaps.{rooted_mapping, rooted_decoded_map}
+use Rattle.oxc_sourcemap_plan.specs.RootLaws.{RootingStandsFor}
+use Rattle.oxc_sourcemap_plan.specs.RemapLaws.{InputsStandFor, RemappingStandsFor, RemappingCounts}
+use Rattle.oxc_sourcemap_plan.specs.RemapLaws.{names_of_inputs, RemappingNames, AreInputsSorted}
+use Rattle.oxc_sourcemap_plan.specs.RemapLaws.{SortedInputsGoOn, RemappingAnswered}
+use Rattle.oxc_sourcemap_plan.specs.RemapLaws.{RemappingTooLarge, AreInputsInBounds}
+use Rattle.oxc_sourcemap_plan.specs.RemapLaws.{RemappingInBounds}
 use Rattle.oxc_sourcemap_tokens.specs.declared.errors.plan_error.PlanError.{PlanError}
 use Rattle.oxc_sourcemap_tokens.specs.declared.errors.plan_error.PlanError.TheVariants.{Map}
 use Rattle.oxc_sourcemap_plan.specs.Meaning.{root_meaning, onto_inputs, all_inputs, remap_meaning}

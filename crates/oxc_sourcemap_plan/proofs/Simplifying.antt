@@ -16,10 +16,10 @@ use Rattle.oxc_sourcemap_parts.specs.DecodedMap.{decoded_map_of}
 use Rattle.oxc_sourcemap_steps.specs.Simplified.{simplified_decoded_map, simplified, fits}
 use Rattle.oxc_sourcemap_steps.specs.Simplified.{simplification}
 use Rattle.oxc_sourcemap_steps.specs.SimplifyLaws.{DecodedMapOfSimplified}
-use Rattle.oxc_sourcemap_laws.specs.JoinLaws.{StandsFor}
-use Rattle.oxc_sourcemap_laws.specs.SimplifiedMaps.{SimplifyingEndsRepeats, SimplifyingStandsFor}
-use Rattle.oxc_sourcemap_laws.specs.SimplifiedMaps.{SimplifyingCounts, SimplifyingNames}
-use Rattle.oxc_sourcemap_laws.specs.SimplifiedMaps.{SimplifyingInBounds}
+use Rattle.oxc_sourcemap_plan.specs.JoinLaws.{StandsFor}
+use Rattle.oxc_sourcemap_plan.specs.SimplifiedMaps.{SimplifyingEndsRepeats, SimplifyingStandsFor}
+use Rattle.oxc_sourcemap_plan.specs.SimplifiedMaps.{SimplifyingCounts, SimplifyingNames}
+use Rattle.oxc_sourcemap_plan.specs.SimplifiedMaps.{SimplifyingInBounds}
 use Rattle.oxc_sourcemap_tokens.specs.declared.errors.plan_error.PlanError.{PlanError}
 use Rattle.oxc_sourcemap_tokens.specs.declared.errors.plan_error.PlanError.TheVariants.{Map}
 use Rattle.oxc_sourcemap_tokens.specs.declared.errors.plan_error.PlanError.TheVariants.{Unsorted}

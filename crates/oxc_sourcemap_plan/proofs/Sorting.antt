@@ -28,15 +28,15 @@ use Rattle.oxc_sourcemap_json.specs.JoinLimits.{is_map_within_limits}
 use Rattle.oxc_sourcemap_json.specs.ReadMap.{ReadForm, plain, indexed, indexed_record, map_of_form}
 use Rattle.oxc_sourcemap_json.specs.ReadMap.{form_of_text, read_map}
 use Rattle.oxc_sourcemap_json.proofs.WellRead.{IsWellRead, sections_well, read_is_form, read_well}
-use Rattle.oxc_sourcemap_laws.specs.Repeats.{decoded_map_without_repeats, without_repeats}
-use Rattle.oxc_sourcemap_laws.specs.Repeats.{is_same_mapping, EqualUpToRepeats}
-use Rattle.oxc_sourcemap_laws.specs.JoinedDecodedMaps.{joined_decoded_maps}
-use Rattle.oxc_sourcemap_laws.specs.JoinLaws.{decoded_maps_of}
-use Rattle.oxc_sourcemap_laws.proofs.DroppingRepeats.{IsBlind, up_to_repeats_by}
-use Rattle.oxc_sourcemap_laws.proofs.DroppingRepeats.{blind_without_repeats, blind_after_list}
-use Rattle.oxc_sourcemap_laws.proofs.Same.{decides_entry}
-use Rattle.oxc_sourcemap_laws.proofs.Sections.{from-sections, joined-of}
-use Rattle.oxc_sourcemap_laws.proofs.UpToRepeats.{matches, up_to_repeats}
+use Rattle.oxc_sourcemap_plan.specs.Repeats.{decoded_map_without_repeats, without_repeats}
+use Rattle.oxc_sourcemap_plan.specs.Repeats.{is_same_mapping, EqualUpToRepeats}
+use Rattle.oxc_sourcemap_plan.specs.JoinedDecodedMaps.{joined_decoded_maps}
+use Rattle.oxc_sourcemap_plan.specs.JoinLaws.{decoded_maps_of}
+use Rattle.oxc_sourcemap_plan.proofs.DroppingRepeats.{IsBlind, up_to_repeats_by}
+use Rattle.oxc_sourcemap_plan.proofs.DroppingRepeats.{blind_without_repeats, blind_after_list}
+use Rattle.oxc_sourcemap_plan.proofs.Same.{decides_entry}
+use Rattle.oxc_sourcemap_plan.proofs.Sections.{from-sections, joined-of}
+use Rattle.oxc_sourcemap_plan.proofs.UpToRepeats.{matches, up_to_repeats}
 use Rattle.oxc_sourcemap_steps.specs.Sorting.{put_in, sorted_by, sorted_tokens, sorted_map}
 use Rattle.oxc_sourcemap_steps.specs.Sorting.{sorted_decoded_map}
 use Rattle.oxc_sourcemap_steps.proofs.Sorting.{precedes, sorted-once}

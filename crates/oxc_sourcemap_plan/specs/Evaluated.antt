@@ -7,10 +7,10 @@ use Rattle.oxc_sourcemap_mappings.specs.Canonical.{canonical}
 use Rattle.oxc_sourcemap_parts.specs.Record.{Text, MapRecord}
 use Rattle.oxc_sourcemap_parts.specs.DecodedMap.{DecodedMap, decoded_map_of}
 use Rattle.oxc_sourcemap_parts.specs.Sound.{IsSound}
-use Rattle.oxc_sourcemap_laws.specs.Repeats.{EqualUpToRepeats, EqualButForMappings}
+use Rattle.oxc_sourcemap_plan.specs.Repeats.{EqualUpToRepeats, EqualButForMappings}
 use Rattle.oxc_sourcemap_json.specs.Encoded.{encoded, encoded_record}
-use Rattle.oxc_sourcemap_laws.specs.MapLaws.{ComesBack}
-use Rattle.oxc_sourcemap_laws.specs.JoinLaws.{HaveSameTraces}
+use Rattle.oxc_sourcemap_plan.specs.MapLaws.{ComesBack}
+use Rattle.oxc_sourcemap_plan.specs.JoinLaws.{HaveSameTraces}
 use Rattle.oxc_sourcemap_tokens.specs.declared.errors.plan_error.PlanError.{PlanError}
 use Rattle.oxc_sourcemap_tokens.specs.declared.errors.plan_error.PlanError.TheVariants.{Map}
 use Rattle.oxc_sourcemap_tokens.specs.declared.errors.error.Error.TheVariants.{TooLarge}

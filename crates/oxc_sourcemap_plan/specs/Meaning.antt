@@ -11,12 +11,12 @@ use Rattle.oxc_sourcemap_steps.specs.Sorting.{sorted_decoded_map}
 use Rattle.oxc_sourcemap_tokens.specs.declared.position.Position.{Position}
 use Rattle.oxc_sourcemap_join.specs.Joined.{at_lines, at_positions}
 use Rattle.oxc_sourcemap_json.specs.ReadMap.{ReadForm, plain, indexed, form_of_text}
-use Rattle.oxc_sourcemap_laws.specs.Repeats.{is_sorted_decoded_map}
-use Rattle.oxc_sourcemap_laws.specs.JoinedDecodedMaps.{joined_decoded_maps}
-use Rattle.oxc_sourcemap_laws.specs.JoinLaws.{decoded_maps_of}
-use Rattle.oxc_sourcemap_laws.specs.ComposedDecodedMaps.{composed_decoded_maps}
-use Rattle.oxc_sourcemap_laws.specs.RemappedDecodedMaps.{remapped_decoded_map}
-use Rattle.oxc_sourcemap_laws.specs.RootedDecodedMaps.{rooted_decoded_map}
+use Rattle.oxc_sourcemap_plan.specs.Repeats.{is_sorted_decoded_map}
+use Rattle.oxc_sourcemap_plan.specs.JoinedDecodedMaps.{joined_decoded_maps}
+use Rattle.oxc_sourcemap_plan.specs.JoinLaws.{decoded_maps_of}
+use Rattle.oxc_sourcemap_plan.specs.ComposedDecodedMaps.{composed_decoded_maps}
+use Rattle.oxc_sourcemap_plan.specs.RemappedDecodedMaps.{remapped_decoded_map}
+use Rattle.oxc_sourcemap_plan.specs.RootedDecodedMaps.{rooted_decoded_map}
 use Rattle.oxc_sourcemap_steps.specs.Simplified.{simplified_decoded_map}
 use Rattle.oxc_sourcemap_tokens.specs.declared.errors.plan_error.PlanError.{PlanError}
 use Rattle.oxc_sourcemap_tokens.specs.declared.errors.plan_error.PlanError.TheVariants.{Map}

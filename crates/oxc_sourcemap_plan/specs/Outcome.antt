@@ -8,7 +8,7 @@ use Rattle.oxc_sourcemap_tokens.specs.declared.errors.error.Error.{Error}
 use Rattle.oxc_sourcemap_parts.specs.Record.{Text, MapRecord}
 use Rattle.oxc_sourcemap_parts.specs.Roots.{rooted}
 use Rattle.oxc_sourcemap_parts.specs.DecodedMap.{DecodedMap}
-use Rattle.oxc_sourcemap_laws.specs.MapLaws.{rewritten}
+use Rattle.oxc_sourcemap_plan.specs.MapLaws.{rewritten}
 use Rattle.oxc_sourcemap_steps.specs.Composed.{composed}
 use Rattle.oxc_sourcemap_steps.specs.Remapped.{remapped}
 use Rattle.oxc_sourcemap_steps.specs.Simplified.{simplified}
@@ -16,8 +16,8 @@ use Rattle.oxc_sourcemap_steps.specs.Sorting.{sorted_map}
 use Rattle.oxc_sourcemap_tokens.specs.declared.position.Position.{Position}
 use Rattle.oxc_sourcemap_join.specs.Joined.{at_lines, at_positions, joined}
 use Rattle.oxc_sourcemap_json.specs.ReadMap.{ReadForm, plain, indexed, indexed_record, form_of_text}
-use Rattle.oxc_sourcemap_laws.specs.JoinedDecodedMaps.{joined_decoded_maps}
-use Rattle.oxc_sourcemap_laws.specs.JoinLaws.{decoded_maps_of}
+use Rattle.oxc_sourcemap_plan.specs.JoinedDecodedMaps.{joined_decoded_maps}
+use Rattle.oxc_sourcemap_plan.specs.JoinLaws.{decoded_maps_of}
 use Rattle.oxc_sourcemap_plan.specs.declared.plan.Plan.{Plan}
 use Rattle.oxc_sourcemap_plan.specs.declared.plan.Plan.TheOpen.{Plan-F}
 use Rattle.oxc_sourcemap_plan.specs.declared.plan.Plan.TheFolds.{fold-Plan}

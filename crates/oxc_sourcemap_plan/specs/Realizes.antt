@@ -8,9 +8,9 @@ use Rattle.oxc_sourcemap_parts.specs.Views.{record_of_parts}
 use Rattle.oxc_sourcemap_parts.specs.declared.parts.SourceMapParts.{SourceMapParts}
 use Rattle.oxc_sourcemap_parts.specs.DecodedMap.{DecodedMap}
 use Rattle.oxc_sourcemap_json.specs.ReadMap.{read_map}
-use Rattle.oxc_sourcemap_laws.specs.MapLaws.{rewritten}
+use Rattle.oxc_sourcemap_plan.specs.MapLaws.{rewritten}
 use Rattle.oxc_sourcemap_tokens.specs.declared.position.Position.{Position}
-use Rattle.oxc_sourcemap_laws.specs.JoinLaws.{StandsFor}
+use Rattle.oxc_sourcemap_plan.specs.JoinLaws.{StandsFor}
 use Rattle.oxc_sourcemap_tokens.specs.declared.errors.plan_error.PlanError.{PlanError}
 use Rattle.oxc_sourcemap_tokens.specs.declared.errors.plan_error.PlanError.TheVariants.{Map}
 use Rattle.oxc_sourcemap_plan.specs.Outcome.{Outcome}

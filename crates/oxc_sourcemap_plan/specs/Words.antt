@@ -32,3 +32,62 @@ pub use Rattle.oxc_sourcemap_plan.specs.PlanPlaces.{fault_place_in}
 pub use Rattle.oxc_sourcemap_plan.specs.Realizes.{PartsRealize, FailsAs, AllRealize, InputsRealize}
 pub use Rattle.oxc_sourcemap_plan.specs.RunErrors.{out_of_memory, run_error_text, status_of}
 pub use Rattle.oxc_sourcemap_plan.specs.declared.run_error.RunError.TheVariants.{Plan}
+pub use Rattle.oxc_sourcemap_json.specs.ReadLaws.{ReadIsInBounds, ReadIsInLineOrder}
+pub use Rattle.oxc_sourcemap_mappings.specs.TextLaws.{CanonicalUnique, ReadsBack, ReadsAgain}
+pub use Rattle.oxc_sourcemap_mappings.specs.TextLaws.{InPieces, ChunkTextsAreAscii}
+pub use Rattle.oxc_sourcemap_plan.specs.ComposeLaws.{DecodedMapOfComposition}
+pub use Rattle.oxc_sourcemap_plan.specs.ComposeLaws.{CompositionKeepsEqualUpToRepeats}
+pub use Rattle.oxc_sourcemap_plan.specs.ComposeLaws.{CompositionStandsFor, DecodedMapsAssociative}
+pub use Rattle.oxc_sourcemap_plan.specs.ComposeLaws.{ComposedMapsAssociative}
+pub use Rattle.oxc_sourcemap_plan.specs.ComposeLaws.{CompositionAssociative, GroupingsFailTogether}
+pub use Rattle.oxc_sourcemap_plan.specs.ComposeLaws.{GroupingsAnswered, GroupingsTell}
+pub use Rattle.oxc_sourcemap_plan.specs.ComposeLaws.{CompositionInRange, CompositionNames}
+pub use Rattle.oxc_sourcemap_plan.specs.ComposeLaws.{CompositionTokens, CompositionTooLarge}
+pub use Rattle.oxc_sourcemap_plan.specs.ComposeLaws.{CompositionInBounds, SortedGoesOn}
+pub use Rattle.oxc_sourcemap_plan.specs.JoinLaws.{RepeatsHarmless, TracesAgree, TestsAgree}
+pub use Rattle.oxc_sourcemap_plan.specs.JoinLaws.{JoinKeepsEqualUpToRepeats, DecodedMapOfJoin}
+pub use Rattle.oxc_sourcemap_plan.specs.JoinLaws.{JoinStandsFor, JoinInRange, JoinNames, JoinTokens}
+pub use Rattle.oxc_sourcemap_plan.specs.JoinLaws.{JoinChunksFit, JoinsAssociative, JoinOneMore}
+pub use Rattle.oxc_sourcemap_plan.specs.MapLaws.{SoundIsWritten, SoundIsTooLarge, SoundReadsBack}
+pub use Rattle.oxc_sourcemap_plan.specs.MapLaws.{SoundStaysSound}
+pub use Rattle.oxc_sourcemap_plan.specs.SectionLaws.{ValueOfSections, TextOfSections}
+pub use Rattle.oxc_sourcemap_plan.specs.TraceLaws.{TracesOfComposition, TracesOfComposedMaps}
+pub use Rattle.oxc_sourcemap_plan.specs.TraceLaws.{TracesOnOwnLine, TracesOfSortedJoin}
+pub use Rattle.oxc_sourcemap_plan.specs.TraceLaws.{TracesWithinPart, TracesOfJoinedMaps}
+pub use Rattle.oxc_sourcemap_plan.specs.TraceLaws.{TracesOnOwnLineOfMaps, TracesOfRemapping}
+pub use Rattle.oxc_sourcemap_plan.specs.BundleLaws.{TracesOfBundle}
+pub use Rattle.oxc_sourcemap_plan.specs.TraceLaws.{TracesOfRemappedMaps}
+pub use Rattle.oxc_sourcemap_plan.specs.SimplifyTraces.{SimplifiedComposed, SimplifiedRemapped}
+pub use Rattle.oxc_sourcemap_plan.specs.SimplifyTraces.{SimplifiedJoined}
+pub use Rattle.oxc_sourcemap_plan.specs.SimplifiedMaps.{SimplifyingEndsRepeats}
+pub use Rattle.oxc_sourcemap_plan.specs.SimplifiedMaps.{SimplifyingStandsFor, SimplifyingCounts}
+pub use Rattle.oxc_sourcemap_plan.specs.SimplifiedMaps.{SimplifyingNames, SimplifyingInBounds}
+pub use Rattle.oxc_sourcemap_plan.specs.RemapLaws.{DecodedMapOfRemapping, RemappingIgnores}
+pub use Rattle.oxc_sourcemap_plan.specs.RemapLaws.{NothingRemapped, RemappedDecodedMapsAssociative}
+pub use Rattle.oxc_sourcemap_plan.specs.RemapLaws.{RemappedMapsAssociative, JoinRemapped}
+pub use Rattle.oxc_sourcemap_plan.specs.RemapLaws.{JoinedMapsRemapped, CompositionRemapped}
+pub use Rattle.oxc_sourcemap_plan.specs.RemapLaws.{ComposedMapsRemapped, OneRemapped}
+pub use Rattle.oxc_sourcemap_plan.specs.RemapLaws.{OneMapRemapped, RemappingStandsFor}
+pub use Rattle.oxc_sourcemap_plan.specs.RemapLaws.{RemappingKeepsEqualUpToRepeats, RemappingSorted}
+pub use Rattle.oxc_sourcemap_plan.specs.RemapLaws.{RemappingInRange, RemappingIsSound}
+pub use Rattle.oxc_sourcemap_plan.specs.RemapLaws.{RemappingCounts, SomeRemappingIsSound}
+pub use Rattle.oxc_sourcemap_plan.specs.RemapLaws.{RemappingNames, SortedInputsGoOn}
+pub use Rattle.oxc_sourcemap_plan.specs.RemapLaws.{RemappingAnswered, RemappingTooLarge}
+pub use Rattle.oxc_sourcemap_plan.specs.RemapLaws.{RemappingInBounds}
+pub use Rattle.oxc_sourcemap_plan.specs.RootLaws.{DecodedMapOfRooting, RootingAgain}
+pub use Rattle.oxc_sourcemap_plan.specs.RootLaws.{RootedDecodedMapsAgain, RootingKeeps}
+pub use Rattle.oxc_sourcemap_plan.specs.RootLaws.{RootedDecodedMapsKeep, TracesOfRooting}
+pub use Rattle.oxc_sourcemap_plan.specs.RootLaws.{RootingKeepsEqualUpToRepeats, RootingIsSound}
+pub use Rattle.oxc_sourcemap_plan.specs.RootLaws.{RootingStandsFor}
+pub use Rattle.oxc_sourcemap_plan.specs.DataUrlLaws.{TextsReadBack, MapsReadBack}
+pub use Rattle.oxc_sourcemap_plan.specs.InputLaws.{FirstInputsCount, InputsMayBePermuted}
+pub use Rattle.oxc_sourcemap_plan.specs.InputLaws.{InputsMayBeLeftOut}
+pub use Rattle.oxc_sourcemap_plan.specs.SimplifiedWhole.{SimplifyingAgain, SimplificationAgain}
+pub use Rattle.oxc_sourcemap_plan.specs.SimplifiedWhole.{SimplifiedNamesNeeded}
+pub use Rattle.oxc_sourcemap_plan.specs.SimplifiedWhole.{SimplificationNeeded}
+pub use Rattle.oxc_sourcemap_plan.specs.SimplifiedWhole.{SimplifiedSourcesNeeded}
+pub use Rattle.oxc_sourcemap_plan.specs.DifferenceLaws.{SimplifiedTracesSame}
+pub use Rattle.oxc_sourcemap_plan.specs.DifferenceLaws.{SimplificationTracesSame, SimplifiedIsLeast}
+pub use Rattle.oxc_sourcemap_plan.specs.FaultLaws.{FaultIsThere}
+pub use Rattle.oxc_sourcemap_plan.specs.CutLaws.{CommentIsCut, CommentIsCutApart}
+pub use Rattle.oxc_sourcemap_plan.specs.CutLaws.{LineBeginsOutside}

@@ -5,9 +5,9 @@ ghost use Rattle.oxc_sourcemap_plan.specs.Words.{OnlyMemory, OutOfMemory, is_wit
 ghost use Rattle.oxc_sourcemap_plan.specs.Words.{Error, Map, IsOfReading, with_number, meaning};
 
 use crate::collecting::plan_texts;
+use crate::laws::dropping_harmless;
 use crate::plan::Plan;
 use oxc_sourcemap_json::read_parts_from_string;
-use oxc_sourcemap_laws::dropping_harmless;
 use oxc_sourcemap_tokens::{Error, Fault, FaultPlace, PlanError, Result};
 use std::alloc::Global;
 

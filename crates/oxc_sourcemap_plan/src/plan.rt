@@ -15,12 +15,12 @@ ghost use Rattle.oxc_sourcemap_plan.specs.Words.{Unsorted, record_of_parts, owne
 ghost use Rattle.oxc_sourcemap_plan.specs.Words.{sorted_map, texts_of};
 
 use crate::fault::PlanFault;
-use oxc_sourcemap_join::join_owned_parts;
-use oxc_sourcemap_json::{decode_parts, encode_owned_parts, read_parts_from_string};
-use oxc_sourcemap_laws::{
+use crate::laws::{
     canonical_unique, composition_associative, dropping_harmless, remapping_associative,
     rooting_idempotent, simplifying_stands,
 };
+use oxc_sourcemap_join::join_owned_parts;
+use oxc_sourcemap_json::{decode_parts, encode_owned_parts, read_parts_from_string};
 use oxc_sourcemap_parts::{SourceMapParts, apply_root, are_sorted};
 use oxc_sourcemap_steps::{
     compose_parts, remap_owned_parts, simplify_parts, simplifying_harmless, sort_parts,

@@ -10,7 +10,7 @@ use Rattle.oxc_sourcemap_parts.specs.Record.{Text, MapRecord}
 use Rattle.oxc_sourcemap_json.specs.Shape.{◌>>=◌}
 use Rattle.oxc_sourcemap_json.specs.Encoded.{encoded, encoded_record}
 use Rattle.oxc_sourcemap_json.specs.JsonText.{json_text, map_text}
-use Rattle.oxc_sourcemap_laws.specs.MapLaws.{SoundIsTooLarge}
+use Rattle.oxc_sourcemap_plan.specs.MapLaws.{SoundIsTooLarge}
 use Rattle.oxc_sourcemap_tokens.specs.declared.errors.plan_error.PlanError.{PlanError}
 use Rattle.oxc_sourcemap_tokens.specs.declared.errors.plan_error.PlanError.TheVariants.{Map}
 use Rattle.oxc_sourcemap_plan.specs.declared.run_error.RunError.{RunError}

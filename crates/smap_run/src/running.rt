@@ -17,10 +17,11 @@ use crate::failure::Failure;
 use crate::port::Port;
 use crate::tracing::trace_in;
 use oxc_sourcemap_json::{encode_parts_into, encode_parts_to_data_url, read_parts_from_string};
-use oxc_sourcemap_laws::canonical_unique;
 use oxc_sourcemap_mappings::{encode_mappings, read_mappings};
 use oxc_sourcemap_parts::SourceMapParts;
-use oxc_sourcemap_plan::{PlanFault, RunError, evaluate_where, inputs_of, read_plan};
+use oxc_sourcemap_plan::{
+    PlanFault, RunError, canonical_unique, evaluate_where, inputs_of, read_plan,
+};
 use oxc_sourcemap_tokens::Error;
 use std::alloc::{AllocError, Global};
 use std::io::{Read, Write};

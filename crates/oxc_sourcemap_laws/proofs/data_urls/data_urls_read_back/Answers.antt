@@ -1,8 +1,0 @@
-use Rattle.oxc_sourcemap_laws.proofs.ReadBack.{texts_read_back, maps_read_back}
-use Rattle.oxc_sourcemap_laws.proofs.data_urls.data_urls_read_back.Goals as goal
-
-pub returns-clause-texts : goal.returns-clause-texts
-returns-clause-texts c = texts_read_back
-
-pub returns-clause-maps : goal.returns-clause-maps
-returns-clause-maps c = maps_read_back

@@ -1,5 +1,0 @@
-use Rattle.oxc_sourcemap_laws.proofs.Bundles.{traces_of_bundle}
-use Rattle.oxc_sourcemap_laws.proofs.trace_of_bundle.Goals as goal
-
-pub returns : goal.returns
-returns c = traces_of_bundle

@@ -1,6 +1,7 @@
 //! Running a command by its name.
+use sourcemap_editing::{embed, extract, strip};
 use sourcemap_files::{Asked, Status, print};
-use sourcemap_making::{bundle, compile, embed, extract, remap, strip};
+use sourcemap_making::{bundle, compile, remap};
 use sourcemap_reports::{check, coverage, diff, page};
 use sourcemap_tracing::{resolve, trace};
 use sourcemap_words::{Outcome, VERSION, completions_of, manual_of, program};

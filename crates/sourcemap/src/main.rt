@@ -1,8 +1,8 @@
 //! `sourcemap`: looks positions up in source maps, leads stack traces back, and checks, joins and compares maps.
 //!
 //! What the commands print is made by the crate `sourcemap_run`, which is proved to print what the library answers. `sourcemap_words`
-//! has the words of the command line, `sourcemap_files` finds maps; the commands stand in `sourcemap_tracing`, `sourcemap_making` and
-//! `sourcemap_reports`.
+//! has the words of the command line, `sourcemap_files` finds maps; the commands stand in `sourcemap_tracing`, `sourcemap_making`,
+//! `sourcemap_editing` and `sourcemap_reports`.
 #![tactic(auto)]
 
 mod commands;

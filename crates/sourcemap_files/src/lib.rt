@@ -33,4 +33,4 @@ pub use paths::{
 };
 pub use progress::Progress;
 pub use scopes::scopes_of_map;
-pub use writing::{write_files, write_text};
+pub use writing::{refuse_overwriting, write_files, write_text};

@@ -1,4 +1,5 @@
 //! Writing files, so that each is there whole, as it was or as it is to be.
+use crate::asked::Asked;
 use crate::input::print_bytes;
 use crate::paths::{folder_of, real_name};
 use sourcemap_words::{Failure, Outcome, failure_of, file_failure};
@@ -164,4 +165,16 @@ pub fn write_files(rt: &HostRuntime, files: &[(&str, &[u8])]) -> Outcome<()> {
 /// Writes a text to a file, or to standard output for `-`, as `write_files` does.
 pub fn write_text(rt: &HostRuntime, path: &str, text: &str) -> Outcome<()> {
     write_files(rt, &[(path, text.as_bytes())])
+}
+
+/// Refuses to write over a file that is read.
+pub fn refuse_overwriting(asked: &Asked<'_, '_>, read: &str, written: &str) -> Outcome<()> {
+    if real_name(asked.rt, read)? != real_name(asked.rt, written)? {
+        return Ok(());
+    }
+    Err(failure_of(
+        asked.alloc(),
+        read,
+        "would be written over: name another file by -o",
+    ))
 }

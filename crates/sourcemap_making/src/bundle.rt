@@ -8,8 +8,8 @@ use oxc_sourcemap_text::Language;
 use percent_encoding::{AsciiSet, CONTROLS, utf8_percent_encode};
 use sourcemap_files::{
     Asked, Lookup, Progress, Status, file_name, folder_of, language_of, limit_of, limited_json,
-    map_of_code, print, read_map, read_text, real_name, shown_name, usage, warn, write_files,
-    written_name,
+    map_of_code, print, read_map, read_text, refuse_overwriting, shown_name, usage, warn,
+    write_files, written_name,
 };
 use sourcemap_run::{Bundle, push_number_member, push_object, push_text_member};
 use sourcemap_words::{Outcome, failure_of};
@@ -86,18 +86,6 @@ fn push_file_object(
     push_number_member(alloc, "line", u64::from(line), &mut members)?;
     push_object(members.as_str(), out)?;
     Ok(out.push('\n')?)
-}
-
-/// Refuses to write over a file that is read.
-pub fn refuse_overwriting(asked: &Asked<'_, '_>, read: &str, written: &str) -> Outcome<()> {
-    if real_name(asked.rt, read)? != real_name(asked.rt, written)? {
-        return Ok(());
-    }
-    Err(failure_of(
-        asked.alloc(),
-        read,
-        "would be written over: name another file by -o",
-    ))
 }
 
 /// The texts of `--wrap`.

@@ -1,14 +1,9 @@
-//! Maps made of maps: the commands `bundle`, `compile`, `embed`, `extract`, `remap` and `strip` of the program `sourcemap`.
+//! Maps made of maps: the commands `bundle`, `compile` and `remap` of the program `sourcemap`.
 #![tactic(auto)]
 
 pub mod bundle;
 mod codes;
 pub mod compile;
-mod editing;
-pub mod embed;
-pub mod extract;
-mod naming;
 mod own;
 mod rebasing;
 pub mod remap;
-pub mod strip;

@@ -1,9 +1,9 @@
 //! Maps whose texts are changed at some places, and written where they lie or elsewhere.
-use crate::bundle::refuse_overwriting;
 use oxc_sourcemap_found::{FoundParts, read_found_parts};
 use oxc_sourcemap_parts::{SourceMapParts, apply_root};
 use sourcemap_files::{
-    Asked, MapText, Written, map_of_file, read_map, text_of_map, usage, write_text,
+    Asked, MapText, Written, map_of_file, read_map, refuse_overwriting, text_of_map, usage,
+    write_text,
 };
 use sourcemap_run::maps_in;
 use sourcemap_words::{Failure, Outcome, failure_of};

@@ -21,7 +21,7 @@ loop-next-preserved c =
     let grown : c.push.new.self.items ≡ c.loop-next.chain.items ++ entry_of c.args.self.now c.args.range i ∷ [] = search rules in
     let pushed : c.push.new.self.items ≡ c.loop-next.chain.items ++ entry_of s c.args.range i ∷ [] = rw (← v) at grown in
     let step : (c.loop-next.chain.items ++ entry_of s c.args.range i ∷ []) ++ chain_of s (span_at s.scopes i).parent c.args.range ≡ c.loop-next.chain.items ++ chain_of s (Some i) c.args.range =
-        append_assoc c.loop-next.chain.items (entry_of s c.args.range i ∷ []) (chain_of s (span_at s.scopes i).parent c.args.range) ∙ ap (λ es. c.loop-next.chain.items ++ es) (chain-step s c.args.range i c.self.invariant.scopes m) in
+    append_assoc c.loop-next.chain.items (entry_of s c.args.range i ∷ []) (chain_of s (span_at s.scopes i).parent c.args.range) ∙ ap (λ es. c.loop-next.chain.items ++ es) (chain-step s c.args.range i c.self.invariant.scopes m) in
     rw (← v, f, pushed) (record {
       within = omega (arith, up, m);
       same = step ∙ same;

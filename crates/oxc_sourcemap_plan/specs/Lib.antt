@@ -19,3 +19,15 @@ pub mod DifferenceLaws
 pub mod InputLaws
 pub mod FaultLaws
 pub mod CutLaws
+pub mod Depth
+pub mod Meaning
+pub mod Limits
+pub mod Outcome
+pub mod Evaluated
+pub mod Realizes
+pub mod PlanPlaces
+pub mod Numbers
+pub mod PlanInputs
+pub mod PlanArguments
+pub mod RunErrors
+pub mod Words

@@ -606,7 +606,7 @@ type Chain = &'static [(usize, Option<usize>)];
 const SKIPPED: &str = "BAAA,BABA,BABA,CBA,CBA,CBA,ECAA,ECFE,FF,FK";
 
 /// A range of the inner of two scopes, in another one of it; then one of the outer; then one of none.
-const TWICE: &str = "BAAA,BABA,CBA,CBA,ECAC,ECFA,FF,FK,ECAD,FB,EAA,FB";
+const REPEATED: &str = "BAAA,BABA,CBA,CBA,ECAC,ECFA,FF,FK,ECAD,FB,EAA,FB";
 
 /// A text, how many names there are, a position, and the chain there.
 const CHAINS: &[(&str, usize, At, Chain)] = &[
@@ -619,10 +619,10 @@ const CHAINS: &[(&str, usize, At, Chain)] = &[
     (SKIPPED, 0, (0, 7), &[(2, Some(1)), (1, None), (0, Some(0))]),
     (SKIPPED, 0, (0, 12), &[(0, Some(0))]),
     // The innermost range of a scope counts.
-    (TWICE, 0, (0, 7), &[(1, Some(1)), (0, None)]),
-    (TWICE, 0, (0, 12), &[(1, Some(0)), (0, None)]),
-    (TWICE, 0, (0, 20), &[(0, Some(2))]),
-    (TWICE, 0, (0, 21), &[]),
+    (REPEATED, 0, (0, 7), &[(1, Some(1)), (0, None)]),
+    (REPEATED, 0, (0, 12), &[(1, Some(0)), (0, None)]),
+    (REPEATED, 0, (0, 20), &[(0, Some(2))]),
+    (REPEATED, 0, (0, 21), &[]),
     ("", 0, (0, 0), &[]),
 ];
 

@@ -4,8 +4,7 @@
 //
 // PEER is the root file of the package source-map-scopes-codec. A line for each case, as a JSON list: the request to
 // tools/compare/ask_scopes; the answer of the peer, as that writes it, or how the peer refuses the text; and the same for the text
-// without the items that the crate passes over. GOOD texts are those of
-// random trees; BROKEN ones are such texts with a change or two.
+// without the items that the crate passes over. GOOD texts are those of random trees; BROKEN ones are such texts with a change or two.
 import { pathToFileURL } from "node:url";
 
 const [peer, seed, good, broken] = process.argv.slice(2);
@@ -31,17 +30,30 @@ function later({ line, column }) {
 
 const NAMES = ["f", "g", "outer", "é", "a b", "constructor", "x", "y", "function", "block"];
 
+const expression = () => (chance(30) ? undefined : oneOf(NAMES));
+
+/** A value that changes in a range which starts at a position. */
+function pieces(from) {
+  const found = [];
+  for (let n = 2 + below(3); n > 0; n--) {
+    const to = later(from);
+    found.push({ from, to, value: expression() });
+    from = to;
+  }
+  return found;
+}
+
 /** Random trees, by the peer's builder. */
 function trees() {
   const builder = new ScopeInfoBuilder();
   const known = [];
   const sources = below(4);
-  const values = chance(40);
+  const values = chance(75);
   const scope = (at, depth) => {
     const options = { isStackFrame: chance(45) };
     if (chance(60)) options.name = oneOf(NAMES);
     if (chance(60)) options.kind = oneOf(["function", "block", "class", "global"]);
-    if (values) options.variables = Array.from({ length: below(3) }, () => oneOf(NAMES));
+    if (values) options.variables = Array.from({ length: below(4) }, () => oneOf(NAMES));
     builder.startScope(at.line, at.column, options);
     known.push(builder.currentScope());
     for (let n = depth > 3 ? 0 : below(4); n > 0; n--) at = scope(later(at), depth + 1);
@@ -56,7 +68,7 @@ function trees() {
   const range = (at, depth) => {
     const options = { isStackFrame: chance(25), isHidden: chance(20) };
     if (known.length > 0 && chance(75)) options.scope = oneOf(known);
-    if (options.scope && chance(60)) options.values = options.scope.variables.map(() => (chance(30) ? null : oneOf(NAMES)));
+    if (options.scope && chance(70)) options.values = options.scope.variables.map(() => (chance(40) ? pieces(at) : expression() ?? null));
     if (chance(45)) {
       const within = known.length > 0 && chance(60) ? oneOf(known).start : { line: below(6), column: below(20) };
       options.callSite = { sourceIndex: below(sources + 1), ...later(within) };
@@ -88,13 +100,15 @@ function flat(roots) {
 const isBefore = (a, b) => a.line < b.line || (a.line === b.line && a.column < b.column);
 const contains = (node, at) => !isBefore(at, node.start) && isBefore(at, node.end);
 
-/** The innermost node of a tree that contains a position. */
-function innermost(nodes, at) {
+/** The nodes of a tree that contain a position, from the inside out. */
+function containing(nodes, at) {
   for (const node of nodes) {
-    if (node && contains(node, at)) return innermost(node.children, at) ?? node;
+    if (node && contains(node, at)) return [...containing(node.children, at), node];
   }
-  return null;
+  return [];
 }
+
+const innermost = (nodes, at) => containing(nodes, at)[0] ?? null;
 
 /** The first stack frame of a scope and those around it. */
 function functionOf(scope) {
@@ -116,6 +130,27 @@ function framesAt({ scopes, ranges }, at) {
   return found;
 }
 
+/** The value of a variable at a position of its range, by the sub-range that contains it if it has some. */
+function valueAt(value, at) {
+  return Array.isArray(value) ? value.find(({ from, to }) => contains({ start: from, end: to }, at))?.value : value;
+}
+
+/** A scope and its parents, each with the innermost of the ranges that contain a position whose scope it is. */
+function chainAt({ ranges }, scope, at) {
+  const around = containing(ranges, at);
+  const found = [];
+  for (; scope; scope = scope.parent) found.push([scope, around.find((range) => range.originalScope === scope)]);
+  return found;
+}
+
+/** The scopes of a debugger for each frame at a position: that of the innermost range, then those at the places of calls. */
+function chainsAt(info, at) {
+  const { range, frames } = framesAt(info, at);
+  const sites = frames.map(([, site]) => site).filter((site) => site);
+  const called = sites.map((site) => innermost([info.scopes[site.sourceIndex] ?? null], site));
+  return [range?.originalScope, ...called].map((scope) => chainAt(info, scope, at));
+}
+
 const word = (index) => (index === null || index === undefined || index < 0 ? "-" : String(index));
 const flag = (holds) => (holds ? "1" : "0");
 const place = ({ line, column }) => `${line}:${column}`;
@@ -126,21 +161,26 @@ function answer(info, names, positions) {
   const [scopes, ranges] = [flat(info.scopes), flat(info.ranges)];
   const ofScope = new Map(scopes.map(({ node }, index) => [node, index]));
   const ofRange = new Map(ranges.map(({ node }, index) => [node, index]));
-  const named = (text) => word(text === undefined ? null : names.indexOf(text));
+  const named = (text) => word(text === undefined || text === null ? null : names.indexOf(text));
+  const valuesAt = (range, at) => range?.values.map((value) => named(valueAt(value, at))) ?? [];
   const parts = [String(info.scopes.length)];
   for (const { node, root, parent } of scopes) {
     const said = [named(node.name), named(node.kind), flag(node.isStackFrame)];
-    parts.push(["S", root, place(node.start), place(node.end), ...said, word(parent)].join(" "));
+    parts.push(["S", root, place(node.start), place(node.end), ...said, word(parent), ...node.variables.map(named)].join(" "));
   }
   for (const { node, parent } of ranges) {
     const said = [word(ofScope.get(node.originalScope)), flag(node.isStackFrame), flag(node.isHidden), call(node.callSite)];
-    parts.push(["R", place(node.start), place(node.end), ...said, word(parent)].join(" "));
+    const values = node.values.map((value) => named(Array.isArray(value) ? value[0].value : value));
+    parts.push(["R", place(node.start), place(node.end), ...said, word(parent), ...values].join(" "));
   }
   for (const position of positions) {
     if (position.length === 2) {
-      const { range, isHidden, frames } = framesAt(info, { line: position[0], column: position[1] });
+      const at = { line: position[0], column: position[1] };
+      const { range, isHidden, frames } = framesAt(info, at);
       const shown = frames.map(([scope, site]) => `${word(ofScope.get(scope))} ${call(site)}`);
       parts.push(["F", word(ofRange.get(range)), flag(isHidden), ...shown].join(" "));
+      const entry = ([scope, its]) => [";", word(ofScope.get(scope)), word(ofRange.get(its)), ...valuesAt(its, at)].join(" ");
+      for (const chain of chainsAt(info, at)) parts.push(`C${chain.map(entry).join("")}`);
     } else {
       const scope = innermost([info.scopes[position[0]] ?? null], { line: position[1], column: position[2] });
       parts.push(`A ${word(ofScope.get(scope))} ${word(ofScope.get(functionOf(scope)))}`);
@@ -156,7 +196,9 @@ function positionsOf(info) {
   const [scopes, ranges] = [flat(info.scopes), flat(info.ranges)];
   for (let n = 0; n < 12; n++) {
     const range = chance(80) ? oneOf(ranges)?.node : null;
-    found.push(range ? near(chance(70) ? range.start : range.end) : [below(8), below(20)]);
+    const split = chance(50) ? range?.values.filter(Array.isArray) ?? [] : [];
+    if (split.length > 0) found.push(near(oneOf(oneOf(split)).from));
+    else found.push(range ? near(chance(70) ? range.start : range.end) : [below(8), below(20)]);
   }
   for (let n = 0; n < 6; n++) {
     const scope = chance(80) ? oneOf(scopes) : null;
@@ -165,13 +207,23 @@ function positionsOf(info) {
   return found;
 }
 
+/** Has variables, values or the like in two items, or behind scopes or ranges that are within. */
+function spread(items, from) {
+  const k = items.findIndex((item, n) => n >= from && "DGHI".includes(item[0] ?? "-"));
+  if (k < 0) return;
+  const item = items[k];
+  const cut = chance(50) ? 1 : 1 + below(item.length);
+  items.splice(k, 1, ...(cut > 1 ? [item.slice(0, cut)] : []));
+  items.splice(k + below(8), 0, item[0] + item.slice(cut));
+}
+
 /** A text with a change. */
 function changed(text) {
   const items = text.split(",");
   const i = below(items.length);
-  const j = below(items.length);
+  const j = chance(50) ? Math.min(i + below(2), items.length - 1) : below(items.length);
   const at = below(text.length);
-  switch (below(10)) {
+  switch (below(11)) {
     case 0:
       return text.slice(0, at) + oneOf(DIGITS) + text.slice(at + 1);
     case 1:
@@ -194,6 +246,9 @@ function changed(text) {
     case 8:
       // The line of a range's start is told, which is the same.
       return text.replace(/E([ACEGIKMO])/, (_, flags) => `E${DIGITS[DIGITS.indexOf(flags) + 1]}A`);
+    case 9:
+      spread(items, i);
+      break;
     default:
       items.splice(i, 0, Array.from({ length: 1 + below(6) }, (_, k) => (k === 0 ? oneOf("ABCDEFGHIJ") : oneOf("ABCDEFgB/"))).join(""));
   }
@@ -213,9 +268,9 @@ function tagOf(item) {
   return null;
 }
 
-/** A text without the items that are passed over: variables, their values, and those of other tags. */
+/** A text without the items that are passed over, those of other tags. */
 function kept(text) {
-  return text.split(",").filter((item) => [null, 0, 1, 2, 4, 5, 8].includes(tagOf(item))).join(",");
+  return text.split(",").filter((item) => (tagOf(item) ?? 0) <= 8).join(",");
 }
 
 function decoded(text, names) {
@@ -227,10 +282,11 @@ function decoded(text, names) {
 }
 
 function write(text, names) {
-  const infos = [text, kept(text)].map((it) => decoded(it, names));
+  const infos = [...new Set([text, kept(text)])].map((it) => decoded(it, names));
   const shown = infos.find((it) => typeof it !== "string") ?? { scopes: [], ranges: [] };
   const positions = positionsOf(shown);
   const answers = infos.map((it) => (typeof it === "string" ? it : answer(it, names, positions)));
+  if (answers.length === 1) answers.push(answers[0]);
   const words = [names.length, text, ...positions.map((it) => it.join(":"))];
   console.log(JSON.stringify([words.join(" "), ...answers]));
 }
@@ -243,5 +299,5 @@ for (let n = 0; n < Number(broken); n++) {
   const map = trees();
   let text = map.scopes;
   for (let k = 1 + below(2); k > 0 && text !== ""; k--) text = changed(text);
-  write(text, chance(10) ? map.names.slice(0, -1) : map.names);
+  write(text, chance(20) ? map.names.slice(0, -1) : map.names);
 }

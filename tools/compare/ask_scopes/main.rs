@@ -2,11 +2,12 @@
 //!
 //! A request is a count of names, a text and positions, in words: `L:C` of the generated code, or `S:L:C` of a source; and, on a
 //! second line, the answer that is wanted, for which `=` is printed, since the output may not be long. The answer is a fault; or,
-//! with bars between them, the count of sources, each scope, each range, and what is at each position: the range
-//! and the frames, or the scope and the function. `-` is none.
+//! with bars between them, the count of sources, each scope with its variables, each range with its values, and what is at each
+//! position: the range and the frames, then the chain of scopes of each frame, with the values there; or the scope and the function.
+//! `-` is none.
 #![tactic(auto)]
 
-use oxc_sourcemap_scopes::{CallSite, ScopesError, Scopes, decode_scopes};
+use oxc_sourcemap_scopes::{CallSite, ScopeChainEntry, ScopesError, Scopes, decode_scopes};
 use std::alloc::{AllocError, AllocFailed, Global};
 use std::fmt;
 use std::io::Read;
@@ -74,7 +75,11 @@ fn write_scope(scopes: &Scopes, i: usize, out: &mut String) -> Result<(), Fault>
     write_index(it.name.map(|n| n as usize), out)?;
     write_index(it.kind.map(|n| n as usize), out)?;
     write_flag(it.is_stack_frame, out)?;
-    write_index(it.parent, out)
+    write_index(it.parent, out)?;
+    for variable in scopes.get_variables(i).unwrap_or(&[]) {
+        write_index(Some(*variable as usize), out)?;
+    }
+    Ok(())
 }
 
 fn write_range(scopes: &Scopes, i: usize, out: &mut String) -> Result<(), Fault> {
@@ -87,20 +92,69 @@ fn write_range(scopes: &Scopes, i: usize, out: &mut String) -> Result<(), Fault>
     write_flag(it.is_stack_frame, out)?;
     write_flag(it.is_hidden, out)?;
     write_call(it.call_site, out)?;
-    write_index(it.parent, out)
+    write_index(it.parent, out)?;
+    for k in 0..scopes.value_count(i) {
+        write_index(scopes.get_value(i, k).map(|n| n as usize), out)?;
+    }
+    Ok(())
+}
+
+fn write_values_at(scopes: &Scopes, range: usize, line: u32, column: u32, out: &mut String) -> Result<(), Fault> {
+    for k in 0..scopes.value_count(range) {
+        write_index(scopes.value_at(range, k, line, column).map(|n| n as usize), out)?;
+    }
+    Ok(())
+}
+
+fn write_chain(scopes: &Scopes, chain: &[ScopeChainEntry], line: u32, column: u32, out: &mut String) -> Result<(), Fault> {
+    write!(out, "|C")?;
+    for entry in chain {
+        write!(out, "; {}", entry.scope)?;
+        write_index(entry.range, out)?;
+        if let Some(range) = entry.range {
+            write_values_at(scopes, range, line, column, out)?;
+        }
+    }
+    Ok(())
+}
+
+/// The chain of the frame of a call that was inlined at a position.
+fn write_chain_of(alloc: Global, scopes: &Scopes, call: CallSite, line: u32, column: u32, out: &mut String) -> Result<(), Fault> {
+    let chain = match scopes.scope_at(call.source, call.line, call.column) {
+        Some(scope) => scopes.scope_chain(alloc, scope, line, column)?,
+        None => Vec::new(alloc),
+    };
+    write_chain(scopes, chain.as_slice(), line, column, out)
+}
+
+fn write_chains(alloc: Global, scopes: &Scopes, line: u32, column: u32, out: &mut String) -> Result<(), Fault> {
+    let chain = scopes.scope_chain_at(alloc, line, column)?;
+    write_chain(scopes, chain.as_slice(), line, column, out)?;
+    for frame in &scopes.frames_at(alloc, line, column)?.frames {
+        if let Some(call) = frame.call_site {
+            write_chain_of(alloc, scopes, call, line, column, out)?;
+        }
+    }
+    Ok(())
+}
+
+fn write_frames(alloc: Global, scopes: &Scopes, line: u32, column: u32, out: &mut String) -> Result<(), Fault> {
+    let found = scopes.frames_at(alloc, line, column)?;
+    write!(out, "|F")?;
+    write_index(scopes.range_at(line, column), out)?;
+    write_flag(found.is_hidden, out)?;
+    for frame in &found.frames {
+        write_index(frame.scope, out)?;
+        write_call(frame.call_site, out)?;
+    }
+    Ok(())
 }
 
 fn write_position(alloc: Global, scopes: &Scopes, position: &[u32], out: &mut String) -> Result<(), Fault> {
     match position {
         [line, column] => {
-            let found = scopes.frames_at(alloc, *line, *column)?;
-            write!(out, "|F")?;
-            write_index(scopes.range_at(*line, *column), out)?;
-            write_flag(found.is_hidden, out)?;
-            for frame in &found.frames {
-                write_index(frame.scope, out)?;
-                write_call(frame.call_site, out)?;
-            }
+            write_frames(alloc, scopes, *line, *column, out)?;
+            write_chains(alloc, scopes, *line, *column, out)?;
         }
         [source, line, column] => {
             write!(out, "|A")?;
@@ -120,6 +174,7 @@ fn write_answer(alloc: Global, names: usize, text: &str, positions: &[&str], out
             write!(out, "{:?} {}", fault.kind, fault.byte)?;
             return Ok(());
         }
+        Err(_) => return Err(Fault::Other),
     };
     write!(out, "{}", scopes.source_count())?;
     for i in 0..scopes.scope_count() {

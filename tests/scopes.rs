@@ -296,7 +296,7 @@ fn faults_are_named(rt: HostRuntime) {
 fn faults_are_written(rt: HostRuntime) -> std::result::Result<(), std::test::Fail> {
     let error = ScopesError::Fault(ScopesFault { kind: BadIndex, byte: 9 });
     let text = format!(in rt.alloc(); "{error}")?;
-    same(&rt, "message", text.as_str(), "scopes, byte 9: an index leads to no name or scope");
+    same(&rt, "message", text.as_str(), "scopes, byte 9: an index leads to no name, scope or value");
     let text = format!(in rt.alloc(); "{}, {}, {}", ScopesError::NotJson, ScopesError::Indexed, ScopesError::NotText)?;
     same(&rt, "messages", text.as_str(), "the text is not JSON, the scopes of an indexed map are not read, `scopes` is no text");
     Ok(())
@@ -639,10 +639,34 @@ fn chains_lead_outward(rt: HostRuntime) -> Result<(), ScopesError> {
         let scopes = decode_scopes(rt.alloc(), *text, *names)?;
         same_chain(&rt, *text, scopes.scope_chain_at(rt.alloc(), *line, *column)?, *wanted);
     }
-    // The frame of a call that was inlined has the scope at its call site.
+    // The frame of a call that was inlined has the scopes at its place.
     let scopes = decode_scopes(rt.alloc(), INLINED, 7)?;
-    same_chain(&rt, "caller", scopes.scope_chain(rt.alloc(), 1, 0, 25)?, &[(1, Some(1)), (0, Some(0))]);
-    same_chain(&rt, "elsewhere", scopes.scope_chain(rt.alloc(), 2, 0, 15)?, &[(2, None), (0, Some(0))]);
-    same_chain(&rt, "past", scopes.scope_chain(rt.alloc(), 3, 0, 25)?, &[]);
+    same_frame_chain(&rt, &scopes, 0, (0, 25), Some(&[(2, Some(2)), (0, Some(0))]))?;
+    same_frame_chain(&rt, &scopes, 1, (0, 25), Some(&[(1, Some(1)), (0, Some(0))]))?;
+    same_frame_chain(&rt, &scopes, 2, (0, 25), None)?;
+    same_frame_chain(&rt, &scopes, 0, (0, 15), Some(&[(1, Some(1)), (0, Some(0))]))?;
+    same_frame_chain(&rt, &scopes, 1, (0, 15), None)?;
+    same_frame_chain(&rt, &scopes, 0, (1, 0), None)?;
+    // A function that was inlined in itself: the outer frame does not see the values of the inner one.
+    let scopes = decode_scopes(rt.alloc(), "BFAAA,DC,CJA,EGAA,GD,ECFA,GE,IAFA,FF,FK", 4)?;
+    same_frame_chain(&rt, &scopes, 0, (0, 7), Some(&[(0, Some(1))]))?;
+    same_frame_chain(&rt, &scopes, 1, (0, 7), Some(&[(0, Some(0))]))?;
+    same(&rt, "inner", scopes.value_at(1, 0, 0, 7), Some(3));
+    same(&rt, "outer", scopes.value_at(0, 0, 0, 7), Some(2));
+    // A call from where no scope is, and one further out.
+    let scopes = decode_scopes(rt.alloc(), "BFAAA,CJA,EGAA,ECFA,IABA,EAB,IBAA,FB,FB,FF", 1)?;
+    same_frame_chain(&rt, &scopes, 0, (0, 6), Some(&[]))?;
+    same_frame_chain(&rt, &scopes, 1, (0, 6), Some(&[]))?;
+    same_frame_chain(&rt, &scopes, 2, (0, 6), Some(&[(0, Some(0))]))?;
+    same_frame_chain(&rt, &scopes, 3, (0, 6), None)?;
+    Ok(())
+}
+
+fn same_frame_chain(rt: &HostRuntime, scopes: &Scopes, frame: usize, (line, column): At, wanted: Option<Chain>) -> Result<(), ScopesError> {
+    let found = scopes.scope_chain(rt.alloc(), frame, line, column)?;
+    same(rt, "frame", found.is_some(), wanted.is_some());
+    if let (Some(found), Some(wanted)) = (found, wanted) {
+        same_chain(rt, "frame", found, wanted);
+    }
     Ok(())
 }

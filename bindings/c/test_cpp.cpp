@@ -211,7 +211,7 @@ void scopes() {
         CHECK(false);
     } catch (const Error &error) {
         CHECK(error.code() == SMAP_BAD_SCOPES && error.fault().field == SMAP_SCOPES_BAD_INDEX && error.detail() == 2 && error.place().empty());
-        CHECK(error.what() == std::string_view("scopes, byte 2: an index leads to no name or scope"));
+        CHECK(error.what() == std::string_view("scopes, byte 2: an index leads to no name, scope or value"));
     }
     CHECK(Scopes::decode("BBAAC,CAA", 2).scope(0)->name == 1 && thrown([] { Scopes::read(R"({"scopes":1})"); }) == SMAP_SCOPES_NOT_TEXT);
     CHECK(thrown([] { Scopes::read("{"); }) == SMAP_JSON_READING && thrown([] { Scopes::decode("\xff", 0); }) == SMAP_NOT_UTF8);

@@ -135,20 +135,23 @@ function valueAt(value, at) {
   return Array.isArray(value) ? value.find(({ from, to }) => contains({ start: from, end: to }, at))?.value : value;
 }
 
-/** A scope and its parents, each with the innermost of the ranges that contain a position whose scope it is. */
-function chainAt({ ranges }, scope, at) {
-  const around = containing(ranges, at);
+/** A scope and its parents, each with the innermost of some ranges whose scope it is. */
+function chainIn(scope, around) {
   const found = [];
   for (; scope; scope = scope.parent) found.push([scope, around.find((range) => range.originalScope === scope)]);
   return found;
 }
 
-/** The scopes of a debugger for each frame at a position: that of the innermost range, then those at the places of calls. */
-function chainsAt(info, at) {
-  const { range, frames } = framesAt(info, at);
-  const sites = frames.map(([, site]) => site).filter((site) => site);
-  const called = sites.map((site) => innermost([info.scopes[site.sourceIndex] ?? null], site));
-  return [range?.originalScope, ...called].map((scope) => chainAt(info, scope, at));
+/** The scopes of a debugger for each frame at a position: from that of the innermost range, and from those at the places of calls, whose
+ * values are not in the ranges within the body that was called. */
+function chainsAt({ scopes, ranges }, at) {
+  const around = containing(ranges, at);
+  const chains = [chainIn(around[0]?.originalScope, around)];
+  for (let i = 0; i < around.length && !around[i].isStackFrame; i++) {
+    const site = around[i].callSite;
+    if (site) chains.push(chainIn(innermost([scopes[site.sourceIndex] ?? null], site), around.slice(i + 1)));
+  }
+  return chains;
 }
 
 const word = (index) => (index === null || index === undefined || index < 0 ? "-" : String(index));

@@ -12,7 +12,7 @@ export type ScopesFault =
   | "TOO_LARGE"
   /** It is empty, or lacks a number. */
   | "MISSING_NUMBER"
-  /** An index leads to no name or scope. */
+  /** An index leads to no name, scope or value. */
   | "BAD_INDEX"
   /** It is an end, or a call site, and nothing that it could belong to is open. */
   | "NOTHING_OPEN"

@@ -133,7 +133,7 @@ class OfScopes(Case):
             ("A,Bg", 0, ScopesFault.CUT_SHORT, 2, "the last number is cut short"),
             ("A,gggggggA", 0, ScopesFault.TOO_LARGE, 2, "a number is too large"),
             ("A,,A", 0, ScopesFault.MISSING_NUMBER, 2, "a number is missing"),
-            ("BBAAC", 1, ScopesFault.BAD_INDEX, 0, "an index leads to no name or scope"),
+            ("BBAAC", 1, ScopesFault.BAD_INDEX, 0, "an index leads to no name, scope or value"),
             ("A,CAA", 0, ScopesFault.NOTHING_OPEN, 2, "no scope or range is open"),
             ("BAAA,A", 0, ScopesFault.NOT_CLOSED, 5, "the scopes before it are not closed"),
             (",".join(["BAAA"] * 1025), 0, ScopesFault.TOO_DEEP, 5120, "more than 1024 scopes or ranges are nested"),

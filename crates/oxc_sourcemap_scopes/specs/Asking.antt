@@ -1,6 +1,6 @@
 -- What is asked of scopes: the innermost scope, range or function at a position, and the frames that a position stands for.
 use Rattle.std.specs.Prelude.{◌≡◌, ℕ, zero, suc, ◌*◌, ◌+◌, Bool, false, List, [], ◌∷◌, ◌++◌, get_or}
-use Rattle.std.specs.Prelude.{slice_get, length, filter, map, nat_le, nat_lt, ◌&&◌, ◌==◌, Option}
+use Rattle.std.specs.Prelude.{slice_get, length, filter, map, nat_le, ◌&&◌, ◌==◌, Option}
 use Rattle.std.specs.Prelude.{Some, None}
 use Rattle.std.specs.Prelude.{if◌then◌else◌}
 use Rattle.std.specs.Option.{option_map, option_and_then, option_map_or}
@@ -184,10 +184,33 @@ chain_of s scope range = map (entry_of s range) (around s.scopes scope)
 abbrev pub definition_of : ScopesRecord → Option ℕ → Option ℕ
 definition_of s range = option_and_then (λ i. (get_or s.range_infos i no_range).definition) range
 
--- A scope and those around it, each with the innermost range at a position of the generated code that is its code.
-abbrev pub scope_chain : ScopesRecord → ℕ → ℕ → ℕ → List ScopeChainEntry
-scope_chain s scope line column = if nat_lt scope (length s.scopes) then chain_of s (Some scope) (range_at s line column) else []
-
 -- The scopes that a position of the generated code is in: that which the innermost range is the code of, and those around it.
 abbrev pub scope_chain_at : ScopesRecord → ℕ → ℕ → List ScopeChainEntry
 scope_chain_at s line column = chain_of s (definition_of s (range_at s line column)) (range_at s line column)
+
+-- the innermost scope at the place of a call whose body is this range, and the range around it
+abbrev pub calling_starts : ScopesRecord → ℕ → Option CallSite → List (Option ℕ × Option ℕ)
+calling_starts s i None = []
+calling_starts s i (Some call) = (scope_at s call.source call.line call.column, (span_at s.ranges i).parent) ∷ []
+
+-- For the frame of each call in which the bodies of a range and of those around it were called, up to the first range that is a stack
+-- frame: its innermost scope, and the range from which its values are looked for. The number bounds how many are looked at.
+abbrev pub caller_starts_within : ℕ → ScopesRecord → Option ℕ → List (Option ℕ × Option ℕ)
+caller_starts_within zero s range = []
+caller_starts_within (suc n) s None = []
+caller_starts_within (suc n) s (Some i) =
+    let info = get_or s.range_infos i no_range in
+    if info.is_stack_frame then [] else calling_starts s i info.call_site ++ caller_starts_within n s (span_at s.ranges i).parent
+
+unfoldable pub caller_starts : ScopesRecord → Option ℕ → List (Option ℕ × Option ℕ)
+caller_starts s range = caller_starts_within (rank range) s range
+
+-- the same for all frames at a range: first that of the function that the range is the code of
+abbrev pub frame_starts : ScopesRecord → ℕ → List (Option ℕ × Option ℕ)
+frame_starts s i = (definition_of s (Some i), Some i) ∷ caller_starts s (Some i)
+
+-- The scopes that a frame at a position of the generated code is in, by the index of the frame: its innermost scope and those around it,
+-- each with the innermost range that is its code, of those that are not within a body that was called from the frame.
+abbrev pub scope_chain : ScopesRecord → ℕ → ℕ → ℕ → Option (List ScopeChainEntry)
+scope_chain s frame line column =
+    option_map (λ start. chain_of s start.0 start.1) (option_and_then (λ i. slice_get (frame_starts s i) frame) (range_at s line column))

@@ -32,3 +32,4 @@ pub use Rattle.oxc_sourcemap_tokens.specs.Results.{lent_items}
 pub use Rattle.oxc_sourcemap_scopes.specs.Messages.{fault_text, error_text}
 pub use Rattle.oxc_sourcemap_scopes.specs.Asking.{around, is_code_of, code_of, chain_of}
 pub use Rattle.oxc_sourcemap_scopes.specs.Asking.{definition_of, scope_chain, scope_chain_at}
+pub use Rattle.oxc_sourcemap_scopes.specs.Asking.{frame_starts, caller_starts}

@@ -1,6 +1,7 @@
 //! The scopes around a position of the generated code, each with the range that has the values of its variables.
-ghost use Rattle.std.specs.Prelude.{◌≡◌, ◌<◌, length, IfSome, IfOk, option_and_then};
+ghost use Rattle.std.specs.Prelude.{◌≡◌, ◌<◌, length, IfSome, IfOk, option_map, slice_get, Some};
 ghost use Rattle.oxc_sourcemap_scopes.specs.Words.{is_code_of, code_of, chain_of, scope_chain};
+ghost use Rattle.oxc_sourcemap_scopes.specs.Words.{frame_starts, caller_starts};
 ghost use Rattle.oxc_sourcemap_scopes.specs.Words.{scope_chain_at, range_at, definition_of, around};
 
 use crate::scopes::{RangeInfo, Scopes};
@@ -12,7 +13,7 @@ use std::alloc::Global;
 pub struct ScopeChainEntry {
     /// The index of the scope.
     pub scope: usize,
-    /// The index of the innermost range there that is the code of the scope, and has the values of its variables; None if none is.
+    /// The index of the innermost range there that is the code of the scope, in which its variables have their values; None if none is.
     pub range: Option<usize>,
 }
 
@@ -51,9 +52,9 @@ impl Scopes {
         self.chain(alloc, self.definition_of(range), range)
     }
 
-    /// A scope, by its index, and those around it, from the inside out, each with the range at a position of the generated code that
-    /// has its values: as `scope_chain_at`, for the frame of a call that was inlined there, whose scope is that at its call site
-    /// (`scope_at`). None past the last scope.
+    /// The same for a frame of the source at a position of the generated code, by its index in what `frames_at` returns: for the first
+    /// frame the scopes of `scope_chain_at`, for that of a call which was inlined those at its place, from the scope there on, with the
+    /// ranges around the inlined body. None past the last frame.
     ///
     /// # Errors
     ///
@@ -61,16 +62,56 @@ impl Scopes {
     pub fn scope_chain(
         &self,
         alloc: Global,
-        scope: usize,
+        frame: usize,
         line: u32,
         column: u32,
-    ) -> Memory<Vec<ScopeChainEntry>>
-        ensures { IfOk result (λ chain. chain.items ≡ scope_chain self.now scope line column) }
+    ) -> Memory<Option<Vec<ScopeChainEntry>>>
+        ensures { IfOk result (λ chain. option_map (λ entries. entries.items) chain ≡ scope_chain self.now frame line column) }
     {
-        if scope >= self.scope_count() {
-            return Ok(Vec::new(alloc));
+        let Some(range) = self.range_at(line, column) else {
+            return Ok(None);
+        };
+        let Some((scope, range)) = self.frame_start(frame, range) else {
+            return Ok(None);
+        };
+        Ok(Some(self.chain(alloc, scope, range)?))
+    }
+
+    /// The innermost scope of a frame at a range, by its index, and the range from which its values are looked for.
+    fn frame_start(&self, frame: usize, range: usize) -> Option<(Option<usize>, Option<usize>)>
+        requires { range < length self.now.ranges }
+        ensures start { result ≡ slice_get (frame_starts self.now range) frame }
+        ensures within { IfSome result (λ start. IfSome start.0 (λ i. i < length self.now.scopes) × IfSome start.1 (λ i. i < length self.now.ranges)) }
+    {
+        if frame == 0 {
+            return Some((self.definition_of(Some(range)), Some(range)));
         }
-        self.chain(alloc, Some(scope), self.range_at(line, column))
+        self.caller_start(frame - 1, range)
+    }
+
+    /// The same of the frame of a call that was inlined, by its index among those.
+    fn caller_start(&self, caller: usize, range: usize) -> Option<(Option<usize>, Option<usize>)>
+        requires { range < length self.now.ranges }
+        ensures start { result ≡ slice_get (caller_starts self.now (Some range)) caller }
+        ensures within { IfSome result (λ start. IfSome start.0 (λ i. i < length self.now.scopes) × IfSome start.1 (λ i. i < length self.now.ranges)) }
+    {
+        let mut left = caller;
+        let mut next = Some(range);
+        while let Some(index) = next {
+            let info = &self.range_infos[index];
+            if info.is_stack_frame {
+                return None;
+            }
+            let outer = self.ranges[index].parent;
+            if let Some(call) = info.call_site {
+                if left == 0 {
+                    return Some((self.scope_at(call.source, call.line, call.column), outer));
+                }
+                left -= 1;
+            }
+            next = outer;
+        }
+        None
     }
 
     /// The scope that a range is the code of.

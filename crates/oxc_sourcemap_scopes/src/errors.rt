@@ -41,9 +41,9 @@ pub enum ScopesFaultKind {
     /// It is empty, or lacks a number that its tag and flags ask for.
     MissingNumber,
     /// Its index of a name or of a scope is below 0, past the last one (of scopes, the last that starts before it in the text), or above
-    /// 4294967294; or it has sub-ranges of the value of a variable that has no value before it.
+    /// 4294967294; or it has sub-ranges of a value that no item before it tells of.
     BadIndex,
-    /// It is an end, variables, values or a call site, and nothing that it could belong to is open.
+    /// It is an end, variables, values, sub-ranges or a call site, and nothing that it could belong to is open.
     NothingOpen,
     /// A source without scopes comes within the scopes of another.
     NotClosed,
@@ -64,7 +64,7 @@ impl fmt::Display for ScopesFaultKind {
             ScopesFaultKind::CutShort => write!(f, "the last number is cut short"),
             ScopesFaultKind::TooLarge => write!(f, "a number is too large"),
             ScopesFaultKind::MissingNumber => write!(f, "a number is missing"),
-            ScopesFaultKind::BadIndex => write!(f, "an index leads to no name or scope"),
+            ScopesFaultKind::BadIndex => write!(f, "an index leads to no name, scope or value"),
             ScopesFaultKind::NothingOpen => write!(f, "no scope or range is open"),
             ScopesFaultKind::NotClosed => write!(f, "the scopes before it are not closed"),
             ScopesFaultKind::TooDeep => write!(f, "more than 1024 scopes or ranges are nested"),

@@ -145,8 +145,8 @@ impl Scopes {
     }
 
     /// The value of a variable in a range, both by their index, at a position of the generated code that the range contains: the index
-    /// of the name that has the expression for it. None if it has no value there, and past the last value or range. It takes time by
-    /// the pieces of the values of the range.
+    /// of the name that has the expression for it. None if it has no value there, and past the last value or range. Behind the range
+    /// it is as at its end, and before it as at its start. It takes time by the sub-ranges of the values of the range.
     pub fn value_at(&self, range: usize, variable: usize, line: u32, column: u32) -> Option<u32>
         ensures { result ≡ value_at self.now range variable line column }
     {

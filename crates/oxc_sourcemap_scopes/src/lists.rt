@@ -1,4 +1,4 @@
-//! What items append to the lists of a scope or a range: its variables, or its values.
+//! What items append to the lists of a scope or a range: its variables, its values, or their pieces.
 ghost use Rattle.std.specs.Prelude.{◌≡◌, ◌≤◌, drop, length, set, true, IfOk};
 ghost use Rattle.oxc_sourcemap_scopes.specs.Words.{Reads, indices_moved, with_indices, value_read};
 ghost use Rattle.oxc_sourcemap_scopes.specs.Words.{all_values, with_others, value_to_split};

@@ -118,21 +118,13 @@ fn write_chain(scopes: &Scopes, chain: &[ScopeChainEntry], line: u32, column: u3
     Ok(())
 }
 
-/// The chain of the frame of a call that was inlined at a position.
-fn write_chain_of(alloc: Global, scopes: &Scopes, call: CallSite, line: u32, column: u32, out: &mut String) -> Result<(), Fault> {
-    let chain = match scopes.scope_at(call.source, call.line, call.column) {
-        Some(scope) => scopes.scope_chain(alloc, scope, line, column)?,
-        None => Vec::new(alloc),
-    };
-    write_chain(scopes, chain.as_slice(), line, column, out)
-}
-
 fn write_chains(alloc: Global, scopes: &Scopes, line: u32, column: u32, out: &mut String) -> Result<(), Fault> {
     let chain = scopes.scope_chain_at(alloc, line, column)?;
     write_chain(scopes, chain.as_slice(), line, column, out)?;
-    for frame in &scopes.frames_at(alloc, line, column)?.frames {
-        if let Some(call) = frame.call_site {
-            write_chain_of(alloc, scopes, call, line, column, out)?;
+    for frame in 1..usize::MAX {
+        match scopes.scope_chain(alloc, frame, line, column)? {
+            Some(chain) => write_chain(scopes, chain.as_slice(), line, column, out)?,
+            None => break,
         }
     }
     Ok(())

@@ -70,7 +70,7 @@ class Scopes(Handle):
         ...     Scopes.decode("A,BBAAC,CAA", names=1)
         ... except SourceMapError as error:
         ...     print(error, error.field.name, error.detail, sep=" | ")
-        scopes, byte 2: an index leads to no name or scope | BAD_INDEX | 2
+        scopes, byte 2: an index leads to no name, scope or value | BAD_INDEX | 2
         """
         data, names = bytes_of(text, "text"), number(names)
         return Scopes._made(lambda *out: lib.smap_decode_scopes(data, len(data), names, *out))

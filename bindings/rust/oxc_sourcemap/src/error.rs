@@ -128,7 +128,7 @@ pub enum ScopesFaultKind {
     TooLarge,
     /// It is empty, or lacks a number.
     MissingNumber,
-    /// An index leads to no name or scope.
+    /// An index leads to no name, scope or value.
     BadIndex,
     /// It is an end, or a call site, and nothing that it could belong to is open.
     NothingOpen,

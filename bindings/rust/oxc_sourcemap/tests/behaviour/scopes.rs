@@ -123,7 +123,7 @@ fn each_fault_has_its_kind_and_byte() {
         ("A,Bg", 0, Kind::CutShort, 2, "scopes, byte 2: the last number is cut short"),
         ("A,gggggggA", 0, Kind::TooLarge, 2, "scopes, byte 2: a number is too large"),
         ("A,,A", 0, Kind::MissingNumber, 2, "scopes, byte 2: a number is missing"),
-        ("BBAAC", 1, Kind::BadIndex, 0, "scopes, byte 0: an index leads to no name or scope"),
+        ("BBAAC", 1, Kind::BadIndex, 0, "scopes, byte 0: an index leads to no name, scope or value"),
         ("A,CAA", 0, Kind::NothingOpen, 2, "scopes, byte 2: no scope or range is open"),
         ("BAAA,A", 0, Kind::NotClosed, 5, "scopes, byte 5: the scopes before it are not closed"),
         (&deep, 0, Kind::TooDeep, 5120, "scopes, byte 5120: more than 1024 scopes or ranges are nested"),

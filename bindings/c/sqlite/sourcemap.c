@@ -5,19 +5,23 @@
  *   smap_trace_at(map, line, column)     the same as a table: one row of source, line, column, name, source_id, or none
  *   smap_compile(map)                    the compiled map, a BLOB; of one that is compiled, itself
  *   smap_source_content(map, source_id)  the content of a source, TEXT; NULL if the map does not have it
+ *   smap_fault(map)                      why a map cannot be read, TEXT, with the place; NULL if it can be read
  *
  * Numbers count from 0, columns in UTF-16 units. Sources are as the map lists them, without the source root. JSON is read as
- * smap_read_found reads it. With an argument that is NULL the answer is NULL, or no row. All else that is no map, and no INTEGER from 0 to
- * 4294967295, is an error of the statement, in the words of the library, with its place.
+ * smap_read_found reads it, and what that mends is not told. With an argument that is NULL the answer is NULL, or no row. All else that is
+ * no map, and no INTEGER from 0 to 4294967295, is an error of the statement, in the words of the library, with its place; lack of memory
+ * is one of smap_fault too.
  *
  * smap_trace and smap_source_content read JSON once in a statement if it is a literal or a parameter, and else in each row; smap_trace_at
  * reads it once for rows with the same JSON that follow each other in a join. Compiled maps are looked up where SQLite holds them; but
  * SQLite itself copies a map that is larger than a page for each row, if it is no literal and no parameter, also out of a subquery.
  *
+ * Build the library first (./build c), then the extension:
+ *
  *   cc -O2 -fPIC -fvisibility=hidden -shared -Itarget bindings/c/sqlite/sourcemap.c target/liboxc_sourcemap.a -Wl,--exclude-libs,ALL \
  *       -o sourcemap.so
  *
- * Then `.load ./sourcemap` in sqlite3, or sqlite3_load_extension, of SQLite 3.31 or newer.
+ * Load it by `.load ./sourcemap` in sqlite3, or sqlite3_load_extension, of SQLite 3.31 or newer.
  */
 #include "oxc_sourcemap.h"
 
@@ -45,21 +49,35 @@ static int refused(const char *text, size_t len, const smap_fault *fault, char *
     size_t message_len = text ? smap_reason_message(text, len, fault, message, sizeof message) : 0;
     if (message_len == 0) message_len = smap_message(fault, message, sizeof message);
     if (fault->code == SMAP_OUT_OF_MEMORY || message_len == 0) return SQLITE_NOMEM;
+    if (place_len == 0 && fault->place.kind != SMAP_PLACE_NONE) return SQLITE_NOMEM;
     if (place_len > sizeof place) place_len = sizeof place;
     if (message_len > sizeof message) message_len = sizeof message;
     const char *between = place_len > 0 ? ": " : "";
     return failed_with(sqlite3_mprintf("%.*s%s%.*s", (int)place_len, place, between, (int)message_len, message), words);
 }
 
+/* The type of a value that is not NULL. */
+static const char *type_of(sqlite3_value *value) {
+    switch (sqlite3_value_type(value)) {
+    case SQLITE_INTEGER: return "an INTEGER";
+    case SQLITE_FLOAT: return "a REAL";
+    case SQLITE_TEXT: return "TEXT";
+    default: return "a BLOB";
+    }
+}
+
 static int open_map(sqlite3_value *value, opened *out, char **words) {
     smap_fault fault;
     int type = sqlite3_value_type(value);
-    if (type != SQLITE_TEXT && type != SQLITE_BLOB) return failed_with(sqlite3_mprintf("a map is TEXT (JSON) or a BLOB (compiled)"), words);
+    if (type != SQLITE_TEXT && type != SQLITE_BLOB)
+        return failed_with(sqlite3_mprintf("the map is %s, and has to be TEXT (JSON) or a BLOB (compiled)", type_of(value)), words);
     /* (the length is that of the text in UTF-8; a BLOB that cannot be made of a zeroblob is NULL from then on, and has no length) */
     const char *at = type == SQLITE_TEXT ? (const char *)sqlite3_value_text(value) : NULL;
     size_t len = (size_t)sqlite3_value_bytes(value);
     if (type == SQLITE_BLOB) at = sqlite3_value_blob(value);
     if (!at && (type == SQLITE_TEXT || len > 0)) return SQLITE_NOMEM;
+    if (type == SQLITE_BLOB && len > 0 && *at == '{')
+        return failed_with(sqlite3_mprintf("a BLOB is a compiled map, and this is JSON: CAST it AS TEXT"), words);
     if (type == SQLITE_BLOB) {
         if (smap_open_compiled(at, len, &out->compiled, &fault) == SMAP_OK) return SQLITE_OK;
         return refused(NULL, 0, &fault, words);
@@ -71,9 +89,13 @@ static void free_map(void *map) {
     smap_free_map(map);
 }
 
+#define HAS_TO_BE "and has to be an INTEGER from 0 to 4294967295"
+
 static int number_in(sqlite3_value *value, const char *what, uint32_t *out, char **words) {
-    sqlite3_int64 number = sqlite3_value_type(value) == SQLITE_INTEGER ? sqlite3_value_int64(value) : -1;
-    if (number < 0 || number > UINT32_MAX) return failed_with(sqlite3_mprintf("a %s is an INTEGER from 0 to 4294967295", what), words);
+    if (sqlite3_value_type(value) != SQLITE_INTEGER)
+        return failed_with(sqlite3_mprintf("the %s is %s, " HAS_TO_BE, what, type_of(value)), words);
+    sqlite3_int64 number = sqlite3_value_int64(value);
+    if (number < 0 || number > UINT32_MAX) return failed_with(sqlite3_mprintf("the %s is %lld, " HAS_TO_BE, what, number), words);
     *out = (uint32_t)number;
     return SQLITE_OK;
 }
@@ -181,6 +203,19 @@ static void call_compile(sqlite3_context *context, int argc, sqlite3_value **arg
     else
         sqlite3_result_value(context, argv[0]);
     smap_free_string(made);
+    smap_free_map(it.map);
+    smap_free_compiled(it.compiled);
+}
+
+static void call_fault(sqlite3_context *context, int argc, sqlite3_value **argv) {
+    char *words = NULL;
+    opened it = { NULL, NULL };
+    if (has_null(argc, argv)) return;
+    int status = open_map(argv[0], &it, &words);
+    if (status == SQLITE_ERROR)
+        sqlite3_result_text(context, words, -1, sqlite3_free);
+    else if (status != SQLITE_OK)
+        answer_error(context, status, words);
     smap_free_map(it.map);
     smap_free_compiled(it.compiled);
 }
@@ -379,7 +414,10 @@ int sqlite3_sourcemap_init(sqlite3 *db, char **words, const sqlite3_api_routines
         const char *name;
         int arguments;
         void (*call)(sqlite3_context *, int, sqlite3_value **);
-    } CALLS[] = { { "smap_trace", 3, call_trace }, { "smap_compile", 1, call_compile }, { "smap_source_content", 2, call_source_content } };
+    } CALLS[] = { { "smap_trace", 3, call_trace },
+                  { "smap_compile", 1, call_compile },
+                  { "smap_source_content", 2, call_source_content },
+                  { "smap_fault", 1, call_fault } };
     const int how = SQLITE_UTF8 | SQLITE_DETERMINISTIC | SQLITE_INNOCUOUS;
     SQLITE_EXTENSION_INIT2(api);
     if (sqlite3_libversion_number() < 3031000) return failed_with(sqlite3_mprintf("sourcemap needs SQLite 3.31"), words);

@@ -90,7 +90,9 @@ static void answers(sqlite3 *db, const char *sql, const maps *with, const char *
 #define FRAMES "WITH frames(id, line, col) AS (VALUES (1, 0, 4), (2, 1, 0), (3, 1, 7), (4, 0, 8)) "
 #define MANY "WITH RECURSIVE many(i) AS (SELECT 0 UNION ALL SELECT i + 1 FROM many WHERE i < 99) "
 #define BOTH "WITH m(i, map) AS (VALUES (1, :json), (2, :other)) "
-#define IS_NUMBER " is an INTEGER from 0 to 4294967295"
+#define NO_NUMBER(given) " is " given ", and has to be an INTEGER from 0 to 4294967295"
+#define IS_JSON "error: a BLOB is a compiled map, and this is JSON: CAST it AS TEXT"
+#define NO_MAP(given) "error: the map is " given ", and has to be TEXT (JSON) or a BLOB (compiled)"
 
 static const struct {
     int row;
@@ -138,29 +140,33 @@ static const struct {
     { __LINE__, "SELECT smap_trace(smap_compile(:map), 0, 3)", "{\"source\":\"a.ts\",\"line\":0,\"column\":9,\"name\":\"hi\"}|;" },
     { __LINE__, "SELECT smap_source_content(smap_compile(:map), 0)", "let hi;|;" },
     { __LINE__, "SELECT smap_compile(:map) = smap_compile(:json)", "1|;" },
+    /* faults: none, of what is read and of what smap_compile makes */
+    { __LINE__, "SELECT smap_fault(:map), smap_fault(smap_compile(:map)), smap_fault(:json), smap_fault(:other)", "NULL|NULL|NULL|NULL|;" },
     /* NULL */
     { __LINE__, "SELECT smap_trace(NULL, 0, 0), smap_trace(:map, NULL, 0), smap_trace(:map, 0, NULL), smap_trace('x', -1, NULL)",
       "NULL|NULL|NULL|NULL|;" },
     { __LINE__, "SELECT smap_compile(NULL), smap_source_content(NULL, 0), smap_source_content(:map, NULL)", "NULL|NULL|NULL|;" },
+    { __LINE__, "SELECT smap_fault(NULL)", "NULL|;" },
     { __LINE__, "SELECT count(*) FROM smap_trace_at(NULL, 0, 0)", "0|;" },
     { __LINE__, "SELECT count(*) FROM smap_trace_at(:map, NULL, 0), smap_trace_at(:map, 0, NULL)", "0|;" },
     /* numbers */
-    { __LINE__, "SELECT smap_trace(:map, -1, 0)", "error: a line" IS_NUMBER },
-    { __LINE__, "SELECT smap_trace(:map, 0, -1)", "error: a column" IS_NUMBER },
-    { __LINE__, "SELECT smap_trace(:map, 4294967296, 0)", "error: a line" IS_NUMBER },
-    { __LINE__, "SELECT smap_trace(:map, 0, 4294967296)", "error: a column" IS_NUMBER },
-    { __LINE__, "SELECT smap_trace(:map, 9223372036854775807, 0)", "error: a line" IS_NUMBER },
-    { __LINE__, "SELECT smap_trace(:map, 0, 0.0)", "error: a column" IS_NUMBER },
-    { __LINE__, "SELECT smap_trace(:map, '0', 0)", "error: a line" IS_NUMBER },
-    { __LINE__, "SELECT smap_trace(:map, 0, x'00')", "error: a column" IS_NUMBER },
-    { __LINE__, "SELECT * FROM smap_trace_at(:map, 0, -1)", "error: a column" IS_NUMBER },
-    { __LINE__, "SELECT * FROM smap_trace_at(:map, '0', 0)", "error: a line" IS_NUMBER },
-    { __LINE__, "SELECT smap_source_content(:map, -1)", "error: a source_id" IS_NUMBER },
-    { __LINE__, "SELECT smap_source_content(:map, 4294967296)", "error: a source_id" IS_NUMBER },
+    { __LINE__, "SELECT smap_trace(:map, -1, 0)", "error: the line" NO_NUMBER("-1") },
+    { __LINE__, "SELECT smap_trace(:map, 0, -1)", "error: the column" NO_NUMBER("-1") },
+    { __LINE__, "SELECT smap_trace(:map, 4294967296, 0)", "error: the line" NO_NUMBER("4294967296") },
+    { __LINE__, "SELECT smap_trace(:map, 0, 4294967296)", "error: the column" NO_NUMBER("4294967296") },
+    { __LINE__, "SELECT smap_trace(:map, 9223372036854775807, 0)", "error: the line" NO_NUMBER("9223372036854775807") },
+    { __LINE__, "SELECT smap_trace(:map, 0, 0.0)", "error: the column" NO_NUMBER("a REAL") },
+    { __LINE__, "SELECT smap_trace(:map, '0', 0)", "error: the line" NO_NUMBER("TEXT") },
+    { __LINE__, "SELECT smap_trace(:map, 0, x'00')", "error: the column" NO_NUMBER("a BLOB") },
+    { __LINE__, "SELECT * FROM smap_trace_at(:map, 0, -1)", "error: the column" NO_NUMBER("-1") },
+    { __LINE__, "SELECT * FROM smap_trace_at(:map, '0', 0)", "error: the line" NO_NUMBER("TEXT") },
+    { __LINE__, "SELECT smap_source_content(:map, -1)", "error: the source_id" NO_NUMBER("-1") },
+    { __LINE__, "SELECT smap_source_content(:map, 4294967296)", "error: the source_id" NO_NUMBER("4294967296") },
     /* what a schema may call: deterministic functions, and no unsafe ones */
     { __LINE__, "PRAGMA trusted_schema=OFF", "" },
     { __LINE__, "CREATE TABLE t(map, name AS (smap_trace(map, 0, 3)), content AS (smap_source_content(smap_compile(map), 0)))", "" },
     { __LINE__, "CREATE INDEX name_of ON t(smap_trace(map, 0, 3))", "" },
+    { __LINE__, "CREATE INDEX is_bad ON t(smap_fault(map))", "" },
     { __LINE__, "CREATE VIEW v AS SELECT t.name, t.content, s.name FROM t, smap_trace_at(t.map, 0, 3) s", "" },
     { __LINE__, "INSERT INTO t VALUES (:map)", "" },
     { __LINE__, "SELECT * FROM v", "{\"source\":\"a.ts\",\"line\":0,\"column\":9,\"name\":\"hi\"}|let hi;|hi|;" },
@@ -196,10 +202,10 @@ static const struct {
       "ORDER BY a.i, b.i",
       "a.ts|a.ts|;a.ts|a.js|;a.js|a.ts|;a.js|a.js|;" },
     /* errors */
-    { __LINE__, "SELECT smap_trace(1, 0, 0)", "error: a map is TEXT (JSON) or a BLOB (compiled)" },
-    { __LINE__, "SELECT smap_compile(1.5)", "error: a map is TEXT (JSON) or a BLOB (compiled)" },
-    { __LINE__, "SELECT smap_source_content(7, 0)", "error: a map is TEXT (JSON) or a BLOB (compiled)" },
-    { __LINE__, "SELECT * FROM smap_trace_at(1, 0, 0)", "error: a map is TEXT (JSON) or a BLOB (compiled)" },
+    { __LINE__, "SELECT smap_trace(1, 0, 0)", NO_MAP("an INTEGER") },
+    { __LINE__, "SELECT smap_compile(1.5)", NO_MAP("a REAL") },
+    { __LINE__, "SELECT smap_source_content(7, 0)", NO_MAP("an INTEGER") },
+    { __LINE__, "SELECT * FROM smap_trace_at(1, 0, 0)", NO_MAP("an INTEGER") },
     { __LINE__, "SELECT smap_trace(" BAD("A,AA") ", 0, 0)",
       "error: line 0, segment 1 (byte 2): Mapping segment had an unsupported size of 2" },
     { __LINE__, "SELECT smap_compile(" BAD("AAAA,DAAA") ")", "error: line 0, segment 1 (byte 5): a column below 0" },
@@ -213,6 +219,30 @@ static const struct {
     { __LINE__, "SELECT * FROM smap_trace_at(x'01', 0, 0)", "error: not a compiled source map" },
     { __LINE__, "SELECT smap_compile(CAST(smap_compile(:json) || x'00' AS BLOB))",
       "error: a compiled source map has another length than it says" },
+    { __LINE__, "SELECT smap_trace(CAST(:json AS BLOB), 0, 0)", IS_JSON },
+    { __LINE__, "SELECT * FROM smap_trace_at(x'7B', 0, 0)", IS_JSON },
+    { __LINE__, "SELECT smap_compile(CAST(:other AS BLOB))", "error: not a compiled source map" },
+    /* the same as answers */
+    { __LINE__, "SELECT smap_fault(" BAD("AAAA,DAAA") ")", "line 0, segment 1 (byte 5): a column below 0|;" },
+    { __LINE__, "SELECT smap_fault(" BAD("A,AA") ")", "line 0, segment 1 (byte 2): Mapping segment had an unsupported size of 2|;" },
+    { __LINE__, "SELECT smap_fault(" BAD("KACA,FAAA") ")", "NULL|;" },
+    { __LINE__, "SELECT smap_fault('{\"version\":7}')", "version: JSON parsing error: unsupported source map version: 7|;" },
+    { __LINE__, "SELECT smap_fault(CAST(x'FF' AS TEXT))", "Byte 0 is not UTF-8|;" },
+    { __LINE__, "SELECT smap_fault(x'736D617002000000')", "unsupported version of a compiled source map: 2|;" },
+    { __LINE__, "SELECT smap_fault(CAST(smap_compile(:json) || x'00' AS BLOB))",
+      "a compiled source map has another length than it says|;" },
+    { __LINE__, "SELECT smap_fault(CAST(:json AS BLOB))", "a BLOB is a compiled map, and this is JSON: CAST it AS TEXT|;" },
+    { __LINE__, "SELECT smap_fault(x''), smap_fault(zeroblob(200))", "not a compiled source map|not a compiled source map|;" },
+    { __LINE__, "SELECT smap_fault(1)", "the map is an INTEGER, and has to be TEXT (JSON) or a BLOB (compiled)|;" },
+    { __LINE__, "SELECT typeof(smap_fault(1.5)), typeof(smap_fault(:json))", "text|null|;" },
+    { __LINE__, "SELECT smap_fault()", "error: wrong number of arguments to function smap_fault()" },
+    { __LINE__, "CREATE TABLE maps(id INTEGER PRIMARY KEY, map TEXT, compiled BLOB)", "" },
+    { __LINE__, "INSERT INTO maps(map) VALUES (:json), (" BAD("D") "), (:other), (NULL)", "" },
+    { __LINE__, "UPDATE maps SET compiled = smap_compile(map)", "error: line 0, segment 0 (byte 0): a column below 0" },
+    { __LINE__, "UPDATE maps SET compiled = smap_compile(map) WHERE smap_fault(map) IS NULL", "" },
+    { __LINE__, "SELECT m.id, s.source FROM maps m LEFT JOIN smap_trace_at(m.compiled, 0, 3) s", "1|a.ts|;2|NULL|;3|a.js|;4|NULL|;" },
+    { __LINE__, "SELECT id, smap_fault(map) FROM maps WHERE compiled IS NULL", "2|line 0, segment 0 (byte 0): a column below 0|;4|NULL|;" },
+    { __LINE__, "DROP TABLE maps", "" },
     /* an error of one row leaves the others as they are */
     { __LINE__,
       MANY "SELECT count(*), count(source) FROM many LEFT JOIN smap_trace_at(CASE i % 3 WHEN 0 THEN :json WHEN 1 THEN :other END, 0, i)",
@@ -324,8 +354,14 @@ static const struct {
     { __LINE__, "SELECT length(smap_compile(:json)) > 0, smap_source_content(:map, 7)", "1|NULL|;" },
     { __LINE__, "SELECT smap_trace(" BAD("AAAA,DAAA") ", 0, 0)", "error: line 0, segment 1 (byte 5): a column below 0" },
     { __LINE__, "SELECT * FROM smap_trace_at(" BAD("AAAA,DAAA") ", 0, 0)", "error: line 0, segment 1 (byte 5): a column below 0" },
-    { __LINE__, "SELECT * FROM smap_trace_at(:json, 0, -1)", "error: a column" IS_NUMBER },
+    { __LINE__, "SELECT * FROM smap_trace_at(:json, 0, -1)", "error: the column" NO_NUMBER("-1") },
     { __LINE__, "SELECT smap_trace(zeroblob(300), 0, 0)", "error: not a compiled source map" },
+    { __LINE__, "SELECT smap_fault(:json), smap_fault(:map), smap_fault(:other)", "NULL|NULL|NULL|;" },
+    { __LINE__, "SELECT smap_fault(" BAD("A,AA") ")", "line 0, segment 1 (byte 2): Mapping segment had an unsupported size of 2|;" },
+    /* (the reason takes memory too: without it there are the words of the error) */
+    { __LINE__, "SELECT smap_fault(" BAD("AAAA,DAAA") ") LIKE 'line 0, segment 1 (byte 5): %'", "1|;" },
+    { __LINE__, "SELECT smap_fault(1), smap_fault(CAST(:json AS BLOB)) IS NULL",
+      "the map is an INTEGER, and has to be TEXT (JSON) or a BLOB (compiled)|0|;" },
 };
 
 /* Whether this is an answer where memory is refused: the right one, or that there is no memory; of errors those in other words too, since

@@ -34,10 +34,22 @@ function frameOf({ frame: { url, line, column }, source, line: sourceLine, colum
 }
 
 const snake = (name) => name.replace(/[A-Z]/g, (it) => `_${it.toLowerCase()}`);
-const statsOf = (resolver) => Object.entries(resolver.stats()).map(([name, count]) => `resolver_${snake(name)} ${count}\n`).join('');
+
+/** Counts as Prometheus scrapes them. Those of what is held may sink, all others only grow; reasons are labels. */
+function metrics(counts) {
+  const said = new Set();
+  for (const [camel, count] of Object.entries(counts)) {
+    const name = snake(camel);
+    const [, reason] = /^not_resolved_(.*)/.exec(name) ?? [];
+    const family = name.endsWith('held') ? name : `${reason ? 'not_resolved' : name}_total`;
+    const label = reason ? `{reason="${reason.replace('_', ' ')}"}` : '';
+    said.add(`# TYPE resolver_${family} ${family === name ? 'gauge' : 'counter'}\n`).add(`resolver_${family}${label} ${count}\n`);
+  }
+  return [...said].join('');
+}
 
 async function answer(resolver, request) {
-  if (request.method === 'GET' && request.url === '/stats') return [200, statsOf(resolver)];
+  if (request.method === 'GET' && request.url === '/stats') return [200, metrics(resolver.stats())];
   if (request.method !== 'POST' || !['/', '/frames'].includes(request.url)) return [404, ''];
   const trace = await bodyOf(request, resolver.limits.traceBytes);
   if (trace === null) return [413, ''];

@@ -55,7 +55,11 @@ test('what is answered', async () => {
   const [status, frames] = await asked('POST', '/frames', TRACE);
   const found = { url: 'http://h/app.js', line: 1, column: 14, source: 'src/a.ts', sourceLine: 1, sourceColumn: 2, name: 'run' };
   assert.deepEqual([status, JSON.parse(frames)], [200, [found, { url: 'http://h/no.js', line: 1, column: 1, reason: 'not there' }]]);
-  assert.match(String((await asked('GET', '/stats'))[1]), /^resolver_hits \d+\n(?:resolver_[a-z_]+ \d+\n)+$/);
+  const stats = String((await asked('GET', '/stats'))[1]);
+  assert.match(stats, /^(?:# TYPE (resolver_[a-z_]+) (?:counter|gauge)\n(?:\1(?:\{reason="[a-z ]+"\})? \d+\n)+)+$/);
+  assert.deepEqual(stats.match(/# TYPE resolver_held .*\nresolver_held /g), ['# TYPE resolver_held gauge\nresolver_held ']);
+  for (const it of ['hits_total', 'not_resolved_total']) assert.equal(stats.split(`# TYPE resolver_${it} counter\n`).length, 2);
+  assert.match(stats, /\nresolver_not_resolved_total\{reason="not there"\} [1-9]/);
   for (const it of [['GET', '/'], ['GET', '/x'], ['POST', '/stats', '']]) assert.equal((await asked(...it))[0], 404);
 });
 

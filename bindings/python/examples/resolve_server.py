@@ -37,6 +37,18 @@ def frame_json(found: Resolved) -> dict[str, object]:
     return said | {"source": found.source, "sourceLine": found.line, "sourceColumn": found.column, "name": found.name}
 
 
+def metrics(counts: dict[str, int]) -> str:
+    """Counts as Prometheus scrapes them. Those of what is held may sink, all others only grow; reasons are labels."""
+    said: dict[str, None] = {}
+    for name, count in counts.items():
+        family, _, reason = name.partition("not_resolved_")
+        family = "not_resolved" if reason else family
+        family, kind = (family, "gauge") if name.endswith("held") else (f"{family}_total", "counter")
+        label = '{reason="%s"}' % reason.replace("_", " ") if reason else ""
+        said |= {f"# TYPE resolver_{family} {kind}\n": None, f"resolver_{family}{label} {count}\n": None}
+    return "".join(said)
+
+
 class Handler(BaseHTTPRequestHandler):
     server: Server
 
@@ -73,8 +85,7 @@ class Handler(BaseHTTPRequestHandler):
     def do_GET(self) -> None:
         if self.path != "/stats":
             return self.say(404)
-        counts = self.server.resolver.stats().items()
-        self.say(200, "".join(f"resolver_{name} {count}\n" for name, count in counts).encode())
+        self.say(200, metrics(self.server.resolver.stats()).encode())
 
     def do_POST(self) -> None:
         length = self.headers.get("Content-Length", "")

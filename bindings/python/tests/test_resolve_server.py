@@ -64,7 +64,11 @@ class Server(Case):
         lost = {"url": "http://h/no.js", "line": 1, "column": 1, "reason": "not there"}
         self.assertEqual((status, json.loads(frames)), (200, [found, lost]))
         status, stats = self.asked("GET", "/stats")
-        self.assertRegex(stats.decode(), r"\Aresolver_hits \d+\n(resolver_[a-z_]+ \d+\n)+\Z")
+        family = r'# TYPE (resolver_[a-z_]+) (counter|gauge)\n(\2({reason="[a-z ]+"})? \d+\n)+'
+        self.assertRegex(stats.decode(), rf"\A({family})+\Z")
+        for it in (b"hits_total counter", b"not_resolved_total counter", b"held gauge"):
+            self.assertEqual(stats.count(b"# TYPE resolver_%s\nresolver_%s" % (it, it.split()[0])), 1)
+        self.assertRegex(stats, rb'\nresolver_not_resolved_total{reason="not there"} [1-9]')
         self.assertEqual([self.asked(*it)[0] for it in (("GET", "/"), ("GET", "/../stats"), ("POST", "/stats", b""))], [404, 404, 404])
 
     def test_many_clients_at_once(self):

@@ -91,7 +91,7 @@ impl fmt::Display for Reason {
     }
 }
 
-/// That a frame is not resolved, and why: the reason, and more in words, which may be none.
+/// That a frame is not resolved, and why: the reason, and more in words.
 ///
 /// ```
 /// use oxc_sourcemap::resolver::{Frame, Options, Reason, Resolver};
@@ -111,8 +111,7 @@ pub struct Unresolved {
 
 impl fmt::Display for Unresolved {
     fn fmt(&self, f: &mut fmt::Formatter<'_>) -> fmt::Result {
-        f.write_str(self.reason.as_str())?;
-        if self.detail.is_empty() { Ok(()) } else { write!(f, ": {}", self.detail) }
+        write!(f, "{}: {}", self.reason, self.detail)
     }
 }
 

@@ -20,11 +20,14 @@ pub(super) enum Counted {
     CompiledUnwritten,
 }
 
+const COUNTED: usize = Counted::CompiledUnwritten as usize + 1;
+const REASONS: usize = Reason::ALL.len();
+
 /// Counts that any thread adds to.
 #[derive(Default)]
 pub(super) struct Totals {
-    counts: [AtomicU64; 9],
-    not_resolved: [AtomicU64; 13],
+    counts: [AtomicU64; COUNTED],
+    not_resolved: [AtomicU64; REASONS],
 }
 
 impl Totals {
@@ -68,6 +71,18 @@ impl Totals {
     }
 }
 
+/// The name of a count, the count, and what it is.
+type Row = (&'static str, u64, &'static str);
+
+/// Counts of one name for Prometheus, each by what stands behind the name.
+fn push_family(out: &mut String, name: &str, kind: &str, what: &str, samples: &[String]) {
+    // (a String takes all that is written)
+    let _ = write!(out, "# HELP resolver_{name} {what}\n# TYPE resolver_{name} {kind}\n");
+    for it in samples {
+        let _ = writeln!(out, "resolver_{name}{it}");
+    }
+}
+
 /// Counts since a resolver was made, and what it holds now.
 ///
 /// ```
@@ -81,7 +96,7 @@ impl Totals {
 #[derive(Clone, Debug, PartialEq, Eq)]
 #[non_exhaustive]
 pub struct Counts {
-    /// How often a map was held that was asked for. A trace asks once for each code.
+    /// How often a map was held that was asked for. A trace asks once for each URL, with its query, and debug id.
     pub hits: u64,
     /// How often one was looked for.
     pub misses: u64,
@@ -119,7 +134,7 @@ pub struct Counts {
     pub compiled_made: u64,
     /// Maps that were compiled, of which no file could be written.
     pub compiled_unwritten: u64,
-    not_resolved: [u64; 13],
+    not_resolved: [u64; REASONS],
 }
 
 impl Counts {
@@ -128,57 +143,68 @@ impl Counts {
         self.not_resolved[reason as usize]
     }
 
-    /// All counts by the names that the resolvers of the other bindings have, and whether each only grows.
-    fn rows(&self) -> Vec<(String, u64, bool)> {
-        let growing = [
-            ("hits", self.hits),
-            ("misses", self.misses),
-            ("waits", self.waits),
-            ("missing_hits", self.missing_hits),
-            ("expired", self.expired),
-            ("evictions", self.evictions),
-            ("traces", self.traces),
-            ("traces_refused", self.traces_refused),
-            ("frames", self.frames),
-            ("resolved", self.resolved),
-            ("compiled_used", self.compiled_used),
-            ("compiled_stale", self.compiled_stale),
-            ("compiled_damaged", self.compiled_damaged),
-            ("compiled_made", self.compiled_made),
-            ("compiled_unwritten", self.compiled_unwritten),
-        ];
-        let now = [
-            ("bytes_held", self.bytes_held),
-            ("held", self.held),
-            ("missing_held", self.missing_held),
-            ("context_bytes_held", self.context_bytes_held),
-        ];
-        let named = |(name, count): (&str, u64), grows| (name.to_string(), count, grows);
-        let reasons = Reason::ALL.map(|it| {
-            let name = format!("not_resolved_{}", it.as_str().replace(' ', "_"));
-            (name, self.not_resolved(it), true)
-        });
-        let rows = growing.map(|it| named(it, true)).into_iter().chain(now.map(|it| named(it, false)));
-        rows.chain(reasons).collect()
+    /// The counts that only grow, by the names that the resolvers of the other bindings have, and what each is.
+    fn growing(&self) -> [Row; 15] {
+        [
+            ("hits", self.hits, "Maps that were held when asked for."),
+            ("misses", self.misses, "Maps that were looked for."),
+            ("waits", self.waits, "Maps that were waited for while another thread read them."),
+            ("missing_hits", self.missing_hits, "Maps of which it was held that there is none."),
+            ("expired", self.expired, "What was held for as long as it may be."),
+            ("evictions", self.evictions, "Maps that were let go of for others, or are too large to be held."),
+            ("traces", self.traces, "Traces that were read."),
+            ("traces_refused", self.traces_refused, "Traces with more bytes than the limit."),
+            ("frames", self.frames, "Frames, resolved or not."),
+            ("resolved", self.resolved, "Frames that were resolved."),
+            ("compiled_used", self.compiled_used, "Compiled maps that were there, and taken."),
+            ("compiled_stale", self.compiled_stale, "Compiled maps that were there, but of another text."),
+            ("compiled_damaged", self.compiled_damaged, "Compiled maps that could not be opened."),
+            ("compiled_made", self.compiled_made, "Maps that were compiled."),
+            (
+                "compiled_unwritten",
+                self.compiled_unwritten,
+                "Maps that were compiled, of which no file could be written.",
+            ),
+        ]
     }
 
-    /// The counts as Prometheus scrapes them, each as `resolver_NAME` with its type, and a line feed at the end of each line.
+    fn held(&self) -> [Row; 4] {
+        [
+            ("bytes_held", self.bytes_held, "Bytes of compiled maps that are held."),
+            ("held", self.held, "Compiled maps that are held."),
+            ("missing_held", self.missing_held, "Codes of which it is held that they have no map."),
+            ("context_bytes_held", self.context_bytes_held, "Bytes of contents that are held."),
+        ]
+    }
+
+    /// The counts as Prometheus scrapes them: each as `resolver_NAME`, with `_total` behind it if it only grows, below what it is and its
+    /// type. The reasons are labels of `resolver_not_resolved_total`.
     ///
     /// ```
     /// use oxc_sourcemap::resolver::{Options, Resolver};
     /// let resolver = Resolver::new(std::collections::HashMap::new(), "", Options::default())?;
     /// let text = resolver.counts().prometheus();
-    /// assert!(text.starts_with("# TYPE resolver_hits counter\nresolver_hits 0\n"));
+    /// assert!(text.contains("# TYPE resolver_hits_total counter\nresolver_hits_total 0\n"));
     /// assert!(text.contains("# TYPE resolver_held gauge\nresolver_held 0\n"));
+    /// assert!(text.contains("\nresolver_not_resolved_total{reason=\"no map\"} 0\n"));
     /// # Ok::<(), oxc_sourcemap::resolver::Error>(())
     /// ```
     pub fn prometheus(&self) -> String {
         let mut out = String::new();
-        for (name, count, grows) in self.rows() {
-            let kind = if grows { "counter" } else { "gauge" };
-            // (a String takes all that is written)
-            let _ = write!(out, "# TYPE resolver_{name} {kind}\nresolver_{name} {count}\n");
+        for (name, count, what) in self.growing() {
+            push_family(&mut out, &format!("{name}_total"), "counter", what, &[format!(" {count}")]);
         }
+        for (name, count, what) in self.held() {
+            push_family(&mut out, name, "gauge", what, &[format!(" {count}")]);
+        }
+        let reasons = Reason::ALL.map(|it| format!("{{reason=\"{it}\"}} {}", self.not_resolved(it)));
+        push_family(
+            &mut out,
+            "not_resolved_total",
+            "counter",
+            "Frames that were not resolved, by the reason.",
+            &reasons,
+        );
         out
     }
 }

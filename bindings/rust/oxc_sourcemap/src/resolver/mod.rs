@@ -47,6 +47,7 @@ use counts::{Counted, Totals};
 use finding::{Finder, debug_id_of, outside};
 use frames::places_in;
 use names::Folders;
+use stores::of_path;
 use table::{Bounds, Missing, Table};
 
 /// The maps that are in use for one trace at most, beside those that are held.
@@ -231,7 +232,7 @@ impl Resolver {
             Cache::Folder(ref folder) => Some(folder.clone()),
         };
         if let Some(folder) = &cache {
-            std::fs::create_dir_all(folder).map_err(Error::Cache)?;
+            std::fs::create_dir_all(folder).map_err(|it| Error::Cache(of_path(&it, folder.display())))?;
         }
         let compiler = Compiler {
             cache,
@@ -283,7 +284,8 @@ impl Resolver {
         let map = Some(held.name.clone());
         let is_within = |it: u64| (1..=u64::from(u32::MAX)).contains(&it);
         if !is_within(frame.line) || !is_within(frame.column) {
-            return Resolved { map, ..Resolved::not(frame, Reason::Position, "") };
+            let words = "lines and columns of frames are numbers from 1 to 4294967295";
+            return Resolved { map, ..Resolved::not(frame, Reason::Position, words) };
         }
         let (line, column) = ((frame.line - 1) as u32, (frame.column - 1) as u32);
         match origin(held, line, column) {
@@ -295,7 +297,7 @@ impl Resolver {
     /// What a frame comes to. What is known of the codes of its trace is asked once.
     fn resolved(&self, frame: Frame, end: Duration, known: &mut Known) -> Resolved {
         if (self.clock)() > end {
-            return Resolved::not(frame, Reason::Time, "");
+            return Resolved::not(frame, Reason::Time, format!("the trace took longer than {:?}", self.limits.time));
         }
         let code = (frame.url, frame.debug_id);
         let found = known.get(&code).cloned().unwrap_or_else(|| {
@@ -344,11 +346,12 @@ impl Resolver {
 
     /// The same of frames of which some have a URL that is not UTF-8.
     fn resolve_all(&self, frames: impl Iterator<Item = Result<Frame, Frame>>) -> Vec<Resolved> {
-        let (end, mut known, mut found) = (self.end(), Known::new(), Vec::new());
+        let (end, limit, mut known, mut found) = (self.end(), self.limits.frames, Known::new(), Vec::new());
         for frame in frames {
-            let is_within = found.len() < self.limits.frames;
             found.push(match frame {
-                Ok(frame) | Err(frame) if !is_within => Resolved::not(frame, Reason::Frames, ""),
+                Ok(frame) | Err(frame) if found.len() >= limit => {
+                    Resolved::not(frame, Reason::Frames, format!("the trace has more than {limit} frames"))
+                }
                 Ok(frame) => self.resolved(frame, end, &mut known),
                 Err(frame) => Resolved::not(frame, Reason::Refused, "a path that is not UTF-8"),
             });
@@ -491,9 +494,12 @@ impl fmt::Debug for Resolver {
 
 /// What a map says of a position, which counts from 0.
 fn origin(held: &Held, line: u32, column: u32) -> Result<Origin, Missing> {
+    let name = &held.name;
     match held.map()?.trace(line, column, Bias::Before) {
-        Traced::Nothing => Err(Missing::held(Reason::Nothing, "")),
-        Traced::Unmapped(_) => Err(Missing::held(Reason::Unmapped, "")),
+        Traced::Nothing => {
+            Err(Missing::held(Reason::Nothing, format!("{name} has no mapping in the line up to this column")))
+        }
+        Traced::Unmapped(_) => Err(Missing::held(Reason::Unmapped, format!("the mapping in {name} has no source"))),
         Traced::Mapped(found) => {
             let source_id = found.token.get_source_id().unwrap_or(u32::MAX);
             Ok(Origin {

@@ -1,6 +1,7 @@
 //! Where codes and maps lie.
 
 use std::collections::{BTreeMap, HashMap};
+use std::fmt::Display;
 use std::fs::{self, File, Metadata, OpenOptions};
 use std::io::{self, Read, Write};
 use std::path::{Path, PathBuf};
@@ -114,14 +115,16 @@ impl FolderStore {
     ///
     /// ```
     /// use oxc_sourcemap::resolver::FolderStore;
-    /// assert!(FolderStore::new("no such folder").is_err());
+    /// let error = FolderStore::new("no such folder").unwrap_err();
+    /// assert!(error.to_string().starts_with("no such folder: "));
     /// ```
     pub fn new(path: impl AsRef<Path>) -> io::Result<FolderStore> {
-        let path = fs::canonicalize(path)?;
-        if !fs::metadata(&path)?.is_dir() {
-            return Err(io::ErrorKind::NotADirectory.into());
+        let of = |error: io::Error| of_path(&error, path.as_ref().display());
+        let found = fs::canonicalize(&path).map_err(of)?;
+        if !fs::metadata(&found).map_err(of)?.is_dir() {
+            return Err(of(io::ErrorKind::NotADirectory.into()));
         }
-        Ok(FolderStore { path })
+        Ok(FolderStore { path: found })
     }
 
     /// Where the folder is, links followed.
@@ -159,9 +162,15 @@ impl FolderStore {
     pub(super) fn open(&self, name: &str) -> Result<Option<Opened>, Unopened> {
         match self.path_of(name).and_then(|it| Ok(opened(&it)?)) {
             Err(Unopened::Failed(error)) if is_absent(&error) => Ok(None),
+            Err(Unopened::Failed(error)) => Err(of_path(&error, name).into()),
             other => other,
         }
     }
+}
+
+/// An error of the system that says which file or folder it is of.
+pub(super) fn of_path(error: &io::Error, path: impl Display) -> io::Error {
+    io::Error::new(error.kind(), format!("{path}: {error}"))
 }
 
 fn is_absent(error: &io::Error) -> bool {
@@ -190,8 +199,10 @@ impl Opened {
             return Err(too_large(name, self.status.len(), limit));
         }
         let mut data = Vec::new();
-        data.try_reserve_exact(self.status.len() as usize).map_err(|it| Missing::failed(&it))?;
-        (&mut self.file).take(limit.saturating_add(1)).read_to_end(&mut data).map_err(|it| Missing::failed(&it))?;
+        data.try_reserve_exact(self.status.len() as usize)
+            .map_err(|it| Missing::failed(&format_args!("{name}: {it}")))?;
+        let read = (&mut self.file).take(limit.saturating_add(1)).read_to_end(&mut data);
+        read.map_err(|it| Missing::failed(&of_path(&it, name)))?;
         if data.len() as u64 > limit {
             return Err(too_large(name, data.len() as u64, limit));
         }
@@ -207,7 +218,7 @@ impl Store for FolderStore {
             Ok(None) => Ok(None),
             Ok(Some(mut it)) => {
                 let mut data = Vec::new();
-                it.file.read_to_end(&mut data)?;
+                it.file.read_to_end(&mut data).map_err(|it| of_path(&it, name))?;
                 Ok(Some(data))
             }
             Err(Unopened::Failed(error)) => Err(error),

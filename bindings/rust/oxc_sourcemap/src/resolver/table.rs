@@ -241,7 +241,8 @@ fn awaited<V>(flight: &Flight<V>, time: Duration) -> Result<Arc<V>, Missing> {
     let found = locked(&flight.found);
     let waited = flight.is_there.wait_timeout_while(found, time, |it| it.is_none());
     let (found, _) = waited.unwrap_or_else(PoisonError::into_inner);
-    found.clone().unwrap_or_else(|| Err(Missing { reason: Reason::Time, detail: String::new(), holds: false }))
+    let late = || Missing { holds: false, ..Missing::held(Reason::Time, "another thread still reads the map") };
+    found.clone().unwrap_or_else(|| Err(late()))
 }
 
 /// Ends a flight, also if what loads panics.

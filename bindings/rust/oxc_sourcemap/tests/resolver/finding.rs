@@ -127,6 +127,24 @@ fn why_not() {
     );
 }
 
+#[cfg(unix)]
+#[test]
+fn errors_of_folders_name_them() {
+    let room = Room::new();
+    let said = |name: &str| FolderStore::new(room.at(name)).unwrap_err().to_string();
+    let of = |name: &str, words: &str| format!("{}: {words}", room.at(name).display());
+    assert_eq!(said("none"), of("none", "No such file or directory (os error 2)"));
+    assert_eq!(said("dist/app.js"), of("dist/app.js", "not a directory"));
+    let options = Options { cache: Cache::Folder(room.at("dist/app.js")), ..patient() };
+    let error = Resolver::new(room.store(), "", options).unwrap_err().to_string();
+    assert_eq!(error, format!("the folder for compiled maps: {}", of("dist/app.js", "File exists (os error 17)")));
+    std::os::unix::fs::symlink("turns.js", room.at("dist/turns.js")).unwrap();
+    let wanted = "turns.js: Too many levels of symbolic links (os error 40)";
+    assert_eq!(room.store().get("turns.js").unwrap_err().to_string(), wanted);
+    let found = resolver(room.store(), "").resolve_frame(Frame::new("turns.js", 1, 1));
+    assert_eq!(why(found), format!("store: {wanted}"));
+}
+
 #[test]
 fn debug_ids() {
     let (one, two) = ("85314830-023f-4cf1-a267-535f4e37bb17", "00000000-0000-4000-8000-000000000000");

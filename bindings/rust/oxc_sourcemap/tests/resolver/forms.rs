@@ -186,6 +186,9 @@ fn columns_and_lines_count_from_1() {
     let position = Some(Reason::Position);
     assert_eq!(reasons[..4], [position; 4]);
     assert_eq!(reasons[4..], [Some(Reason::Nothing), Some(Reason::Unmapped)]);
+    assert_eq!(why(frame(0, 1)), "position: lines and columns of frames are numbers from 1 to 4294967295");
+    assert_eq!(why(frame(3, 1)), "nothing: app.js.map has no mapping in the line up to this column");
+    assert_eq!(why(frame(2, 5)), "unmapped: the mapping in app.js.map has no source");
     assert_eq!(frame(1, (1 << 32) - 1).place().as_deref(), Some("src/a.ts:2:3"));
     assert_eq!(frame(3, 1).map.as_deref(), Some("app.js.map"));
 }

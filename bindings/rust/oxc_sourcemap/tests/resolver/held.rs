@@ -91,6 +91,7 @@ fn frames_of_a_trace() {
     assert_eq!((counts.frames, counts.resolved, counts.not_resolved(Reason::Frames), counts.misses), (4, 2, 2, 1));
     let frames = found.resolve((1..4).map(|it| Frame::new("app.js", it, 1)));
     assert_eq!(frames.iter().map(Resolved::reason).collect::<Vec<_>>(), [None, None, Some(Reason::Frames)]);
+    assert_eq!(why(frames[2].clone()), "frames: the trace has more than 2 frames");
 }
 
 #[test]
@@ -107,6 +108,7 @@ fn time_of_a_trace() {
     let trace = found.resolve_trace("f@a.js:1:1\nf@b.js:1:1\nf@c.js:1:1\nf@a.js:1:1", &HashMap::new()).unwrap();
     let (reasons, late): (Vec<_>, _) = (trace.iter().map(Resolved::reason).collect(), Some(Reason::Time));
     assert_eq!(reasons, [None, None, late, late]);
+    assert_eq!(why(trace[2].clone()), "time: the trace took longer than 5s");
     assert_eq!(found.resolve_text("f@a.js:1:1").unwrap(), "f@src/a.ts:1:1");
 }
 
@@ -152,21 +154,33 @@ fn counts_as_text() {
     let found = resolver(memory([("app.js.map", MAP)]), "");
     found.resolve_text("f@app.js:1:1\nf@app.js:3:1\nf@b.js:1:1").unwrap();
     let (counts, text) = (found.counts(), found.counts().prometheus());
-    for it in ["frames 3", "resolved 1", "not_resolved_nothing 1", "not_resolved_not_there 1", "traces 1", "held 1"] {
-        assert!(text.contains(&format!("\nresolver_{it}\n")), "{it} {text}");
+    for it in [
+        "# HELP resolver_frames_total Frames, resolved or not.\n# TYPE resolver_frames_total counter\nresolver_frames_total 3\n",
+        "# HELP resolver_held Compiled maps that are held.\n# TYPE resolver_held gauge\nresolver_held 1\n",
+        "# TYPE resolver_not_resolved_total counter\nresolver_not_resolved_total{reason=\"outside\"} 0\n",
+        "\nresolver_not_resolved_total{reason=\"not there\"} 1\n",
+        "\nresolver_not_resolved_total{reason=\"nothing\"} 1\n",
+        "\nresolver_traces_total 1\n",
+        "\nresolver_resolved_total 1\n",
+    ] {
+        assert!(text.contains(it), "{it} {text}");
     }
-    let rows: Vec<_> = text.lines().collect();
-    assert!(rows.chunks(2).all(|it| {
-        let name = it[1].split(' ').next().unwrap();
-        it[0] == format!("# TYPE {name} counter") || it[0] == format!("# TYPE {name} gauge")
-    }));
-    let missing: u64 = text.lines().filter_map(|it| it.strip_prefix("resolver_not_resolved_")).map(last).sum();
-    assert_eq!((rows.len(), missing + counts.resolved), (64, counts.frames));
+    // Of each name the samples stand together, below a line that says what it is, and one with its type.
+    let families: Vec<_> = text.split("# HELP ").skip(1).map(family).collect();
+    let samples: Vec<_> = families.iter().map(|it| it.1.len()).collect();
+    assert_eq!((samples.len(), samples.iter().sum::<usize>()), (20, 32));
+    let (name, missing) = families.last().unwrap();
+    assert_eq!((*name, missing.iter().sum::<u64>() + counts.resolved), ("resolver_not_resolved_total", counts.frames));
 }
 
-/// The number at the end of a line.
-fn last(line: &str) -> u64 {
-    line.rsplit(' ').next().unwrap().parse().unwrap()
+/// The name of a family of counts, and its samples.
+fn family(text: &str) -> (&str, Vec<u64>) {
+    let mut lines = text.lines();
+    let name = lines.next().unwrap().split_once(' ').unwrap().0;
+    let kind = if name.ends_with("_total") { "counter" } else { "gauge" };
+    assert_eq!(lines.next().unwrap(), format!("# TYPE {name} {kind}"));
+    let samples = lines.map(|it| it.strip_prefix(name).and_then(|it| it.rsplit_once(' ')).unwrap().1);
+    (name, samples.map(|it| it.parse().unwrap()).collect())
 }
 
 #[test]

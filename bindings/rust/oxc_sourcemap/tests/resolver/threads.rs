@@ -112,7 +112,7 @@ fn a_slow_map_does_not_stop_others() {
         assert_eq!(frame("a.js").place().as_deref(), A);
         assert_eq!(frame("b.js").place().as_deref(), A);
         assert_eq!(frame("a.js").place().as_deref(), A);
-        assert_eq!(frame("slow.js").reason(), Some(Reason::Time));
+        assert_eq!(why(frame("slow.js")), "time: another thread still reads the map");
         assert_eq!((found.counts().misses, found.counts().waits, found.counts().held), (3, 1, 2));
         go.open();
         assert_eq!(slow.join().unwrap().place().as_deref(), A);

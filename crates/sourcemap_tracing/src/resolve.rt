@@ -343,9 +343,9 @@ fn push_frame_members(
             push_source_members(alloc, maps, target.map, source, out)?;
         }
     }
-    if let Some(Stay { why, .. }) = &led.stay
-        && !frame.is_left_out()
-    {
+    if frame.is_left_out() {
+        out.push_str(",\"hidden\":true")?;
+    } else if let Some(Stay { why, .. }) = &led.stay {
         push_text_member("why", why.as_str(), out)?;
     }
     Ok(())

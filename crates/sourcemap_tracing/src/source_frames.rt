@@ -311,8 +311,7 @@ fn push_caller(
     Ok(push_object(members.as_str(), out)?)
 }
 
-/// The members of the frames of the source: the function where the mappings lead, the places of calls, and whether there is no such
-/// frame.
+/// The members of the frames of the source: the function where the mappings lead, and the places of calls.
 pub fn push_source_members(
     alloc: Global,
     maps: &Maps,
@@ -338,9 +337,6 @@ pub fn push_source_members(
     }
     if !callers.is_empty() {
         write!(out, ",\"callers\":[{callers}]")?;
-    }
-    if source.is_hidden {
-        out.push_str(",\"hidden\":true")?;
     }
     Ok(())
 }

@@ -1,4 +1,9 @@
 //! The frames of the source that a frame of a trace stands for, by the scopes of its map: their functions, and where they are.
+ghost use Rattle.std.specs.Prelude.{◌≡◌, ◌&&◌};
+ghost use Rattle.std.specs.Str.{trim};
+ghost use Rattle.sourcemap_tracing.specs.Words.{is_mark, is_return};
+
+use crate::colours::{Colours, has_codes};
 use crate::maps::{Led, Maps};
 use oxc_sourcemap_json::push_json_string;
 use oxc_sourcemap_scopes::{CallSite, Frames, ScopeFrame};
@@ -34,14 +39,22 @@ enum Function<'m> {
     Named(&'m str),
 }
 
-/// Whether a frame is all that its row has, but for spaces and what engines write in front of a frame.
+/// Whether a row has nothing but a frame, in front of which and behind which these texts stand: white space, what engines write in front
+/// of a frame, and a carriage return of a JSON string.
+fn is_nothing_else(front: &str, behind: &str) -> bool
+    ensures { result ≡ (is_mark (trim front.now) && is_return (trim behind.now)) }
+{
+    matches!(front.trim(), "" | "at" | "❯") && matches!(behind.trim(), "" | "\\r")
+}
+
+/// Whether a frame is all that its row has.
 fn is_alone(line: &str, calling: &Calling) -> bool {
     let Some(row) = calling.row else {
         return false;
     };
     let front = line.get(row.start..calling.lead).unwrap_or("");
     let behind = line.get(calling.close..row.end).unwrap_or("");
-    matches!(front.trim(), "" | "at" | "❯") && matches!(behind.trim(), "" | "\\r")
+    is_nothing_else(front, behind)
 }
 
 impl LedFrame {

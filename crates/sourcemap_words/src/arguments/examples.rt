@@ -36,7 +36,8 @@ Examples:
 
 const COMPILE: &str =
     "A compiled map can be given to each command that takes a map, except this one. `resolve` uses one that lies beside its map, if it
-was made of a map as long as that, and is no older or knows its SHA-256; else it says that the compiled map is out of date.
+was made of a map as long as that, and is no older or knows its SHA-256; else it says that the compiled map is out of date. Scopes are
+read from the map all the same, since compiled maps have none.
 `check X.map.smc` compares it with X.map; `resolve` looks for no damage.
 
 Examples:

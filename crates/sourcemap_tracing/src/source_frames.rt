@@ -131,6 +131,13 @@ pub fn text_in_line(alloc: Global, text: String, is_in_json: bool) -> Outcome<St
     Ok(String::from_str(alloc, inside)?)
 }
 
+/// Appends to what stands for a place the codes in it that end a colour from in front of it.
+pub fn push_ends(line: &str, named: &Named, out: &mut String) -> Outcome<()> {
+    let behind = line.get(named.end..).unwrap_or("");
+    let inside = line.get(named.start..named.end).unwrap_or("");
+    Ok(Colours::Ends(behind).push(inside, out)?)
+}
+
 /// Where the mappings lead, as it stands in a line.
 pub fn first_place(
     alloc: Global,
@@ -201,12 +208,15 @@ impl<'a> Rows<'a> {
         Ok(out.push_str(behind)?)
     }
 
-    /// Appends a frame of a function without a name.
+    /// Appends a frame of a function without a name; the colours of what is left out stay.
     fn push_unnamed(&self, place: &str, out: &mut String) -> Outcome<()> {
-        if let FrameForm::AtSign = self.calling.form {
-            out.push_str(self.part(self.calling.end, self.named.start))?;
+        let gap = self.part(self.calling.end, self.named.start);
+        match self.calling.form {
+            FrameForm::AtSign => out.push_str(gap)?,
+            FrameForm::Call | FrameForm::Arrow => Colours::All.push(gap, out)?,
         }
-        Ok(out.push_str(place)?)
+        out.push_str(place)?;
+        Ok(Colours::All.push(self.part(self.named.end, self.calling.close), out)?)
     }
 
     /// Appends a frame; `is_outermost` if it is the one that the code called.
@@ -245,11 +255,14 @@ impl<'a> Rows<'a> {
         Ok(())
     }
 
-    /// Ends a row, and begins one with what is in front of the frame in the line.
+    /// Ends a row, with the colours that began in it, and begins one with what is in front of the frame in the line.
     fn push_row(&self, out: &mut String) -> Outcome<()> {
         let Some(row) = self.calling.row else {
             return Ok(());
         };
+        if has_codes(self.part(row.start, self.calling.close)) {
+            Colours::Ends("").push(self.part(self.calling.close, row.end), out)?;
+        }
         let text = self.part(row.start, row.end);
         out.push_str(match (self.named.is_in_json, text) {
             (true, text) if text.ends_with("\\r") => "\\r\\n",
@@ -288,13 +301,14 @@ pub fn source_text(
     };
     for (i, at) in source.frames.iter().take(count).enumerate() {
         let is_outermost = i.saturating_add(1) == count;
-        let place = match at.call_site {
+        let mut place = match at.call_site {
             None => first_place(alloc, maps, frame, paint)?,
             Some(call) => match spot_of(maps, map, call) {
                 Some(spot) => call_place(alloc, &spot, is_in_json, paint)?,
                 None => continue,
             },
         };
+        push_ends(line, &frame.named, &mut place)?;
         if i > 0 {
             rows.push_row(&mut out)?;
         }

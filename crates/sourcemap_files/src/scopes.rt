@@ -1,7 +1,7 @@
 //! The scopes of maps.
 use crate::compiled::Written;
 use crate::finding::MapText;
-use crate::input::warn;
+use crate::input::{read_text, tell, warn};
 use oxc_sourcemap_scopes::{Scopes, ScopesError, read_scopes};
 use sourcemap_words::{Failure, Outcome};
 
@@ -17,25 +17,47 @@ fn json_in(text: &str) -> &str {
     }
 }
 
-/// The scopes of a map, if its text has some with ranges; a compiled one has none. If they are faulty, the map is used without them, and
-/// that is told as a warning, but not if `is_told`, since it was told before.
-pub fn scopes_of_map(rt: &HostRuntime, map: &MapText, is_told: bool) -> Outcome<Option<Scopes>> {
-    let Written::Text(text) = &map.written else {
-        return Ok(None);
-    };
+/// The scopes that the text of a map has, if there are some with ranges. If they are faulty, the map is used without them, and that is
+/// told as a warning, unless it `is_told` already.
+fn scopes_in(rt: &HostRuntime, name: &str, text: &str, is_told: bool) -> Outcome<Option<Scopes>> {
     if !text.contains("\"scopes\"") {
         return Ok(None);
     }
-    match read_scopes(rt.alloc(), json_in(text.as_str())) {
+    match read_scopes(rt.alloc(), json_in(text)) {
         Ok(scopes) if scopes.range_count() > 0 => Ok(Some(scopes)),
         Ok(_) => Ok(None),
         Err(ScopesError::OutOfMemory) => Err(Failure::Memory),
         Err(error) => {
             if !is_told {
                 let why = format!(in rt.alloc(); "{error}, so the map is used without scopes")?;
-                warn(rt, map.name.as_str(), why.as_str());
+                warn(rt, name, why.as_str());
             }
             Ok(None)
         }
+    }
+}
+
+/// The scopes of the map in a file, which stands behind a compiled one.
+fn scopes_behind(rt: &HostRuntime, path: &str, is_told: bool) -> Outcome<Option<Scopes>> {
+    match read_text(rt, path) {
+        Ok(text) => scopes_in(rt, path, text.as_str(), is_told),
+        Err(Failure::Told(why)) => {
+            if !is_told {
+                let why = format!(in rt.alloc(); "{why}: no scopes are read")?;
+                tell(rt, why.as_str());
+            }
+            Ok(None)
+        }
+        Err(failure) => Err(failure),
+    }
+}
+
+/// The scopes of a map; of a compiled one, which has none, those of the map beside it. What is wrong with them is told unless it
+/// `is_told` already.
+pub fn scopes_of_map(rt: &HostRuntime, map: &MapText, is_told: bool) -> Outcome<Option<Scopes>> {
+    match (&map.written, map.behind.as_deref()) {
+        (Written::Text(text), _) => scopes_in(rt, map.name.as_str(), text.as_str(), is_told),
+        (Written::Compiled(_), Some(path)) => scopes_behind(rt, path, is_told),
+        (Written::Compiled(_), None) => Ok(None),
     }
 }

@@ -1,6 +1,7 @@
 //! What positions and stack traces come from: the commands `trace` and `resolve` of the program `sourcemap`.
 #![tactic(auto)]
 
+mod colours;
 mod context;
 mod maps;
 mod positions;

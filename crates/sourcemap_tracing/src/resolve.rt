@@ -1,6 +1,9 @@
 //! `resolve`: the frames of a stack trace, led back, line by line.
+use crate::colours::has_codes;
 use crate::maps::{Maps, Matched, REASONS, Reason, Stay};
-use crate::source_frames::{LedFrame, PLAIN, first_place, push_source_members, source_text};
+use crate::source_frames::{
+    LedFrame, PLAIN, first_place, push_ends, push_source_members, source_text,
+};
 use sourcemap_files::{Asked, Status, print_bytes, shown_name, warn};
 use sourcemap_run::{
     Cut, Paint, Splice, answer_to, push_line, push_members, push_number_member, push_object,
@@ -182,10 +185,12 @@ fn change_of(
     if frame.led.stay.is_some() {
         return Ok(None);
     }
+    let mut text = first_place(alloc, maps, frame, paint)?;
+    push_ends(line, &frame.named, &mut text)?;
     Ok(Some(Change {
         start: frame.named.start,
         end: frame.named.end,
-        text: first_place(alloc, maps, frame, paint)?,
+        text,
     }))
 }
 
@@ -230,6 +235,13 @@ fn push_bytes(
     Ok(())
 }
 
+/// Whether a place alone stands for that of a frame.
+fn is_plain(line: &str, frame: &LedFrame) -> bool {
+    let named = &frame.named;
+    let place = line.get(named.start..named.end).unwrap_or("");
+    !named.is_in_json && !has_codes(place) && frame.shown().is_none()
+}
+
 /// Appends a line, led back, without a line feed.
 fn push_led(
     alloc: Global,
@@ -243,9 +255,11 @@ fn push_led(
     if frames.is_empty() {
         return Ok(out.extend_from_slice(line)?);
     }
-    let is_in_json = frames.iter().any(|frame| frame.named.is_in_json);
-    let has_source = frames.iter().any(|frame| frame.shown().is_some());
-    if read.is_text && !is_in_json && !has_source {
+    if read.is_text
+        && frames
+            .iter()
+            .all(|frame| is_plain(read.text.as_str(), frame))
+    {
         let cuts = cuts_of(alloc, frames)?;
         let (line, tracers) = (read.text.as_str(), maps.tracers.as_slice());
         let mut text = String::new(alloc);
@@ -343,9 +357,9 @@ fn push_frame_members(
             push_source_members(alloc, maps, target.map, source, out)?;
         }
     }
-    if let Some(Stay { why, .. }) = &led.stay
-        && !frame.is_left_out()
-    {
+    if frame.is_left_out() {
+        out.push_str(",\"hidden\":true")?;
+    } else if let Some(Stay { why, .. }) = &led.stay {
         push_text_member("why", why.as_str(), out)?;
     }
     Ok(())

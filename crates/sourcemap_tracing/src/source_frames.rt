@@ -1,4 +1,9 @@
 //! The frames of the source that a frame of a trace stands for, by the scopes of its map: their functions, and where they are.
+ghost use Rattle.std.specs.Prelude.{◌≡◌, ◌&&◌};
+ghost use Rattle.std.specs.Str.{trim};
+ghost use Rattle.sourcemap_tracing.specs.Words.{is_mark, is_return};
+
+use crate::colours::{Colours, has_codes};
 use crate::maps::{Led, Maps};
 use oxc_sourcemap_json::push_json_string;
 use oxc_sourcemap_scopes::{CallSite, Frames, ScopeFrame};
@@ -34,14 +39,22 @@ enum Function<'m> {
     Named(&'m str),
 }
 
-/// Whether a frame is all that its row has, but for spaces and what engines write in front of a frame.
+/// Whether a row has nothing but a frame, in front of which and behind which these texts stand: white space, what engines write in front
+/// of a frame, and a carriage return of a JSON string.
+fn is_nothing_else(front: &str, behind: &str) -> bool
+    ensures { result ≡ (is_mark (trim front.now) && is_return (trim behind.now)) }
+{
+    matches!(front.trim(), "" | "at" | "❯") && matches!(behind.trim(), "" | "\\r")
+}
+
+/// Whether a frame is all that its row has.
 fn is_alone(line: &str, calling: &Calling) -> bool {
     let Some(row) = calling.row else {
         return false;
     };
     let front = line.get(row.start..calling.lead).unwrap_or("");
     let behind = line.get(calling.close..row.end).unwrap_or("");
-    matches!(front.trim(), "" | "at" | "❯") && matches!(behind.trim(), "" | "\\r")
+    is_nothing_else(front, behind)
 }
 
 impl LedFrame {
@@ -118,6 +131,13 @@ pub fn text_in_line(alloc: Global, text: String, is_in_json: bool) -> Outcome<St
     Ok(String::from_str(alloc, inside)?)
 }
 
+/// Appends to what stands for a place the codes in it that end a colour from in front of it.
+pub fn push_ends(line: &str, named: &Named, out: &mut String) -> Outcome<()> {
+    let behind = line.get(named.end..).unwrap_or("");
+    let inside = line.get(named.start..named.end).unwrap_or("");
+    Ok(Colours::Ends(behind).push(inside, out)?)
+}
+
 /// Where the mappings lead, as it stands in a line.
 pub fn first_place(
     alloc: Global,
@@ -188,12 +208,15 @@ impl<'a> Rows<'a> {
         Ok(out.push_str(behind)?)
     }
 
-    /// Appends a frame of a function without a name.
+    /// Appends a frame of a function without a name; the colours of what is left out stay.
     fn push_unnamed(&self, place: &str, out: &mut String) -> Outcome<()> {
-        if let FrameForm::AtSign = self.calling.form {
-            out.push_str(self.part(self.calling.end, self.named.start))?;
+        let gap = self.part(self.calling.end, self.named.start);
+        match self.calling.form {
+            FrameForm::AtSign => out.push_str(gap)?,
+            FrameForm::Call | FrameForm::Arrow => Colours::All.push(gap, out)?,
         }
-        Ok(out.push_str(place)?)
+        out.push_str(place)?;
+        Ok(Colours::All.push(self.part(self.named.end, self.calling.close), out)?)
     }
 
     /// Appends a frame; `is_outermost` if it is the one that the code called.
@@ -232,11 +255,14 @@ impl<'a> Rows<'a> {
         Ok(())
     }
 
-    /// Ends a row, and begins one with what is in front of the frame in the line.
+    /// Ends a row, with the colours that began in it, and begins one with what is in front of the frame in the line.
     fn push_row(&self, out: &mut String) -> Outcome<()> {
         let Some(row) = self.calling.row else {
             return Ok(());
         };
+        if has_codes(self.part(row.start, self.calling.close)) {
+            Colours::Ends("").push(self.part(self.calling.close, row.end), out)?;
+        }
         let text = self.part(row.start, row.end);
         out.push_str(match (self.named.is_in_json, text) {
             (true, text) if text.ends_with("\\r") => "\\r\\n",
@@ -275,13 +301,14 @@ pub fn source_text(
     };
     for (i, at) in source.frames.iter().take(count).enumerate() {
         let is_outermost = i.saturating_add(1) == count;
-        let place = match at.call_site {
+        let mut place = match at.call_site {
             None => first_place(alloc, maps, frame, paint)?,
             Some(call) => match spot_of(maps, map, call) {
                 Some(spot) => call_place(alloc, &spot, is_in_json, paint)?,
                 None => continue,
             },
         };
+        push_ends(line, &frame.named, &mut place)?;
         if i > 0 {
             rows.push_row(&mut out)?;
         }
@@ -311,8 +338,7 @@ fn push_caller(
     Ok(push_object(members.as_str(), out)?)
 }
 
-/// The members of the frames of the source: the function where the mappings lead, the places of calls, and whether there is no such
-/// frame.
+/// The members of the frames of the source: the function where the mappings lead, and the places of calls.
 pub fn push_source_members(
     alloc: Global,
     maps: &Maps,
@@ -338,9 +364,6 @@ pub fn push_source_members(
     }
     if !callers.is_empty() {
         write!(out, ",\"callers\":[{callers}]")?;
-    }
-    if source.is_hidden {
-        out.push_str(",\"hidden\":true")?;
     }
     Ok(())
 }

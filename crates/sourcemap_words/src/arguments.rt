@@ -126,7 +126,7 @@ const TRACE: Words = Words {
 
 const RESOLVE: Words = Words {
     about: "Leads the frames of stack traces back to the originals, as V8, Firefox, Safari and Hermes print them, in traces and in logs",
-    json: "An object a line: text, resolved, and of a frame file, line, column; with a map map, found, source, sourceLine, sourceColumn, name; with scopes function, callers (source, sourceLine, sourceColumn, function), hidden (a frame that is left out, without resolved); or why; from 1; matched (prefix or maps) and prefix where the whole path was not there; of several frames the list frames",
+    json: "An object a line: text, resolved, and of a frame file, line, column; with a map map, found, source, sourceLine, sourceColumn, name; with scopes function, callers (source, sourceLine, sourceColumn, function), hidden (its row is left out; a line that is left out has no resolved); or why; from 1; matched (prefix or maps) and prefix where the whole path was not there; of several frames the list frames",
     words: &[
         Word(
             "TRACE",

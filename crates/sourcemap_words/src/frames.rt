@@ -347,20 +347,26 @@ impl<'r> Finder<'r> {
         Ok(())
     }
 
-    /// The frames in the JSON strings of a line.
-    fn frames_in_json(&mut self, alloc: Global, line: &str) -> Result<Vec<Named>, AllocError> {
-        let mut frames = Vec::new(alloc);
-        if may_be_json(line) {
-            for string in &json_strings(alloc, line)? {
-                self.add_string(alloc, line, *string, &mut frames)?;
-            }
+    /// Adds the frames in the JSON strings of a line.
+    fn add_strings(
+        &mut self,
+        alloc: Global,
+        line: &str,
+        frames: &mut Vec<Named>,
+    ) -> Result<(), AllocError> {
+        for string in &json_strings(alloc, line)? {
+            self.add_string(alloc, line, *string, frames)?;
         }
-        Ok(frames)
+        Ok(())
     }
 
     /// What a line names. A byte that is no text stands in it as `NO_TEXT`.
     pub fn read(&mut self, alloc: Global, line: &str) -> Result<Line, AllocError> {
-        let mut frames = self.frames_in_json(alloc, line)?;
+        let mut frames = Vec::new(alloc);
+        let is_json = may_be_json(line);
+        if is_json {
+            self.add_strings(alloc, line, &mut frames)?;
+        }
         if !frames.is_empty() {
             return Ok(Line {
                 frames,
@@ -370,6 +376,10 @@ impl<'r> Finder<'r> {
         let view = View::of_line(alloc, line)?.without_codes(alloc)?;
         let text = view.text.as_str();
         self.add_frames(alloc, &view, (0, text), false, &mut frames)?;
+        // A frame right behind a quote, as in `error="at f (app.js:1:2)"`, begins no line, and no space is in front of it.
+        if frames.is_empty() && !is_json {
+            self.add_strings(alloc, line, &mut frames)?;
+        }
         let elsewhere = if frames.is_empty() {
             self.elsewhere(body_of(text))
         } else {

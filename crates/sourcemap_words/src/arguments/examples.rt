@@ -10,8 +10,8 @@ const RESOLVE: &str =
     "A frame without a map stays as it is, and so does all other text. Lines and columns count from 1, as in stack traces. Each line
 is answered as it comes. A frame names the file itself, or by its whole path one in the root; the path of a URL is what is behind its host.
 Of frames of another machine the folder is found if its path ends in the name of the root, or if two files below it are in the root.
-If a map has scopes, frames name the functions of the source, each call that was inlined has a line of its own below the frame, and a
-frame that the source does not have is left out.
+If a map has scopes, frames name the functions of the source. Each call that was inlined has a line of its own below the frame, with all
+that is in front of the frame, as the time in a log. A frame that the source does not have is left out, if it is alone in its row.
 
 Examples:
   sourcemap resolve --root dist trace.txt
@@ -36,7 +36,8 @@ Examples:
 
 const COMPILE: &str =
     "A compiled map can be given to each command that takes a map, except this one. `resolve` uses one that lies beside its map, if it
-was made of a map as long as that, and is no older or knows its SHA-256; else it says that the compiled map is out of date.
+was made of a map as long as that, and is no older or knows its SHA-256; else it says that the compiled map is out of date. Scopes are
+read from the map all the same, since compiled maps have none.
 `check X.map.smc` compares it with X.map; `resolve` looks for no damage.
 
 Examples:

@@ -11,4 +11,5 @@ mod naming;
 mod own;
 mod rebasing;
 pub mod remap;
+mod scopes;
 pub mod strip;

@@ -1,6 +1,6 @@
 //! Running a command by its name.
 use sourcemap_files::{Asked, Status, print};
-use sourcemap_making::{bundle, compile, embed, extract, remap, strip};
+use sourcemap_making::{bundle, compile, data_urls, embed, extract, remap, strip};
 use sourcemap_reports::{check, coverage, diff, page};
 use sourcemap_tracing::{resolve, trace};
 use sourcemap_words::{Outcome, VERSION, completions_of, manual_of, program};
@@ -33,6 +33,8 @@ pub fn run(name: &str, asked: &Asked<'_, '_>) -> Outcome<Status> {
         "extract" => extract::run(asked),
         "embed" => embed::run(asked),
         "strip" => strip::run(asked),
+        "inline" => data_urls::inline(asked),
+        "external" => data_urls::external(asked),
         "diff" => diff::run(asked),
         "coverage" => coverage::run(asked),
         "page" => page::run(asked),

@@ -15,10 +15,11 @@ use sourcemap_run::{Bundle, push_number_member, push_object, push_text_member};
 use sourcemap_words::{Outcome, failure_of};
 use std::alloc::{AllocError, Global};
 
-/// What a file name may not have in a comment that names a map.
-fn bytes_to_escape() -> AsciiSet {
+/// What a path may not have in a comment that names a map.
+pub fn bytes_to_escape() -> AsciiSet {
     let spaces = CONTROLS.add(b' ').add(b'#').add(b'%').add(b'?');
-    spaces.add(b'"').add(b'\'').add(b'`')
+    let quotes = spaces.add(b'"').add(b'\'').add(b'`');
+    quotes.add(b'*').add(b':')
 }
 
 /// A code of the bundle, and the name of its map if it has one.

@@ -1,5 +1,5 @@
 //! `extract`: the contents of sources, as files below a folder.
-use crate::editing::rooted_maps;
+use crate::editing::{is_done, rooted_maps};
 use crate::naming::Names;
 use oxc_sourcemap_parts::SourceMapParts;
 use sourcemap_files::{
@@ -58,7 +58,7 @@ fn none(alloc: Global, why: &str) -> Outcome<Fate> {
 }
 
 /// What is at a path, links not followed; None if nothing is.
-fn entry_at(rt: &HostRuntime, path: &str) -> Outcome<Option<Metadata>> {
+pub fn entry_at(rt: &HostRuntime, path: &str) -> Outcome<Option<Metadata>> {
     match fs::symlink_metadata(rt, path) {
         Ok(metadata) => Ok(Some(metadata)),
         Err(error) if error.kind() == ErrorKind::NotFound => Ok(None),
@@ -82,7 +82,7 @@ fn make_folder(rt: &HostRuntime, path: &str) -> Outcome<Option<&'static str>> {
 }
 
 /// Whether a file has these bytes.
-fn has_bytes(rt: &HostRuntime, path: &str, metadata: &Metadata, bytes: &[u8]) -> Outcome<bool> {
+pub fn has_bytes(rt: &HostRuntime, path: &str, metadata: &Metadata, bytes: &[u8]) -> Outcome<bool> {
     if metadata.len() != bytes.len() as u64 {
         return Ok(false);
     }
@@ -358,14 +358,9 @@ pub fn run(asked: &Asked<'_, '_>) -> Outcome<Status> {
     let mut trouble = None;
     for file in &files {
         progress.begin(rt, file);
-        match extract_file(asked, file, &mut extract) {
-            Ok(()) => {}
-            Err(Failure::Told(text)) => {
-                progress.clear(rt);
-                tell(rt, text.as_str());
-                trouble = Some(*file);
-            }
-            Err(failure) => return Err(failure),
+        let extracted = extract_file(asked, file, &mut extract);
+        if !is_done(rt, &progress, extracted)? {
+            trouble = Some(*file);
         }
     }
     progress.clear(rt);

@@ -1,12 +1,14 @@
-//! Maps made of maps: the commands `bundle`, `compile`, `embed`, `extract`, `remap` and `strip` of the program `sourcemap`.
+//! Maps made of maps: the commands `bundle`, `compile`, `embed`, `external`, `extract`, `inline`, `remap` and `strip` of the program `sourcemap`.
 #![tactic(auto)]
 
 pub mod bundle;
 mod codes;
 pub mod compile;
+pub mod data_urls;
 mod editing;
 pub mod embed;
 pub mod extract;
+mod moving;
 mod naming;
 mod own;
 mod rebasing;

@@ -7,7 +7,7 @@ use std::{env, fs};
 
 /// The current folder, by the name that the shell has for it (`PWD`), if that is its name: it is the one that users see and write, where
 /// links lead to the folder.
-fn current_folder(rt: &HostRuntime) -> Outcome<String> {
+pub fn current_folder(rt: &HostRuntime) -> Outcome<String> {
     let alloc = rt.alloc();
     let real = match env::current_dir(rt) {
         Ok(real) => real,

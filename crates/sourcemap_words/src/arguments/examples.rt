@@ -64,6 +64,22 @@ const STRIP: &str = "Examples:
   sourcemap strip dist/app.js.map
   sourcemap strip dist/app.js.map -o public/app.js.map";
 
+const INLINE: &str =
+    "The data URL is base64 of the map as it is written, and takes the place of the URL in the comment that names the map. Sources that are
+relative to another folder are made relative to that of the code.
+
+Examples:
+  sourcemap inline dist/app.js
+  sourcemap inline --maps maps dist/*.js dist/*.css";
+
+const EXTERNAL: &str =
+    "The map of CODE is written to CODE.map, as it stands in the data URL, and the comment names it. Relative sources are made relative to
+the folder of -o. A file that is there with another content stays, unless there is --force. Links are not followed.
+
+Examples:
+  sourcemap external dist/app.js
+  sourcemap external dist/*.js -o maps";
+
 const DIFF: &str = "Examples:
   sourcemap diff before.js.map after.js.map";
 
@@ -99,6 +115,8 @@ pub fn examples_of(command: &str) -> &'static str {
         "extract" => EXTRACT,
         "embed" => EMBED,
         "strip" => STRIP,
+        "inline" => INLINE,
+        "external" => EXTERNAL,
         "diff" => DIFF,
         "coverage" => COVERAGE,
         "page" => PAGE,

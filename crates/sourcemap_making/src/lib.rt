@@ -11,6 +11,7 @@ pub mod extract;
 mod moving;
 mod naming;
 mod own;
+mod placing;
 mod rebasing;
 pub mod remap;
 mod scopes;

@@ -254,6 +254,11 @@ const EMBED: Words = Words {
     json: "An object a line, for each source without a content: source, and file and bytes, or missing (why none is found)",
     words: &[
         Word("MAP", Kind::File, "A map, or a code whose map is found"),
+        Word(
+            "from",
+            Kind::Option("DIR"),
+            "The folder that `extract` wrote contents to: sources are read there",
+        ),
         EDITED,
     ],
 };

@@ -53,11 +53,12 @@ Examples:
   sourcemap extract --json dist/*.js.map -o src";
 
 const EMBED: &str =
-    "Contents that the map has stay. The others are read from the files that sources name from the folder of the map, where these are in
-the root or in that folder.
+    "Contents that the map has stay. The others are read from the files that sources name, by file: URLs or from the folder of the map,
+where these are in the root or in that folder. With --from they are read where `extract` puts them below DIR.
 
 Examples:
   sourcemap embed dist/app.js.map
+  sourcemap embed --from src dist/app.js.map
   sourcemap embed --root .. dist/app.js -o full.map";
 
 const STRIP: &str = "Examples:

@@ -1,5 +1,5 @@
 //! Running a command by its name.
-use sourcemap_editing::{embed, extract, strip};
+use sourcemap_editing::{data_urls, embed, extract, strip};
 use sourcemap_files::{Asked, Status, print};
 use sourcemap_making::{bundle, compile, remap};
 use sourcemap_reports::{check, coverage, diff, page};
@@ -34,6 +34,8 @@ pub fn run(name: &str, asked: &Asked<'_, '_>) -> Outcome<Status> {
         "extract" => extract::run(asked),
         "embed" => embed::run(asked),
         "strip" => strip::run(asked),
+        "inline" => data_urls::inline(asked),
+        "external" => data_urls::external(asked),
         "diff" => diff::run(asked),
         "coverage" => coverage::run(asked),
         "page" => page::run(asked),

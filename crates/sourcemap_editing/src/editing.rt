@@ -2,8 +2,8 @@
 use oxc_sourcemap_found::{FoundParts, read_found_parts};
 use oxc_sourcemap_parts::{SourceMapParts, apply_root};
 use sourcemap_files::{
-    Asked, MapText, Written, map_of_file, read_map, refuse_overwriting, text_of_map, usage,
-    write_text,
+    Asked, MapText, Progress, Written, found_error_text, map_of_file, read_map, refuse_overwriting,
+    tell, text_of_map, usage, write_text,
 };
 use sourcemap_run::maps_in;
 use sourcemap_words::{Failure, Outcome, failure_of};
@@ -48,16 +48,19 @@ pub struct Edited {
     pub output: String,
 }
 
+/// Whether the text of a map is a data URL that has the map in it.
+pub fn is_data_url(text: &str) -> bool {
+    text.trim_start_matches('\u{feff}')
+        .trim_start()
+        .starts_with("data:")
+}
+
 /// The text of a map, and how many contents it has.
 fn text_of(asked: &Asked<'_, '_>, map: &MapText) -> Outcome<(String, usize)> {
     let (rt, alloc) = (asked.rt, asked.alloc());
     if let Written::Text(text) = &map.written {
         let contents = contents_in(&read_map(rt, map)?);
-        let is_url = text
-            .trim_start_matches('\u{feff}')
-            .trim_start()
-            .starts_with("data:");
-        if is_url {
+        if is_data_url(text.as_str()) {
             return Err(refusal(alloc, map.name.as_str()));
         }
         return Ok((String::from_str(alloc, text.as_str())?, contents));
@@ -114,7 +117,23 @@ pub fn rooted_maps(rt: &HostRuntime, map: &MapText) -> Outcome<Vec<SourceMapPart
 pub fn parts_in(alloc: Global, name: &str, text: &str) -> Outcome<SourceMapParts<'static>> {
     match read_found_parts(alloc, text) {
         Ok(FoundParts { parts, .. }) => Ok(parts),
-        Err(error) => Err(failure_of(alloc, name, error)),
+        Err(error) => {
+            let why = found_error_text(alloc, text, error)?;
+            Err(failure_of(alloc, name, why.as_str()))
+        }
+    }
+}
+
+/// Whether what was asked for was done with a file. A failure of the file is told, so that others go on.
+pub fn is_done(rt: &HostRuntime, progress: &Progress, done: Outcome<()>) -> Outcome<bool> {
+    match done {
+        Ok(()) => Ok(true),
+        Err(Failure::Told(text)) => {
+            progress.clear(rt);
+            tell(rt, text.as_str());
+            Ok(false)
+        }
+        Err(failure) => Err(failure),
     }
 }
 
@@ -128,7 +147,7 @@ pub fn contents_in(parts: &SourceMapParts<'_>) -> usize {
 }
 
 /// The failure of a map whose text cannot be changed in place: a data URL, or one whose keys have escapes.
-fn refusal(alloc: Global, name: &str) -> Failure {
+pub fn refusal(alloc: Global, name: &str) -> Failure {
     failure_of(
         alloc,
         name,

@@ -1,9 +1,11 @@
 //! `embed`: a map with the contents of its sources, which are read from files.
 use crate::editing::{Edited, map_to_edit, parts_in};
 use crate::naming::Names;
+use crate::placing::place_of_source;
 use oxc_sourcemap_parts::{SourceMapParts, apply_root};
 use sourcemap_files::{
-    Asked, Status, is_inside, is_regular, plain_path, print, read_map, read_text, tell, text_of_map,
+    Asked, Status, is_inside, is_regular, path_of_url, plain_path, print, read_text, tell,
+    with_slash,
 };
 use sourcemap_run::{
     Change, Piece, changed, maps_in, push_contents, push_number_member, push_object,
@@ -37,13 +39,48 @@ struct Lacking {
     out: String,
 }
 
-/// Reads the file of a source, by its path from the folder of the map.
+/// The file of a source below the folder of `--from`, where `extract` puts it; None if it names none.
+fn file_below(alloc: Global, from: &str, source: &str) -> Outcome<Option<String>> {
+    let Some(placed) = place_of_source(alloc, source)? else {
+        return Ok(None);
+    };
+    let mut path = String::from_str(alloc, from)?;
+    for (k, part) in placed.parts.iter().enumerate() {
+        if k > 0 {
+            path.push('/')?;
+        }
+        path.push_str(part.as_str())?;
+    }
+    Ok(Some(path))
+}
+
+/// The file of a source: below the folder of `--from`, if that is there, else by its path from the folder of the map; None if it names
+/// none.
+fn file_of(alloc: Global, from: &str, folder: &str, source: &str) -> Outcome<Option<String>> {
+    if !from.is_empty() {
+        return file_below(alloc, from, source);
+    }
+    if source.starts_with("file:") {
+        return Ok(path_of_url(alloc, source)?);
+    }
+    if source.is_empty() || is_url(source) {
+        return Ok(None);
+    }
+    Ok(Some(plain_path(alloc, folder, source)?))
+}
+
+/// Reads the file of a source.
 fn read_source(asked: &Asked<'_, '_>, folder: &str, source: &str) -> Outcome<Read> {
     let (rt, places) = (asked.rt, asked.places());
-    if source.is_empty() || is_url(source) {
+    let from = with_slash(asked.alloc(), asked.word("from"))?;
+    let Some(path) = file_of(asked.alloc(), from.as_str(), folder, source)? else {
         return Ok(Read::NotThere);
-    }
-    let path = plain_path(asked.alloc(), folder, source)?;
+    };
+    let folder = if from.is_empty() {
+        folder
+    } else {
+        from.as_str()
+    };
     if !is_regular(rt, path.as_str()) {
         return Ok(Read::NotThere);
     }

@@ -1,12 +1,13 @@
 //! `extract`: the contents of sources, as files below a folder.
-use crate::editing::rooted_maps;
+use crate::editing::{is_done, rooted_maps};
 use crate::naming::Names;
+use crate::placing::place_of_source;
 use oxc_sourcemap_parts::SourceMapParts;
 use sourcemap_files::{
     Asked, Progress, Status, map_of_file, print, tell, usage, warn, with_slash, write_files,
 };
 use sourcemap_run::{push_number_member, push_object, push_text_member};
-use sourcemap_texts::{Placed, place_below};
+use sourcemap_texts::Placed;
 use sourcemap_words::{Failure, Outcome, failure_of, file_failure};
 use std::alloc::Global;
 use std::collections::HashMap;
@@ -35,8 +36,10 @@ struct Extract<'a> {
     /// The folder, with a slash at its end.
     folder: String,
     has_force: bool,
-    /// The files that have a content, and the source that each is of.
-    files: HashMap<String, String>,
+    /// The files that have a content, and the source that each is of, with the number of its map.
+    files: HashMap<String, (String, u64)>,
+    /// How many maps there were.
+    maps: u64,
     /// How many sources there were.
     sources: u64,
     /// How many have a content and no file.
@@ -58,7 +61,7 @@ fn none(alloc: Global, why: &str) -> Outcome<Fate> {
 }
 
 /// What is at a path, links not followed; None if nothing is.
-fn entry_at(rt: &HostRuntime, path: &str) -> Outcome<Option<Metadata>> {
+pub fn entry_at(rt: &HostRuntime, path: &str) -> Outcome<Option<Metadata>> {
     match fs::symlink_metadata(rt, path) {
         Ok(metadata) => Ok(Some(metadata)),
         Err(error) if error.kind() == ErrorKind::NotFound => Ok(None),
@@ -82,7 +85,7 @@ fn make_folder(rt: &HostRuntime, path: &str) -> Outcome<Option<&'static str>> {
 }
 
 /// Whether a file has these bytes.
-fn has_bytes(rt: &HostRuntime, path: &str, metadata: &Metadata, bytes: &[u8]) -> Outcome<bool> {
+pub fn has_bytes(rt: &HostRuntime, path: &str, metadata: &Metadata, bytes: &[u8]) -> Outcome<bool> {
     if metadata.len() != bytes.len() as u64 {
         return Ok(false);
     }
@@ -143,9 +146,14 @@ impl<'a> Extract<'a> {
     /// Why a content cannot be put where another one is; None if it can.
     fn refusal(&self, path: &str) -> Outcome<Option<String>> {
         let alloc = self.alloc();
-        if let Some(other) = self.files.get(path) {
+        if let Some((other, map)) = self.files.get(path) {
+            let advice = if *map == self.maps {
+                "give one of them another path in the map"
+            } else {
+                "extract maps to folders of their own"
+            };
             let text = format!(in alloc;
-                "{path} has the content of {other}, which came first: extract maps to folders of their own"
+                "{path} has the content of {other}, which came first: {advice}"
             )?;
             return Ok(Some(text));
         }
@@ -185,7 +193,7 @@ impl<'a> Extract<'a> {
     /// Puts a content into the file of its source.
     fn put(&self, source: &str, content: &str, named: &mut Named) -> Outcome<Fate> {
         let alloc = self.alloc();
-        let Some(placed) = place_below(alloc, source)? else {
+        let Some(placed) = place_of_source(alloc, source)? else {
             return none(alloc, "its name is that of no file");
         };
         if is_too_long(self.folder.as_str(), &placed) {
@@ -236,7 +244,8 @@ impl<'a> Extract<'a> {
                 push_text_member("file", path.as_str(), &mut members)?;
                 push_number_member(alloc, "bytes", bytes, &mut members)?;
                 if !self.files.contains_key(path.as_str()) {
-                    self.files.insert(path, String::from_str(alloc, source)?)?;
+                    let of = (String::from_str(alloc, source)?, self.maps);
+                    self.files.insert(path, of)?;
                 }
             }
             Fate::None(why) => {
@@ -295,6 +304,7 @@ impl<'a> Extract<'a> {
             moved: Names::new(alloc),
         };
         let mut all = 0usize;
+        self.maps = self.maps.saturating_add(1);
         for map in maps {
             self.take_map(name, map, &mut named)?;
             all = all.saturating_add(map.sources.len());
@@ -350,6 +360,7 @@ pub fn run(asked: &Asked<'_, '_>) -> Outcome<Status> {
         folder: folder_of_output(asked)?,
         has_force: asked.has("force"),
         files: HashMap::new(alloc),
+        maps: 0,
         sources: 0,
         left: 0,
         out: String::new(alloc),
@@ -358,14 +369,9 @@ pub fn run(asked: &Asked<'_, '_>) -> Outcome<Status> {
     let mut trouble = None;
     for file in &files {
         progress.begin(rt, file);
-        match extract_file(asked, file, &mut extract) {
-            Ok(()) => {}
-            Err(Failure::Told(text)) => {
-                progress.clear(rt);
-                tell(rt, text.as_str());
-                trouble = Some(*file);
-            }
-            Err(failure) => return Err(failure),
+        let extracted = extract_file(asked, file, &mut extract);
+        if !is_done(rt, &progress, extracted)? {
+            trouble = Some(*file);
         }
     }
     progress.clear(rt);

@@ -1,8 +1,12 @@
-//! What maps have in them, taken out and put in: the commands `embed`, `extract` and `strip` of the program `sourcemap`.
+//! What maps have in them, taken out and put in, and maps in codes: the commands `embed`, `external`, `extract`, `inline` and `strip` of
+//! the program `sourcemap`.
 #![tactic(auto)]
 
+pub mod data_urls;
 mod editing;
 pub mod embed;
 pub mod extract;
+mod moving;
 mod naming;
+mod placing;
 pub mod strip;

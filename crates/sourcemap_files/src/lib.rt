@@ -28,8 +28,8 @@ pub use input::{
 };
 pub use limit::{limit_of, limited_json};
 pub use paths::{
-    file_name, folder_of, is_inside, path_of_url, place_of, plain_path, real_name, with_slash,
-    written_name,
+    bytes_to_escape, current_folder, file_name, folder_of, is_inside, path_of_url, place_of,
+    plain_path, real_name, relative_to, with_slash, written_name,
 };
 pub use progress::Progress;
 pub use scopes::scopes_of_map;

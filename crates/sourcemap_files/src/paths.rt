@@ -1,8 +1,9 @@
 //! Paths, as texts with slashes.
-use percent_encoding::percent_decode_str;
-use sourcemap_texts::{is_url, stands_by_itself};
+use percent_encoding::{AsciiSet, CONTROLS, percent_decode_str};
+use sourcemap_texts::{is_url, relative_path, stands_by_itself};
+use sourcemap_words::{Outcome, failure_of};
 use std::alloc::{AllocError, Global};
-use std::fs;
+use std::{env, fs};
 use url::Url;
 
 /// The folder of a path, with its slash; empty if there is none.
@@ -173,4 +174,35 @@ pub fn plain_path(alloc: Global, folder: &str, path: &str) -> Result<String, All
     }
     let root = if folder.starts_with('/') { "/" } else { "" };
     path_of(alloc, root, plain_parts(alloc, folder, path)?.as_slice())
+}
+
+/// The current folder, by the name that the shell has for it (`PWD`), if that is its name: it is the one that users see and write, where
+/// links lead to the folder.
+pub fn current_folder(rt: &HostRuntime) -> Outcome<String> {
+    let alloc = rt.alloc();
+    let real = match env::current_dir(rt) {
+        Ok(real) => real,
+        Err(error) => return Err(failure_of(alloc, "the current folder", error)),
+    };
+    if let Ok(shown) = env::var(rt, "PWD")
+        && shown.as_str().starts_with('/')
+        && let Ok(shown_real) = fs::canonicalize(rt, shown.as_str())
+        && shown_real.as_path().as_str() == real.as_path().as_str()
+    {
+        return Ok(shown);
+    }
+    Ok(String::from_str(alloc, real.as_path().as_str())?)
+}
+
+/// `relative_path` in the current folder.
+pub fn relative_to(rt: &HostRuntime, from: &str, to: &str, path: &str) -> Outcome<String> {
+    let current = current_folder(rt)?;
+    Ok(relative_path(rt.alloc(), current.as_str(), from, to, path)?)
+}
+
+/// What a path may not have in a comment that names a map.
+pub fn bytes_to_escape() -> AsciiSet {
+    let spaces = CONTROLS.add(b' ').add(b'#').add(b'%').add(b'?');
+    let quotes = spaces.add(b'"').add(b'\'').add(b'`');
+    quotes.add(b'*').add(b':')
 }

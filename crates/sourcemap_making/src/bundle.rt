@@ -1,25 +1,20 @@
 //! `bundle`: codes and their maps, joined into one code and one map.
 use crate::codes::{hashbang_of, run_together, without_map_comments};
 use crate::own::{mapped_to_itself, stop, with_stop};
-use crate::rebasing::{rebase, relative_to};
+use crate::rebasing::rebase;
+use crate::scopes::read_without_scopes;
 use oxc_sourcemap_map::{SourceMap, parts_of};
 use oxc_sourcemap_parts::SourceMapParts;
 use oxc_sourcemap_text::Language;
-use percent_encoding::{AsciiSet, CONTROLS, utf8_percent_encode};
+use percent_encoding::utf8_percent_encode;
 use sourcemap_files::{
-    Asked, Lookup, Progress, Status, file_name, folder_of, language_of, limit_of, limited_json,
-    map_of_code, print, read_map, read_text, refuse_overwriting, shown_name, usage, warn,
-    write_files, written_name,
+    Asked, Lookup, Progress, Status, bytes_to_escape, file_name, folder_of, language_of, limit_of,
+    limited_json, map_of_code, print, read_text, refuse_overwriting, relative_to, shown_name,
+    usage, warn, write_files, written_name,
 };
 use sourcemap_run::{Bundle, push_number_member, push_object, push_text_member};
 use sourcemap_words::{Outcome, failure_of};
 use std::alloc::{AllocError, Global};
-
-/// What a file name may not have in a comment that names a map.
-fn bytes_to_escape() -> AsciiSet {
-    let spaces = CONTROLS.add(b' ').add(b'#').add(b'%').add(b'?');
-    spaces.add(b'"').add(b'\'').add(b'`')
-}
 
 /// A code of the bundle, and the name of its map if it has one.
 #[derive(Drop)]
@@ -54,7 +49,7 @@ fn read_code_and_map(asked: &Asked<'_, '_>, file: &str, folder: &str) -> Outcome
     let code = without_map_comments(alloc, text.as_str(), language_of(file))?;
     match map_of_code(asked.rt, file, text.as_str(), asked.places())? {
         Lookup::Map(found) => {
-            let mut map = read_map(asked.rt, &found)?;
+            let mut map = read_without_scopes(asked.rt, &found)?;
             rebase(asked.rt, &mut map, found.folder.as_str(), folder)?;
             Ok(Part {
                 code,

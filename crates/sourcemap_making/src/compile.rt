@@ -1,8 +1,9 @@
 //! `compile`: maps as bytes in which positions are looked up in place.
+use crate::scopes::read_without_scopes;
 use oxc_sourcemap_parts::SourceMapParts;
 use sourcemap_files::{
     Asked, COMPILED_END, CONTENTS_END, MapText, Progress, Status, Written, compiled_of, file_name,
-    folder_of, is_inside, is_regular, map_of_file, place_of, print, read_map, refuse_overwriting,
+    folder_of, is_inside, is_regular, map_of_file, place_of, print, refuse_overwriting,
     take_contents, tell, usage, warn, with_slash, write_files,
 };
 use sourcemap_run::{push_number_member, push_object, push_text_member};
@@ -98,7 +99,7 @@ fn made_of(asked: &Asked<'_, '_>, file: &str) -> Outcome<Vec<Made>> {
         map: &map,
         text: text.as_str(),
     };
-    let mut parts = read_map(rt, &map)?;
+    let mut parts = read_without_scopes(rt, &map)?;
     let mut all = Vec::new(alloc);
     if asked.has("contents-apart") {
         let apart = take_contents(alloc, &mut parts)?;

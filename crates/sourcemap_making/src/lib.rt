@@ -7,3 +7,4 @@ pub mod compile;
 mod own;
 mod rebasing;
 pub mod remap;
+mod scopes;

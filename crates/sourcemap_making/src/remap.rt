@@ -1,10 +1,10 @@
 //! `remap`: a map led through the maps of its sources.
 use crate::rebasing::rebase;
+use crate::scopes::read_without_scopes;
 use oxc_sourcemap_map::{SourceMap, parts_of};
 use sourcemap_files::{
     Asked, Lookup, MapText, Status, folder_of, is_file, is_inside, limit_of, limited_json,
-    map_of_code, map_of_file, plain_path, print, read_map, read_text, real_name, usage, warn,
-    write_text,
+    map_of_code, map_of_file, plain_path, print, read_text, real_name, usage, warn, write_text,
 };
 use sourcemap_run::{push_number_member, push_object, push_text_member};
 use sourcemap_texts::is_url;
@@ -143,7 +143,7 @@ fn follow_sources(
     count: &mut u64,
 ) -> Outcome<SourceMap<'static>> {
     let alloc = asked.alloc();
-    let mut map = SourceMap::from_parts(read_map(asked.rt, text)?);
+    let mut map = SourceMap::from_parts(read_without_scopes(asked.rt, text)?);
     map.apply_source_root(alloc)?;
     let inputs = inputs_of(asked, &map, text.folder.as_str(), way, depth, count)?;
     if inputs.is_empty() {
@@ -166,7 +166,7 @@ fn given_inputs(asked: &Asked<'_, '_>, folder: &str) -> Outcome<Vec<(String, Sou
             ));
         };
         let text = map_of_file(asked.rt, file, asked.places())?;
-        let mut parts = read_map(asked.rt, &text)?;
+        let mut parts = read_without_scopes(asked.rt, &text)?;
         rebase(asked.rt, &mut parts, text.folder.as_str(), folder)?;
         inputs.push((String::from_str(alloc, path)?, SourceMap::from_parts(parts)))?;
     }
@@ -246,7 +246,7 @@ fn led_by_given(
     text: &MapText,
     count: &mut u64,
 ) -> Outcome<SourceMap<'static>> {
-    let mut map = SourceMap::from_parts(read_map(asked.rt, text)?);
+    let mut map = SourceMap::from_parts(read_without_scopes(asked.rt, text)?);
     map.apply_source_root(asked.alloc())?;
     let given = given_inputs(asked, text.folder.as_str())?;
     warn_unused(asked, &map, given.as_slice());

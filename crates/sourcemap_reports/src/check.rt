@@ -1,4 +1,5 @@
 //! `check`: what is wrong in maps, and what they hold.
+use crate::scopes::{MapScopes, Needed, PastSources, calls_past, scopes_in, trees_past};
 use oxc_sourcemap_found::{FoundParts, Mend, read_found_parts};
 use oxc_sourcemap_map::SourceMap;
 use oxc_sourcemap_text::TextPositions;
@@ -229,19 +230,70 @@ fn tell_contents(report: &mut Report, map: &SourceMap<'_>) -> Outcome<()> {
     report.tell(Kind::Note, missing.as_str())
 }
 
-/// How much a simplified map has less.
-fn tell_unneeded(report: &mut Report, map: SourceMap<'static>) -> Outcome<()> {
+/// Tells of sources past the last one that something has.
+fn tell_past_sources(report: &mut Report, past: PastSources, what: &str) -> Outcome<()> {
+    let Some(first) = past.first else {
+        return Ok(());
+    };
+    let have = if past.count == 1 { "has" } else { "have" };
+    let what = count_of(report.alloc, past.count, what)?;
+    let text = format!(in report.alloc;
+        "scopes: {what} {have} a source past the last one, the first source {first}"
+    )?;
+    report.tell(Kind::Wrong, text.as_str())
+}
+
+/// What is wrong with the scopes of a map.
+fn tell_scopes(report: &mut Report, map: &SourceMap<'_>, held: &MapScopes) -> Outcome<()> {
+    if let Some(fault) = held.fault {
+        let text = format!(in report.alloc; "{fault}")?;
+        report.tell(Kind::Wrong, text.as_str())?;
+    }
+    let Some(scopes) = &held.scopes else {
+        return Ok(());
+    };
+    let sources = map.get_sources().count();
+    tell_past_sources(report, trees_past(scopes, sources), "tree")?;
+    tell_past_sources(report, calls_past(scopes, sources), "call site")
+}
+
+/// A simplified map.
+fn simplified(alloc: Global, map: SourceMap<'static>) -> Outcome<SourceMap<'static>> {
+    let mut simple = map;
+    simple.simplify(alloc)?;
+    Ok(simple)
+}
+
+/// A simplified map, and what scopes need beside what it has.
+fn simplified_beside(
+    alloc: Global,
+    map: SourceMap<'static>,
+    held: &MapScopes,
+) -> Outcome<(SourceMap<'static>, Needed)> {
+    if held.scopes.is_none() {
+        return Ok((simplified(alloc, map)?, held.unread_need()));
+    }
+    let simple = simplified(alloc, map.clone(alloc)?)?;
+    let needed = held.need(alloc, &map, &simple)?;
+    Ok((simple, needed))
+}
+
+/// How much a simplified map has less, but for what scopes need.
+fn tell_unneeded(report: &mut Report, map: SourceMap<'static>, held: &MapScopes) -> Outcome<()> {
     let alloc = report.alloc;
     let (tokens, names, sources) = (
         map.get_tokens().as_slice().len(),
         map.get_names().count(),
         map.get_sources().count(),
     );
-    let mut simple = map;
-    simple.simplify(alloc)?;
+    let (simple, needed) = simplified_beside(alloc, map, held)?;
     let tokens = tokens.saturating_sub(simple.get_tokens().as_slice().len());
-    let names = names.saturating_sub(simple.get_names().count());
-    let sources = sources.saturating_sub(simple.get_sources().count());
+    let names = names
+        .saturating_sub(simple.get_names().count())
+        .saturating_sub(needed.names);
+    let sources = sources
+        .saturating_sub(simple.get_sources().count())
+        .saturating_sub(needed.sources);
     if tokens == 0 && names == 0 && sources == 0 {
         return Ok(());
     }
@@ -255,12 +307,18 @@ fn tell_unneeded(report: &mut Report, map: SourceMap<'static>) -> Outcome<()> {
 }
 
 /// What is told of a map that was read, and of its code if there is one.
-fn tell_held(report: &mut Report, map: SourceMap<'static>, code: Option<&str>) -> Outcome<()> {
+fn tell_held(
+    report: &mut Report,
+    map: SourceMap<'static>,
+    held: &MapScopes,
+    code: Option<&str>,
+) -> Outcome<()> {
+    tell_scopes(report, &map, held)?;
     if let Some(code) = code {
         tell_past_code(report, code, map.get_tokens().as_slice())?;
     }
     tell_contents(report, &map)?;
-    tell_unneeded(report, map)
+    tell_unneeded(report, map, held)
 }
 
 /// What is told of the text of a map.
@@ -276,7 +334,7 @@ fn check_text(report: &mut Report, text: &str, code: Option<&str>) -> Outcome<()
     let map = SourceMap::from_parts(parts);
     tell_summary(report, text.len(), &map)?;
     tell_faults(report, text, mends.as_slice())?;
-    tell_held(report, map, code)
+    tell_held(report, map, &scopes_in(alloc, text)?, code)
 }
 
 /// What is told of a compiled map; of contents that lie apart nothing but the summary.
@@ -297,7 +355,8 @@ fn check_compiled(
     }
     let mut parts = map.into_parts();
     put_contents(rt, report.file.as_str(), bytes, &mut parts)?;
-    tell_held(report, SourceMap::from_parts(parts), code)
+    let map = SourceMap::from_parts(parts);
+    tell_held(report, map, &MapScopes::none(), code)
 }
 
 /// What is told of a map, and of its code if there is one.

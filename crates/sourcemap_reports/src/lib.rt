@@ -5,3 +5,4 @@ pub mod check;
 pub mod coverage;
 pub mod diff;
 pub mod page;
+mod scopes;

@@ -1,4 +1,4 @@
-//! The contents of sources in the text of a map, changed where they stand.
+//! The contents of sources, and other members, in the text of a map, changed where they stand.
 use crate::members::{Member, Piece, entries_of, maps_in, members_of};
 use crate::raw_lines::{Splice, push_spliced};
 use oxc_sourcemap_json::push_json_string;
@@ -64,7 +64,7 @@ pub fn cut_contents(alloc: Global, text: &str) -> Result<Option<String>> {
     changed(alloc, text, changes.as_slice())
 }
 
-/// The list of the contents of a map: those that were found, and the entries that it has for the other sources.
+/// The list of the contents of a map, or another one: the texts that were found, and the entries that it has for the others.
 fn list_of(alloc: Global, had: &[Piece<'_>], found: &[Option<String>]) -> Result<String> {
     let mut list = String::new(alloc);
     for k in 0..had.len().max(found.len()) {
@@ -118,4 +118,53 @@ pub fn push_contents(
         }
     }
     Ok(())
+}
+
+/// Appends what puts texts, by their number, into the list that a map of a text has by a key, which is written in its quotes. Says whether
+/// it has such a list.
+pub fn push_entries(
+    alloc: Global,
+    map: Piece<'_>,
+    key: &str,
+    found: &[Option<String>],
+    changes: &mut Vec<Change>,
+) -> Result<bool> {
+    let mut is_there = false;
+    for member in &members_of(alloc, map)? {
+        let value = member.value;
+        if member.key == key && value.text.starts_with('[') {
+            let had = entries_of(alloc, value)?;
+            changes.push(Change {
+                start: value.at,
+                end: value.end(),
+                text: list_of(alloc, had.as_slice(), found)?,
+            })?;
+            is_there = true;
+        }
+    }
+    Ok(is_there)
+}
+
+/// Appends what puts a text in the place of the value that a map of a text has by a key. Says whether it has one.
+pub fn push_value(
+    alloc: Global,
+    map: Piece<'_>,
+    key: &str,
+    text: &str,
+    changes: &mut Vec<Change>,
+) -> Result<bool> {
+    let mut is_there = false;
+    for member in &members_of(alloc, map)? {
+        if member.key == key {
+            let mut value = String::new(alloc);
+            push_json_string(text, &mut value)?;
+            changes.push(Change {
+                start: member.value.at,
+                end: member.value.end(),
+                text: value,
+            })?;
+            is_there = true;
+        }
+    }
+    Ok(is_there)
 }

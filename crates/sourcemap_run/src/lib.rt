@@ -19,7 +19,7 @@ mod tracer;
 
 pub use answers::{Style, push_answer, push_answers, push_members};
 pub use bundling::{Bundle, line_ends, with_line_end};
-pub use contents_text::{Change, changed, cut_contents, push_contents};
+pub use contents_text::{Change, changed, cut_contents, push_contents, push_entries, push_value};
 pub use contexts::{Content, lines_are_counted};
 pub use counting::{Block, Mark, missed_ranges, push_marks};
 pub use covered::{
@@ -28,10 +28,10 @@ pub use covered::{
 };
 pub use differing::count_differences;
 pub use frames::{Cut, Frame, Paint, Target, answer_to, frame_position, push_frame, push_line};
-pub use members::{Piece, maps_in};
+pub use members::{Piece, has_member, maps_in};
 pub use oxc_sourcemap_lookup::Bias;
 pub use oxc_sourcemap_queries::first_difference_of_parts;
-pub use page::{DATA_MARK, fill_template};
+pub use page::{DATA_MARK, data_url, fill_template};
 pub use raw_lines::{Splice, push_spliced, text_of};
 pub use rebasing::rebase_sources;
 pub use texts::{

@@ -183,3 +183,15 @@ pub fn maps_in<'t>(alloc: Global, text: &'t str) -> Memory<Vec<Piece<'t>>> {
     }
     Ok(maps)
 }
+
+/// Whether the map in a text, or that of a section, has a member with this key, written in its quotes, that is neither null nor empty.
+pub fn has_member(alloc: Global, text: &str, key: &str) -> Memory<bool> {
+    for map in &maps_in(alloc, text)? {
+        if let Some(value) = value_of(alloc, *map, key)?
+            && !matches!(value.text, "null" | "\"\"")
+        {
+            return Ok(true);
+        }
+    }
+    Ok(false)
+}

@@ -1,4 +1,4 @@
-//! A page that holds data: a template with a mark, where the data comes.
+//! Texts as base64: in a page, a template with a mark where they come, and in a data URL.
 ghost use Rattle.std.specs.Prelude.{◌≡◌, string_bytes, codes, IfOk, MatchOption};
 ghost use Rattle.sourcemap_run.specs.Words.{IsFilled, HasDataMark};
 
@@ -24,4 +24,11 @@ pub fn fill_template(
     page.push_str(STANDARD.encode(alloc, content.as_bytes())?.as_str())?;
     page.push_str(back)?;
     Ok(Some(page))
+}
+
+/// The data URL of the text of a map.
+pub fn data_url(alloc: Global, text: &str) -> Result<String, AllocError> {
+    let mut url = String::from_str(alloc, "data:application/json;charset=utf-8;base64,")?;
+    url.push_str(STANDARD.encode(alloc, text.as_bytes())?.as_str())?;
+    Ok(url)
 }

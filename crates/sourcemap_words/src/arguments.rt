@@ -254,6 +254,11 @@ const EMBED: Words = Words {
     json: "An object a line, for each source without a content: source, and file and bytes, or missing (why none is found)",
     words: &[
         Word("MAP", Kind::File, "A map, or a code whose map is found"),
+        Word(
+            "from",
+            Kind::Option("DIR"),
+            "The folder that `extract` wrote contents to: sources are read there",
+        ),
         EDITED,
     ],
 };
@@ -264,6 +269,38 @@ const STRIP: Words = Words {
     words: &[
         Word("MAP", Kind::File, "A map, or a code whose map is found"),
         EDITED,
+    ],
+};
+
+const INLINE: Words = Words {
+    about: "Puts maps into their codes, as data URLs",
+    json: "An object a line, for each code: code, map, bytes (of the map)",
+    words: &[Word(
+        "CODE",
+        Kind::Files,
+        "Codes that name their maps, which are found; each is changed where it lies",
+    )],
+};
+
+const EXTERNAL: Words = Words {
+    about: "Takes maps in data URLs out of their codes, as files",
+    json: "An object a line, for each code: code, map, bytes (of the map)",
+    words: &[
+        Word(
+            "CODE",
+            Kind::Files,
+            "Codes with maps in data URLs; each is changed where it lies",
+        ),
+        Word(
+            "output",
+            Kind::Output,
+            "The folder to write maps to, which has to be there [default: that of each code]",
+        ),
+        Word(
+            "force",
+            Kind::Flag,
+            "Overwrites files that have another content",
+        ),
     ],
 };
 
@@ -411,7 +448,7 @@ fn printer<'a>(alloc: Global, name: &'a str, about: &'a str, words: &[Word]) -> 
 }
 
 /// The names of the commands, in the order in which help lists them.
-const COMMANDS: [&str; 14] = [
+const COMMANDS: [&str; 16] = [
     "trace",
     "resolve",
     "check",
@@ -421,6 +458,8 @@ const COMMANDS: [&str; 14] = [
     "extract",
     "embed",
     "strip",
+    "inline",
+    "external",
     "diff",
     "coverage",
     "page",
@@ -442,6 +481,8 @@ fn command_of<'a>(alloc: Global, name: &'a str) -> Built<'a> {
         "extract" => command(alloc, name, &EXTRACT),
         "embed" => command(alloc, name, &EMBED),
         "strip" => command(alloc, name, &STRIP),
+        "inline" => command(alloc, name, &INLINE),
+        "external" => command(alloc, name, &EXTERNAL),
         "diff" => command(alloc, name, &DIFF),
         "coverage" => command(alloc, name, &COVERAGE),
         "page" => command(alloc, name, &PAGE),

@@ -54,16 +54,33 @@ Examples:
   sourcemap extract --json dist/*.js.map -o src";
 
 const EMBED: &str =
-    "Contents that the map has stay. The others are read from the files that sources name from the folder of the map, where these are in
-the root or in that folder.
+    "Contents that the map has stay. The others are read from the files that sources name, by file: URLs or from the folder of the map,
+where these are in the root or in that folder. With --from they are read where `extract` puts them below DIR.
 
 Examples:
   sourcemap embed dist/app.js.map
+  sourcemap embed --from src dist/app.js.map
   sourcemap embed --root .. dist/app.js -o full.map";
 
 const STRIP: &str = "Examples:
   sourcemap strip dist/app.js.map
   sourcemap strip dist/app.js.map -o public/app.js.map";
+
+const INLINE: &str =
+    "The data URL is base64 of the map as it is written, and takes the place of the URL in the comment that names the map. Sources that are
+relative to another folder are made relative to that of the code.
+
+Examples:
+  sourcemap inline dist/app.js
+  sourcemap inline --maps maps dist/*.js dist/*.css";
+
+const EXTERNAL: &str =
+    "The map of CODE is written to CODE.map, as it stands in the data URL, and the comment names it. Relative sources are made relative to
+the folder of -o. A file that is there with another content stays, unless there is --force. Links are not followed.
+
+Examples:
+  sourcemap external dist/app.js
+  sourcemap external dist/*.js -o maps";
 
 const DIFF: &str = "Examples:
   sourcemap diff before.js.map after.js.map";
@@ -100,6 +117,8 @@ pub fn examples_of(command: &str) -> &'static str {
         "extract" => EXTRACT,
         "embed" => EMBED,
         "strip" => STRIP,
+        "inline" => INLINE,
+        "external" => EXTERNAL,
         "diff" => DIFF,
         "coverage" => COVERAGE,
         "page" => PAGE,

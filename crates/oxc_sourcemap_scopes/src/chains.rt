@@ -66,7 +66,8 @@ impl Scopes {
         line: u32,
         column: u32,
     ) -> Memory<Option<Vec<ScopeChainEntry>>>
-        ensures { IfOk result (λ chain. option_map (λ entries. entries.items) chain ≡ scope_chain self.now frame line column) }
+        ensures { IfOk result (λ chain. option_map (λ entries. entries.items) chain
+            ≡ scope_chain self.now frame line column) }
     {
         let Some(range) = self.range_at(line, column) else {
             return Ok(None);
@@ -81,7 +82,8 @@ impl Scopes {
     fn frame_start(&self, frame: usize, range: usize) -> Option<(Option<usize>, Option<usize>)>
         requires { range < length self.now.ranges }
         ensures start { result ≡ slice_get (frame_starts self.now range) frame }
-        ensures within { IfSome result (λ start. IfSome start.0 (λ i. i < length self.now.scopes) × IfSome start.1 (λ i. i < length self.now.ranges)) }
+        ensures within { IfSome result (λ start. IfSome start.0 (λ i. i < length self.now.scopes)
+            × IfSome start.1 (λ i. i < length self.now.ranges)) }
     {
         if frame == 0 {
             return Some((self.definition_of(Some(range)), Some(range)));
@@ -93,7 +95,8 @@ impl Scopes {
     fn caller_start(&self, caller: usize, range: usize) -> Option<(Option<usize>, Option<usize>)>
         requires { range < length self.now.ranges }
         ensures start { result ≡ slice_get (caller_starts self.now (Some range)) caller }
-        ensures within { IfSome result (λ start. IfSome start.0 (λ i. i < length self.now.scopes) × IfSome start.1 (λ i. i < length self.now.ranges)) }
+        ensures within { IfSome result (λ start. IfSome start.0 (λ i. i < length self.now.scopes)
+            × IfSome start.1 (λ i. i < length self.now.ranges)) }
     {
         let mut left = caller;
         let mut next = Some(range);

@@ -20,6 +20,7 @@
 
 static uint64_t state, seed;
 static unsigned long read_maps, refused_maps, damaged_bytes, damaged_maps, taken_apart, read_scopes, refused_scopes;
+static unsigned long read_variables, read_values;
 
 #define MUST(condition) must(condition, __LINE__, #condition)
 static void must(int is_so, int line, const char *condition) {
@@ -532,6 +533,8 @@ static const char *const SCOPES[] = {
     "BFAAA,BHCAGA,CCA,BACA,CCA,CJA,", "A,BCCDA,CAG,", "EGAA,ECKC,IAFC,FK,FU,", "EMA,ECCA,FE,FC,", "BAAA,DAC,CJA,",
     "BFAAA,CJA,",                     "BABA,",         "CBA,",                  "ECAC,",           "EBBA,",
     "EAC,",                           "FBA,",          "FC,",                   "IACB,",           "IBED,",
+    "BAAA,DAC,CJA,ECAA,GBA,FU,",      "BFAAA,DEDC,",   "EGAC,GAB,HBBBA,",       "DC,",             "GACB,",
+    "HAAFBBCA,",
 };
 
 /* A text of such, or of digits at random, without the last comma. */
@@ -608,6 +611,64 @@ static void ask_scopes(const smap_scopes *scopes, const smap_scopes_counts *coun
     MUST(smap_frames_at(scopes, at.line, at.column, frames, few, &count, &is_hidden) == SMAP_OK);
 }
 
+/* The variables of a scope, and the value of one in a range: ids of names. */
+static void ask_values(const smap_scopes *scopes, const smap_scopes_counts *counts, size_t names) {
+    smap_counts most = { 0, 0, 0, 0, 0, 9, 0 };
+    smap_position at = any_position(&most);
+    uint32_t scope = (uint32_t)below(counts->scopes + 1), range = (uint32_t)below(counts->ranges + 1), value;
+    size_t count, all, few = below(3);
+    uint32_t code = smap_get_variables(scopes, scope, NULL, 0, &count);
+    MUST(code == (scope < counts->scopes ? SMAP_OK : SMAP_NO_ENTRY));
+    if (!code) {
+        uint32_t *ids = exact(OUT, count * sizeof *ids);
+        MUST(smap_get_variables(scopes, scope, ids, count, &all) == SMAP_OK && all == count);
+        for (size_t i = 0; i < count; i++) MUST(ids[i] < names);
+        ids = exact(OUT, few * sizeof *ids);
+        MUST(smap_get_variables(scopes, scope, ids, few, &all) == SMAP_OK && all == count);
+        if (count) read_variables++;
+    }
+    code = smap_value_at(scopes, range, (uint32_t)below(3), at.line, at.column, &value);
+    MUST(code == (range < counts->ranges ? SMAP_OK : SMAP_NO_ENTRY) && (code || value == SMAP_NO_ID || value < names));
+    if (!code && value != SMAP_NO_ID) read_values++;
+}
+
+/* A chain leads from this scope to the last one around it, each with a range at the position that is its code. */
+static void is_chain(const smap_scopes *scopes, uint32_t scope, smap_position at, const smap_chain_entry *chain, size_t count) {
+    smap_scope it;
+    smap_range range;
+    for (size_t i = 0; i < count; i++) {
+        MUST(chain[i].scope == scope && smap_get_scope(scopes, scope, &it) == SMAP_OK);
+        scope = it.parent;
+        if (chain[i].range == SMAP_NO_ID) continue;
+        MUST(smap_get_range(scopes, chain[i].range, &range) == SMAP_OK && range.definition == chain[i].scope);
+        MUST(is_within(at, range.start, range.end));
+    }
+    MUST(scope == SMAP_NO_ID);
+}
+
+/* The chain at a position of the code, and that of a scope there. */
+static void ask_chains(const smap_scopes *scopes, const smap_scopes_counts *counts) {
+    smap_counts most = { 0, 0, 0, 0, 0, 9, 0 };
+    smap_position at = any_position(&most);
+    smap_range range;
+    uint32_t index, first = SMAP_NO_ID, scope = (uint32_t)below(counts->scopes + 1);
+    size_t count, all, few = below(3);
+    if (!smap_range_at(scopes, at.line, at.column, &index)) MUST(smap_get_range(scopes, index, &range) == SMAP_OK), first = range.definition;
+    MUST(smap_scope_chain_at(scopes, at.line, at.column, NULL, 0, &count) == SMAP_OK);
+    smap_chain_entry *chain = exact(OUT, count * sizeof *chain);
+    MUST(smap_scope_chain_at(scopes, at.line, at.column, chain, count, &all) == SMAP_OK && all == count);
+    is_chain(scopes, first, at, chain, count);
+    MUST(count == 0 || chain[0].range == index);
+    uint32_t code = smap_scope_chain(scopes, scope, at.line, at.column, NULL, 0, &count);
+    MUST(code == (scope < counts->scopes ? SMAP_OK : SMAP_NO_ENTRY));
+    if (code) return;
+    chain = exact(OUT, count * sizeof *chain);
+    MUST(smap_scope_chain(scopes, scope, at.line, at.column, chain, count, &all) == SMAP_OK && all == count);
+    is_chain(scopes, scope, at, chain, count);
+    chain = exact(OUT, few * sizeof *chain);
+    MUST(smap_scope_chain(scopes, scope, at.line, at.column, chain, few, &all) == SMAP_OK && all == count);
+}
+
 /* Scopes that were read, or a fault. */
 static void use_scopes(uint32_t code, smap_scopes *scopes, const smap_fault *fault, size_t names) {
     smap_scopes_counts counts;
@@ -619,7 +680,7 @@ static void use_scopes(uint32_t code, smap_scopes *scopes, const smap_fault *fau
     read_scopes++;
     MUST(smap_scopes_get_counts(scopes, &counts) == SMAP_OK);
     are_sound(scopes, &counts, names);
-    for (int i = 0; i < 8; i++) ask_scopes(scopes, &counts);
+    for (int i = 0; i < 8; i++) ask_scopes(scopes, &counts), ask_values(scopes, &counts, names), ask_chains(scopes, &counts);
     smap_free_scopes(scopes);
 }
 
@@ -632,7 +693,7 @@ static void try_scopes(const buffer *text) {
     size_t names = below(4) ? 9 : below(3);
     uint32_t code = smap_decode_scopes(copied(it.at, it.len), it.len, names, &scopes, &fault);
     MUST(code != SMAP_BAD_SCOPES || fault.detail <= it.len);
-    MUST(code != SMAP_BAD_SCOPES || (fault.field >= SMAP_SCOPES_NOT_A_DIGIT && fault.field <= SMAP_SCOPES_LEFT_OPEN));
+    MUST(code != SMAP_BAD_SCOPES || (fault.field >= SMAP_SCOPES_NOT_A_DIGIT && fault.field <= SMAP_SCOPES_SPLIT_TWICE));
     use_scopes(code, scopes, &fault, names);
     /* (a map of a file has no scopes, unless they came there by chance) */
     code = smap_read_scopes(copied(text->at, text->len), text->len, &scopes, &fault);
@@ -725,8 +786,8 @@ int main(int argc, char **argv) {
     }
     printf("%lu texts read, %lu refused; %lu compiled maps damaged, %lu of them opened, %lu taken apart\n", read_maps, refused_maps, damaged_bytes,
            damaged_maps, taken_apart);
-    printf("%lu texts of scopes read, %lu refused\n", read_scopes, refused_scopes);
-    MUST(rounds < 1000 || (read_scopes > rounds / 2 && refused_scopes > rounds / 2));
+    printf("%lu texts of scopes read, %lu refused; %lu lists of variables, %lu values\n", read_scopes, refused_scopes, read_variables, read_values);
+    MUST(rounds < 1000 || (read_scopes > rounds / 2 && refused_scopes > rounds / 2 && read_variables > rounds / 2 && read_values > rounds / 9));
     MUST(rounds < 1000 || (taken_apart > rounds && damaged_maps > taken_apart && damaged_bytes > damaged_maps));
     smap_free_map(kept);
     for (size_t i = 0; i < files_len; i++) free(files[i].at);

@@ -50,6 +50,7 @@ using Scope = smap_scope;
 using Range = smap_range;
 using Call = smap_call;
 using Frame = smap_frame;
+using ChainEntry = smap_chain_entry;
 
 enum class Bias : std::uint32_t { Before = SMAP_BEFORE, Clamped = SMAP_CLAMPED, After = SMAP_AFTER };
 enum class Direction : std::uint32_t { At = SMAP_AT, For = SMAP_FOR, From = SMAP_FROM, OnLine = SMAP_ON_LINE };
@@ -674,7 +675,8 @@ struct Frames {
     bool is_hidden;
 };
 
-/* The scopes of a map, which have the functions of its sources, and what was inlined where. What is not there is SMAP_NO_ID.
+/* The scopes of a map, which have the functions of its sources, what was inlined where, and the values of variables. What is not there
+ * is SMAP_NO_ID.
  *
  *     auto scopes = oxc_sourcemap::Scopes::read(json);
  *     for (const auto &frame : scopes.frames_at(0, 25).frames) std::cout << map.name(frame.name).value_or("anonymous") << '\n';
@@ -724,6 +726,35 @@ class Scopes {
             return smap_frames_at(get(), line, column, out, len, count, &is_hidden);
         });
         return {std::move(frames), is_hidden != 0};
+    }
+
+    /* The variables of a scope, as ids of names. */
+    std::optional<std::vector<std::uint32_t>> variables(std::uint32_t scope) const {
+        if (!this->scope(scope)) return std::nullopt;
+        return detail::list<std::uint32_t>(
+            [&](std::uint32_t *out, std::size_t len, std::size_t *count) { return smap_get_variables(get(), scope, out, len, count); });
+    }
+
+    /* The value of a variable, by its place in `variables`, in a range at a position of the generated code: the id of the name that is
+     * the expression for it. */
+    std::optional<std::uint32_t> value_at(std::uint32_t range, std::uint32_t variable, std::uint32_t line, std::uint32_t column) const {
+        auto id = detail::entry<std::uint32_t>(
+            [&](std::uint32_t *out) { return smap_value_at(get(), range, variable, line, column, out); });
+        return id == SMAP_NO_ID ? std::nullopt : id;
+    }
+
+    /* The scopes that a position of the generated code is in, from the inside out, each with the range that has its values; and those
+     * from this scope on. */
+    std::vector<ChainEntry> scope_chain_at(std::uint32_t line, std::uint32_t column) const {
+        return detail::list<ChainEntry>([&](ChainEntry *out, std::size_t len, std::size_t *count) {
+            return smap_scope_chain_at(get(), line, column, out, len, count);
+        });
+    }
+    std::optional<std::vector<ChainEntry>> scope_chain(std::uint32_t scope, std::uint32_t line, std::uint32_t column) const {
+        if (!this->scope(scope)) return std::nullopt;
+        return detail::list<ChainEntry>([&](ChainEntry *out, std::size_t len, std::size_t *count) {
+            return smap_scope_chain(get(), scope, line, column, out, len, count);
+        });
     }
 
     const smap_scopes *get() const noexcept { return own_.get(); }

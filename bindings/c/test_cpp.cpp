@@ -229,6 +229,37 @@ void scopes() {
     CHECK(moved.get() && !scopes.get() && moved.counts().scopes == 3);
 }
 
+bool is(const ChainEntry &entry, std::uint32_t scope, std::uint32_t range) {
+    return entry.scope == scope && entry.range == range;
+}
+
+/* Variables, their values, and the scopes around a position. */
+void values() {
+    auto scopes = Scopes::read(INLINED);
+    CHECK(scopes.variables(1) == std::vector<std::uint32_t>{4} && scopes.variables(0)->empty() && !scopes.variables(3));
+    CHECK(scopes.value_at(1, 0, 0, 10) == 6u && !scopes.value_at(1, 1, 0, 10) && !scopes.value_at(2, 0, 0, 20) && !scopes.value_at(3, 0, 0, 20));
+    auto split = Scopes::decode("BAAA,DAC,CJA,ECAA,GAD,HBBBE,FCE", 4);
+    CHECK(split.variables(0) == std::vector<std::uint32_t>({0, 1}) && !split.value_at(0, 0, 1, 1));
+    CHECK(split.value_at(0, 1, 1, 0) == 2u && split.value_at(0, 1, 1, 1) == 3u);
+    auto chain = scopes.scope_chain_at(0, 25);
+    CHECK(chain.size() == 2 && is(chain[0], 2, 2) && is(chain[1], 0, 0) && scopes.scope_chain_at(1, 0).empty());
+    auto of_outer = *scopes.scope_chain(1, 0, 25), without_code = *scopes.scope_chain(2, 0, 15);
+    CHECK(of_outer.size() == 2 && is(of_outer[0], 1, 1) && is(of_outer[1], 0, 0) && !scopes.scope_chain(3, 0, 25));
+    CHECK(without_code.size() == 2 && is(without_code[0], 2, SMAP_NO_ID) && is(without_code[1], 0, 0));
+    auto moved = std::move(scopes);
+    CHECK(thrown([&] { scopes.variables(0); }) == SMAP_NULL_HANDLE && thrown([&] { scopes.value_at(0, 0, 0, 0); }) == SMAP_NULL_HANDLE);
+    CHECK(thrown([&] { scopes.scope_chain_at(0, 0); }) == SMAP_NULL_HANDLE && thrown([&] { scopes.scope_chain(0, 0, 0); }) == SMAP_NULL_HANDLE);
+    bool is_refused = false;
+    refuses = true;
+    try {
+        moved.scope_chain_at(0, 25);
+    } catch (const std::bad_alloc &) {
+        is_refused = true;
+    }
+    refuses = false;
+    CHECK(is_refused);
+}
+
 void fails() {
     try {
         SourceMap::from_json(R"({"version":3,"sources":["a.js"],"names":[],"mappings":"AAAA,DAAA"})");
@@ -281,6 +312,7 @@ int main(int, char **words) {
     makes_of_others();
     compiles(words[1]);
     scopes();
+    values();
     fails();
     std::puts("passed");
 }

@@ -76,7 +76,7 @@ static uint32_t compile_all(made_all *m, smap_fault *f) {
 }
 
 /* A function into which another was inlined. */
-#define SCOPES "BFAAA,BFCAC,CCA,CFA,EGAA,ECKC,IAFC,FK,FU"
+#define SCOPES "BFAAA,DAC,BFCAC,CCA,CFA,EGAA,GCB,HBAFA,ECKC,IAFC,FK,FU"
 
 /* Each call that reads scopes. */
 static uint32_t scope_all(made_all *m, smap_fault *f) {
@@ -252,6 +252,36 @@ static void nothing_is_read_of_scopes(void) {
     CHECK(kept == 0);
 }
 
+/* A chain of scopes is written, or no entry, nor how many there are. */
+static void nothing_is_chained(void) {
+    smap_scopes *scopes;
+    smap_chain_entry chain[2];
+    CHECK(smap_decode_scopes(TEXT(SCOPES), 2, &scopes, NULL) == SMAP_OK);
+    const long held = kept;
+    for (int of_a_scope = 0; of_a_scope < 2; of_a_scope++) {
+        uint32_t code = SMAP_OUT_OF_MEMORY;
+        size_t count = 77;
+        long n = 0;
+        chain[0].scope = chain[0].range = chain[1].scope = chain[1].range = 77;
+        for (; code == SMAP_OUT_OF_MEMORY && n < 1000; n++) {
+            CHECK(count == 77 && chain[0].scope == 77 && chain[0].range == 77 && chain[1].scope == 77 && chain[1].range == 77);
+            left = n;
+            code = of_a_scope ? smap_scope_chain(scopes, 1, 0, 12, LIST(chain), &count)
+                              : smap_scope_chain_at(scopes, 0, 12, LIST(chain), &count);
+            left = -1;
+            CHECK(kept == held);
+        }
+        CHECK(code == SMAP_OK && n > 1 && count == 2);
+        CHECK(chain[0].scope == 1 && chain[0].range == 1 && chain[1].scope == 0 && chain[1].range == 0);
+        /* (that there is no such scope or handle is told without memory) */
+        left = 0;
+        CHECK(smap_scope_chain(scopes, 2, 0, 12, LIST(chain), &count) == SMAP_NO_ENTRY && left == 0);
+        CHECK(smap_scope_chain_at(NULL, 0, 12, LIST(chain), &count) == SMAP_NULL_HANDLE && left == 0);
+        left = -1;
+    }
+    smap_free_scopes(scopes);
+}
+
 /* Lookups, counts and lists take no memory. */
 static void no_memory_is_taken(void) {
     smap_map *map = read_map(A);
@@ -298,6 +328,8 @@ static void no_memory_is_taken(void) {
     CHECK(smap_scopes_get_counts(scopes, &scopes_held) == SMAP_OK && smap_get_scope(scopes, 1, &scope) == SMAP_OK);
     CHECK(smap_get_range(scopes, 1, &range) == SMAP_OK && smap_scope_at(scopes, 0, 3, 0, &n) == SMAP_OK);
     CHECK(smap_function_at(scopes, 0, 3, 0, &n) == SMAP_OK && smap_range_at(scopes, 0, 12, &n) == SMAP_OK);
+    CHECK(smap_get_variables(scopes, 0, &n, 1, &count) == SMAP_OK && n == 0 && count == 2);
+    CHECK(smap_value_at(scopes, 0, 1, 0, 4, &n) == SMAP_OK && n == 0 && smap_value_at(scopes, 0, 1, 0, 5, &n) == SMAP_OK && n == NO);
     CHECK(left == 0);
     left = -1;
     smap_free_scopes(scopes);
@@ -314,5 +346,6 @@ void test_memory(void) {
     nothing_is_made();
     nothing_is_compiled();
     nothing_is_read_of_scopes();
+    nothing_is_chained();
     no_memory_is_taken();
 }

@@ -20,6 +20,7 @@
 
 static uint64_t state, seed;
 static unsigned long read_maps, refused_maps, damaged_bytes, damaged_maps, taken_apart, read_scopes, refused_scopes;
+static unsigned long read_variables, read_values;
 
 #define MUST(condition) must(condition, __LINE__, #condition)
 static void must(int is_so, int line, const char *condition) {
@@ -80,14 +81,45 @@ static void replace(buffer *it, size_t at, size_t len, const char *with, size_t 
 }
 
 static const char *const PIECES[] = {
-    "0", "-1", "4294967295", "4294967296", "1e99", "3.0", "null", "true", "\"\"", "[]", "{}", ",", ";", ";;;;", "\"", "\\",
-        "\\ud800",
-    "\\u0000", "\xff", "\xc3\xa9", "\xf0\x9f\x98\x80", "\xef\xbb\xbf", ")]}'\n", "AAAA", "+/////H", "+/////HAAAA", "D", "gggggggg",
-        "AAAAA",
-    "\"version\":3,", "\"sources\":null,", "\"sections\":[", "\"ignoreList\":[0,7],", "\"x_google_ignoreList\":[1],",
-        "\"names\":[\"x\"],",
-    "\"sourcesContent\":[null,\"x\"],", "\"mappings\":\"", "{\"offset\":{\"line\":0,\"column\":0},\"map\":",
-        "data:application/json,",
+    "0",
+    "-1",
+    "4294967295",
+    "4294967296",
+    "1e99",
+    "3.0",
+    "null",
+    "true",
+    "\"\"",
+    "[]",
+    "{}",
+    ",",
+    ";",
+    ";;;;",
+    "\"",
+    "\\",
+    "\\ud800",
+    "\\u0000",
+    "\xff",
+    "\xc3\xa9",
+    "\xf0\x9f\x98\x80",
+    "\xef\xbb\xbf",
+    ")]}'\n",
+    "AAAA",
+    "+/////H",
+    "+/////HAAAA",
+    "D",
+    "gggggggg",
+    "AAAAA",
+    "\"version\":3,",
+    "\"sources\":null,",
+    "\"sections\":[",
+    "\"ignoreList\":[0,7],",
+    "\"x_google_ignoreList\":[1],",
+    "\"names\":[\"x\"],",
+    "\"sourcesContent\":[null,\"x\"],",
+    "\"mappings\":\"",
+    "{\"offset\":{\"line\":0,\"column\":0},\"map\":",
+    "data:application/json,",
 };
 
 static void mutate(buffer *it) {
@@ -96,15 +128,25 @@ static void mutate(buffer *it) {
     const char *piece = PIECES[below(sizeof PIECES / sizeof *PIECES)];
     char byte = (char)below(256);
     switch (below(8)) {
-        case 0: replace(it, at, 1, &byte, 1); break;
-        case 1: replace(it, at, len, "", 0); break;
-        case 2: replace(it, at, below(2), piece, strlen(piece)); break;
-        case 3: replace(it, at, len, other->at + from, len < other->len - from ? len : other->len - from); break;
-        case 4: byte = "ABCDEFGHIJKLMNOPQRSTUVWXYZabcdefghijklmnopqrstuvwxyz0123456789+/,;"[below(66)]; replace(it, at, 1, &byte,
-            1); break;
-        case 5: byte = "{}[]\":, 0123456789"[below(18)]; replace(it, at, below(2), &byte, 1); break;
-        case 6: if (!below(8)) it->len = at; break;
-        default: byte = ",;"[below(2)]; replace(it, at, 0, &byte, 1); break;
+    case 0: replace(it, at, 1, &byte, 1); break;
+    case 1: replace(it, at, len, "", 0); break;
+    case 2: replace(it, at, below(2), piece, strlen(piece)); break;
+    case 3: replace(it, at, len, other->at + from, len < other->len - from ? len : other->len - from); break;
+    case 4:
+        byte = "ABCDEFGHIJKLMNOPQRSTUVWXYZabcdefghijklmnopqrstuvwxyz0123456789+/,;"[below(66)];
+        replace(it, at, 1, &byte, 1);
+        break;
+    case 5:
+        byte = "{}[]\":, 0123456789"[below(18)];
+        replace(it, at, below(2), &byte, 1);
+        break;
+    case 6:
+        if (!below(8)) it->len = at;
+        break;
+    default:
+        byte = ",;"[below(2)];
+        replace(it, at, 0, &byte, 1);
+        break;
     }
 }
 
@@ -191,7 +233,7 @@ static void look_up(const smap_map *map, const smap_counts *counts, uint32_t is_
 static void look_back(const smap_map *map, const smap_counts *counts) {
     size_t count;
     uint32_t index, direction = (uint32_t)below(4), source = (uint32_t)below(counts->sources + 1), line = (uint32_t)below(30),
-        column = (uint32_t)below(90);
+                    column = (uint32_t)below(90);
     smap_token token;
     smap_token *tokens = all_tokens(map, counts);
     if (counts->tokens && below(2)) {
@@ -202,8 +244,7 @@ static void look_back(const smap_map *map, const smap_counts *counts) {
     uint32_t *out = exact(OUT, count * sizeof *out);
     MUST(smap_all_generated(map, source, line, column, direction, out, count, &count) == SMAP_OK);
     uint32_t code = smap_generated(map, source, line, column, direction, &index, &token);
-    MUST(code == (count ? SMAP_OK : SMAP_NO_ENTRY) && (code || (index == out[0] &&
-         memcmp(&token, &tokens[index], sizeof token) == 0)));
+    MUST(code == (count ? SMAP_OK : SMAP_NO_ENTRY) && (code || (index == out[0] && memcmp(&token, &tokens[index], sizeof token) == 0)));
     for (size_t i = 0; i < count; i++) MUST(tokens[out[i]].source_id == source && tokens[out[i]].src_line == line);
 }
 
@@ -490,8 +531,8 @@ static void build(const smap_map *map, const smap_counts *counts, const buffer *
     size_t len = below(text->len < 20 ? text->len : 20), count;
     const char *at = copied(text->at, len);
     smap_token *tokens = all_tokens(map, counts);
-    for (size_t i = below(4); i < counts->tokens &&
-        i < 4; i++) ((uint32_t *)&tokens[below(counts->tokens)])[below(6)] = (uint32_t)below(9) - 1;
+    for (size_t i = below(4); i < counts->tokens && i < 4; i++)
+        ((uint32_t *)&tokens[below(counts->tokens)])[below(6)] = (uint32_t)below(9) - 1;
     smap_text *names = exact(OUT, counts->names * sizeof *names);
     MUST(smap_get_names(map, names, counts->names, &count) == SMAP_OK);
     MADE(smap_from_tokens(tokens, counts->tokens, names, count, names, count, names, count, NULL, 0, &out, &fault));
@@ -513,8 +554,8 @@ static void build(const smap_map *map, const smap_counts *counts, const buffer *
 
 /* Evaluates words at random over a text. */
 static void evaluate(const buffer *text) {
-    static const char *const WORD[] = { "@0", "@1", "sort", "rewrite", "root", "simplify", "join", "joinat", "compose", "remap",
-        "1", "2", "0", "x" };
+    static const char *const WORD[] = { "@0",     "@1",      "sort",  "rewrite", "root", "simplify", "join",
+                                        "joinat", "compose", "remap", "1",       "2",    "0",        "x" };
     smap_text words[12], texts[2];
     size_t len = below(12);
     smap_fault fault;
@@ -529,9 +570,27 @@ static void evaluate(const buffer *text) {
 
 /* Texts of scopes, whole ones and single items. */
 static const char *const SCOPES[] = {
-    "BFAAA,BHCAGA,CCA,BACA,CCA,CJA,", "A,BCCDA,CAG,", "EGAA,ECKC,IAFC,FK,FU,", "EMA,ECCA,FE,FC,", "BAAA,DAC,CJA,",
-    "BFAAA,CJA,",                     "BABA,",         "CBA,",                  "ECAC,",           "EBBA,",
-    "EAC,",                           "FBA,",          "FC,",                   "IACB,",           "IBED,",
+    "BFAAA,BHCAGA,CCA,BACA,CCA,CJA,",
+    "A,BCCDA,CAG,",
+    "EGAA,ECKC,IAFC,FK,FU,",
+    "EMA,ECCA,FE,FC,",
+    "BAAA,DAC,CJA,",
+    "BFAAA,CJA,",
+    "BABA,",
+    "CBA,",
+    "ECAC,",
+    "EBBA,",
+    "EAC,",
+    "FBA,",
+    "FC,",
+    "IACB,",
+    "IBED,",
+    "BAAA,DAC,CJA,ECAA,GBA,FU,",
+    "BFAAA,DEDC,",
+    "EGAC,GAB,HBBBA,",
+    "DC,",
+    "GACB,",
+    "HAAFBBCA,",
 };
 
 /* A text of such, or of digits at random, without the last comma. */
@@ -601,11 +660,85 @@ static void ask_scopes(const smap_scopes *scopes, const smap_scopes_counts *coun
     MUST(smap_frames_at(scopes, at.line, at.column, frames, count, &count, NULL) == SMAP_OK);
     for (size_t i = 0; i < count; i++) {
         MUST((frames[i].call.source == SMAP_NO_ID) == (i == 0));
-        if (frames[i].scope == SMAP_NO_ID) MUST(frames[i].name == SMAP_NO_ID);
-        else MUST(smap_get_scope(scopes, frames[i].scope, &scope) == SMAP_OK && scope.is_stack_frame && scope.name == frames[i].name);
+        if (frames[i].scope == SMAP_NO_ID)
+            MUST(frames[i].name == SMAP_NO_ID);
+        else
+            MUST(smap_get_scope(scopes, frames[i].scope, &scope) == SMAP_OK && scope.is_stack_frame && scope.name == frames[i].name);
     }
     frames = exact(OUT, few * sizeof *frames);
     MUST(smap_frames_at(scopes, at.line, at.column, frames, few, &count, &is_hidden) == SMAP_OK);
+}
+
+/* The variables of a scope, and the value of one in a range: ids of names. */
+static void ask_values(const smap_scopes *scopes, const smap_scopes_counts *counts, size_t names) {
+    smap_counts most = { 0, 0, 0, 0, 0, 9, 0 };
+    smap_position at = any_position(&most);
+    uint32_t scope = (uint32_t)below(counts->scopes + 1), range = (uint32_t)below(counts->ranges + 1), value;
+    size_t count, all, few = below(3);
+    uint32_t code = smap_get_variables(scopes, scope, NULL, 0, &count);
+    MUST(code == (scope < counts->scopes ? SMAP_OK : SMAP_NO_ENTRY));
+    if (!code) {
+        uint32_t *ids = exact(OUT, count * sizeof *ids);
+        MUST(smap_get_variables(scopes, scope, ids, count, &all) == SMAP_OK && all == count);
+        for (size_t i = 0; i < count; i++) MUST(ids[i] < names);
+        ids = exact(OUT, few * sizeof *ids);
+        MUST(smap_get_variables(scopes, scope, ids, few, &all) == SMAP_OK && all == count);
+        if (count) read_variables++;
+    }
+    code = smap_value_at(scopes, range, (uint32_t)below(3), at.line, at.column, &value);
+    MUST(code == (range < counts->ranges ? SMAP_OK : SMAP_NO_ENTRY) && (code || value == SMAP_NO_ID || value < names));
+    if (!code && value != SMAP_NO_ID) read_values++;
+}
+
+/* A chain leads from this scope to the last one around it, each with a range at the position that is its code. */
+static void is_chain(const smap_scopes *scopes, uint32_t scope, smap_position at, const smap_chain_entry *chain, size_t count) {
+    smap_scope it;
+    smap_range range;
+    for (size_t i = 0; i < count; i++) {
+        MUST(chain[i].scope == scope && smap_get_scope(scopes, scope, &it) == SMAP_OK);
+        scope = it.parent;
+        if (chain[i].range == SMAP_NO_ID) continue;
+        MUST(smap_get_range(scopes, chain[i].range, &range) == SMAP_OK && range.definition == chain[i].scope);
+        MUST(is_within(at, range.start, range.end));
+    }
+    MUST(scope == SMAP_NO_ID);
+}
+
+/* The innermost scope of a frame, by where it was called. */
+static uint32_t scope_of_frame(const smap_scopes *scopes, const smap_frame *frame) {
+    uint32_t scope;
+    const smap_call *call = &frame->call;
+    return smap_scope_at(scopes, call->source, call->line, call->column, &scope) == SMAP_OK ? scope : SMAP_NO_ID;
+}
+
+/* The chain of a frame at a position, which begins with this scope. */
+static void ask_chain(const smap_scopes *scopes, uint32_t frame, uint32_t first, smap_position at) {
+    size_t count, all, few = below(3);
+    MUST(smap_scope_chain(scopes, frame, at.line, at.column, NULL, 0, &count) == SMAP_OK);
+    smap_chain_entry *chain = exact(OUT, count * sizeof *chain);
+    MUST(smap_scope_chain(scopes, frame, at.line, at.column, chain, count, &all) == SMAP_OK && all == count);
+    is_chain(scopes, first, at, chain, count);
+    chain = exact(OUT, few * sizeof *chain);
+    MUST(smap_scope_chain(scopes, frame, at.line, at.column, chain, few, &all) == SMAP_OK && all == count);
+}
+
+/* The chain at a position of the code, and those of the frames there. */
+static void ask_chains(const smap_scopes *scopes) {
+    smap_counts most = { 0, 0, 0, 0, 0, 9, 0 };
+    smap_position at = any_position(&most);
+    smap_range range;
+    smap_frame frames[8];
+    uint32_t index, first = SMAP_NO_ID, is_hidden;
+    size_t count, all;
+    if (!smap_range_at(scopes, at.line, at.column, &index))
+        MUST(smap_get_range(scopes, index, &range) == SMAP_OK), first = range.definition;
+    MUST(smap_scope_chain_at(scopes, at.line, at.column, NULL, 0, &count) == SMAP_OK);
+    smap_chain_entry *chain = exact(OUT, count * sizeof *chain);
+    MUST(smap_scope_chain_at(scopes, at.line, at.column, chain, count, &all) == SMAP_OK && all == count);
+    is_chain(scopes, first, at, chain, count);
+    MUST(smap_frames_at(scopes, at.line, at.column, frames, 8, &all, &is_hidden) == SMAP_OK);
+    MUST(smap_scope_chain(scopes, (uint32_t)all, at.line, at.column, NULL, 0, &count) == SMAP_NO_ENTRY);
+    for (uint32_t i = 0; i < all && i < 8; i++) ask_chain(scopes, i, i == 0 ? first : scope_of_frame(scopes, &frames[i]), at);
 }
 
 /* Scopes that were read, or a fault. */
@@ -619,7 +752,7 @@ static void use_scopes(uint32_t code, smap_scopes *scopes, const smap_fault *fau
     read_scopes++;
     MUST(smap_scopes_get_counts(scopes, &counts) == SMAP_OK);
     are_sound(scopes, &counts, names);
-    for (int i = 0; i < 8; i++) ask_scopes(scopes, &counts);
+    for (int i = 0; i < 8; i++) ask_scopes(scopes, &counts), ask_values(scopes, &counts, names), ask_chains(scopes);
     smap_free_scopes(scopes);
 }
 
@@ -632,7 +765,7 @@ static void try_scopes(const buffer *text) {
     size_t names = below(4) ? 9 : below(3);
     uint32_t code = smap_decode_scopes(copied(it.at, it.len), it.len, names, &scopes, &fault);
     MUST(code != SMAP_BAD_SCOPES || fault.detail <= it.len);
-    MUST(code != SMAP_BAD_SCOPES || (fault.field >= SMAP_SCOPES_NOT_A_DIGIT && fault.field <= SMAP_SCOPES_LEFT_OPEN));
+    MUST(code != SMAP_BAD_SCOPES || (fault.field >= SMAP_SCOPES_NOT_A_DIGIT && fault.field <= SMAP_SCOPES_SPLIT_TWICE));
     use_scopes(code, scopes, &fault, names);
     /* (a map of a file has no scopes, unless they came there by chance) */
     code = smap_read_scopes(copied(text->at, text->len), text->len, &scopes, &fault);
@@ -671,8 +804,10 @@ static void try_text(const buffer *text, smap_map **kept) {
     told(answer, &fault);
     uint32_t answer_found = smap_read_found(copied(text->at, text->len), text->len, &found, &mends, &of_found);
     told(answer_found, &of_found);
-    if (answer) refused_maps++;
-    else read_maps++;
+    if (answer)
+        refused_maps++;
+    else
+        read_maps++;
     if (!answer_found) {
         size_t count;
         MUST(smap_get_mends(mends, NULL, 0, &count) == SMAP_OK);
@@ -723,10 +858,12 @@ int main(int argc, char **argv) {
         for (size_t n = below(below(4) ? 3 : 40); n; n--) mutate(&text);
         try_text(&text, &kept);
     }
-    printf("%lu texts read, %lu refused; %lu compiled maps damaged, %lu of them opened, %lu taken apart\n", read_maps, refused_maps, damaged_bytes,
-           damaged_maps, taken_apart);
-    printf("%lu texts of scopes read, %lu refused\n", read_scopes, refused_scopes);
-    MUST(rounds < 1000 || (read_scopes > rounds / 2 && refused_scopes > rounds / 2));
+    printf("%lu texts read, %lu refused; %lu compiled maps damaged, %lu of them opened, %lu taken apart\n", read_maps, refused_maps,
+           damaged_bytes, damaged_maps, taken_apart);
+    printf("%lu texts of scopes read, %lu refused; %lu lists of variables, %lu values\n", read_scopes, refused_scopes, read_variables,
+           read_values);
+    MUST(rounds < 1000 ||
+         (read_scopes > rounds / 2 && refused_scopes > rounds / 2 && read_variables > rounds / 2 && read_values > rounds / 9));
     MUST(rounds < 1000 || (taken_apart > rounds && damaged_maps > taken_apart && damaged_bytes > damaged_maps));
     smap_free_map(kept);
     for (size_t i = 0; i < files_len; i++) free(files[i].at);

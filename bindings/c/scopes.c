@@ -51,3 +51,24 @@ uint32_t smap_frames_at(const smap_scopes *scopes, uint32_t line, uint32_t colum
     uint32_t own;
     return proved_frames_at(LENT(scopes), line, column, OR(out, &none), out_len, count, OR(is_hidden, &own));
 }
+
+uint32_t smap_get_variables(const smap_scopes *scopes, uint32_t scope, uint32_t *out, size_t out_len, size_t *count) {
+    uint32_t none;
+    return proved_variables(LENT(scopes), scope, OR(out, &none), out_len, count);
+}
+
+uint32_t smap_value_at(const smap_scopes *scopes, uint32_t range, uint32_t variable, uint32_t line, uint32_t column, uint32_t *out) {
+    return proved_value_at(LENT(scopes), range, variable, line, column, out);
+}
+
+uint32_t smap_scope_chain_at(const smap_scopes *scopes, uint32_t line, uint32_t column, smap_chain_entry *out, size_t out_len,
+                             size_t *count) {
+    smap_chain_entry none;
+    return proved_scope_chain_at(LENT(scopes), line, column, OR(out, &none), out_len, count);
+}
+
+uint32_t smap_scope_chain(const smap_scopes *scopes, uint32_t frame, uint32_t line, uint32_t column, smap_chain_entry *out, size_t out_len,
+                          size_t *count) {
+    smap_chain_entry none;
+    return proved_scope_chain(LENT(scopes), frame, line, column, OR(out, &none), out_len, count);
+}

@@ -156,7 +156,8 @@ static void add_scopes(uint64_t *sum) {
     smap_scope scope;
     smap_range range;
     smap_frame frames[2];
-    uint32_t found[3], is_hidden;
+    smap_chain_entry chain[2];
+    uint32_t found[3], is_hidden, variable, value;
     size_t count;
     must(smap_scopes_get_counts(scopes, &counts));
     must(smap_get_scope(scopes, 1, &scope));
@@ -167,6 +168,13 @@ static void add_scopes(uint64_t *sum) {
     must(smap_frames_at(scopes, 0, 12, frames, 2, &count, &is_hidden));
     add(sum, counts.scopes + scope.end.line + range.end.column + found[0] + found[1] + found[2] + count + is_hidden);
     for (size_t i = 0; i < count; i++) add(sum, frames[i].name), add(sum, frames[i].scope), add(sum, frames[i].call.line);
+    must(smap_get_variables(scopes, 0, &variable, 1, &count));
+    must(smap_value_at(scopes, 0, 0, 0, 12, &value));
+    add(sum, variable + value + count);
+    must(smap_scope_chain_at(scopes, 0, 12, chain, 2, &count));
+    for (size_t i = 0; i < count; i++) add(sum, chain[i].scope), add(sum, chain[i].range);
+    must(smap_scope_chain(scopes, 1, 0, 12, chain, 2, &count));
+    for (size_t i = 0; i < count; i++) add(sum, chain[i].scope), add(sum, chain[i].range);
 }
 
 /* What is made of a map. */
@@ -287,7 +295,7 @@ int main(int argc, char **argv) {
     must(smap_compile(made, 7, NULL, &bytes, NULL));
     must(smap_get_text(bytes, &lent));
     must(smap_open_compiled(lent.at, lent.len, &opened, NULL));
-    must(smap_decode_scopes(TEXT("BFAAA,BFCAC,CCA,CFA,EGAA,ECKC,IAFC,FK,FU"), 2, &of_map, NULL));
+    must(smap_decode_scopes(TEXT("BFAAA,DAC,BFCAC,CCA,CFA,EGAA,GCB,HBAFA,ECKC,IAFC,FK,FU"), 2, &of_map, NULL));
     map = made, input = other, string = text, mends = told, compiled = opened, scopes = of_map;
     reads(&wanted);
     run(reads, sums, sizeof *sums);

@@ -18,8 +18,7 @@ from tools.mutate.planting import TOP, chosen, listed, try_all
 from tools.over_libraries import kit
 
 # The files of the layer, which are tried as one.
-SCOPES = (TOP / "bindings/c/scopes.c").read_text()
-LAYER = (TOP / "bindings/c/oxc_sourcemap.c").read_text() + SCOPES
+LAYER = "".join((TOP / "bindings/c" / it).read_text() for it in ("oxc_sourcemap.c", "scopes.c"))
 HEADER = (TOP / "bindings/c/oxc_sourcemap.h").read_text()
 FUNCTION = re.compile(r"^(uint32_t|size_t|void|const char \*)\s*(smap_\w+)\([^{]*\) \{\n(.*?)^\}\n", re.M | re.S)
 NOTHING = {"uint32_t": "    return SMAP_OK;\n", "size_t": "    return 0;\n", "void": "", "const char *": '    return "";\n'}
@@ -61,7 +60,7 @@ def bugs_of_lists():
         if ") & begin_" in found[3]:
             yield f"{found[2]}: lists that are not begun", in_layer(found, found[3].replace(") & begin_", ") && begin_")), HEADER
     for bug in listed(TOP / "tools/mutate/c.txt", TOP / "bindings/c"):
-        yield bug.name, bug.text + SCOPES, HEADER
+        yield bug.name, LAYER.replace((TOP / "bindings/c" / bug.file).read_text(), bug.text), HEADER
 
 
 def bugs_of_constants():

@@ -19,12 +19,13 @@ static void soil(void) {
 }
 
 /* Makes a call, whose fault `f` nobody initialised, and returns its code unless that is SMAP_OK. */
-#define MAKES(call) do { \
-        *f = junk(); \
-        soil(); \
-        uint32_t code_ = (call); \
-        if (code_ != SMAP_OK) return code_; \
-        CHECK(is_none(f)); \
+#define MAKES(call)                                                                                                                        \
+    do {                                                                                                                                   \
+        *f = junk();                                                                                                                       \
+        soil();                                                                                                                            \
+        uint32_t code_ = (call);                                                                                                           \
+        if (code_ != SMAP_OK) return code_;                                                                                                \
+        CHECK(is_none(f));                                                                                                                 \
     } while (0)
 
 /* More texts and maps than the layer has room for without a request for memory. */
@@ -76,7 +77,7 @@ static uint32_t compile_all(made_all *m, smap_fault *f) {
 }
 
 /* A function into which another was inlined. */
-#define SCOPES "BFAAA,BFCAC,CCA,CFA,EGAA,ECKC,IAFC,FK,FU"
+#define SCOPES "BFAAA,DAC,BFCAC,CCA,CFA,EGAA,GCB,HBAFA,ECKC,IAFC,FK,FU"
 
 /* Each call that reads scopes. */
 static uint32_t scope_all(made_all *m, smap_fault *f) {
@@ -151,7 +152,7 @@ static uint32_t run_all(long n) {
     uint32_t code = make_all(&m, &fault);
     if (!code) code = change_all(&m, &fault);
     if (!code && !(smap_message(&bad, NULL, 0) && smap_place_message(&bad, NULL, 0) && smap_mend_message(&mend, NULL, 0) &&
-                    smap_reason_message(TEXT(OF_A("\"mappings\":\"D\"")), &wrong, NULL, 0)))
+                   smap_reason_message(TEXT(OF_A("\"mappings\":\"D\"")), &wrong, NULL, 0)))
         code = SMAP_OUT_OF_MEMORY, fault = fault_of(code, 0, 0);
     left = -1;
     CHECK(code == SMAP_OK || is_fault(&fault, SMAP_OUT_OF_MEMORY, 0));
@@ -180,8 +181,7 @@ static void without_memory(void) {
 
 /* The fault of a text is told with its place, or the call fails for want of memory, whichever of its requests is refused. */
 static void places_without_memory(void) {
-    smap_text words[3] = { text_of("compose"), text_of("@0"), text_of("@1") }, texts[2] = { text_of(C),
-        text_of("{\"version\":3}") };
+    smap_text words[3] = { text_of("compose"), text_of("@0"), text_of("@1") }, texts[2] = { text_of(C), text_of("{\"version\":3}") };
     for (int of_a_plan = 0; of_a_plan < 2; of_a_plan++) {
         smap_map *map = (smap_map *)&failed;
         smap_fault fault = junk();
@@ -217,9 +217,9 @@ static void nothing_is_compiled(void) {
     smap_compiled *compiled = (smap_compiled *)&failed;
     smap_text bytes;
     long n;
-#define UNTIL_MADE(out, call) \
-    for (n = 0; left = n, (call) == SMAP_OUT_OF_MEMORY && n < 1000; n++) CHECK((void *)(out) == (void *)&failed); \
-    left = -1; \
+#define UNTIL_MADE(out, call)                                                                                                              \
+    for (n = 0; left = n, (call) == SMAP_OUT_OF_MEMORY && n < 1000; n++) CHECK((void *)(out) == (void *)&failed);                          \
+    left = -1;                                                                                                                             \
     CHECK(n > 0 && n < 1000 && (void *)(out) != (void *)&failed)
     UNTIL_MADE(string, smap_compile(map, 0, NULL, &string, NULL));
     CHECK(smap_get_text(string, &bytes) == SMAP_OK);
@@ -252,6 +252,36 @@ static void nothing_is_read_of_scopes(void) {
     CHECK(kept == 0);
 }
 
+/* A chain of scopes is written, or no entry, nor how many there are. */
+static void nothing_is_chained(void) {
+    smap_scopes *scopes;
+    smap_chain_entry chain[2];
+    CHECK(smap_decode_scopes(TEXT(SCOPES), 2, &scopes, NULL) == SMAP_OK);
+    const long held = kept;
+    for (int of_a_frame = 0; of_a_frame < 2; of_a_frame++) {
+        uint32_t code = SMAP_OUT_OF_MEMORY;
+        size_t count = 77;
+        long n = 0;
+        chain[0].scope = chain[0].range = chain[1].scope = chain[1].range = 77;
+        for (; code == SMAP_OUT_OF_MEMORY && n < 1000; n++) {
+            CHECK(count == 77 && chain[0].scope == 77 && chain[0].range == 77 && chain[1].scope == 77 && chain[1].range == 77);
+            left = n;
+            code = of_a_frame ? smap_scope_chain(scopes, 0, 0, 12, LIST(chain), &count)
+                              : smap_scope_chain_at(scopes, 0, 12, LIST(chain), &count);
+            left = -1;
+            CHECK(kept == held);
+        }
+        CHECK(code == SMAP_OK && n > 1 && count == 2);
+        CHECK(chain[0].scope == 1 && chain[0].range == 1 && chain[1].scope == 0 && chain[1].range == 0);
+        /* (that there is no such frame or handle is told without memory) */
+        left = 0;
+        CHECK(smap_scope_chain(scopes, 2, 0, 12, LIST(chain), &count) == SMAP_NO_ENTRY && left == 0);
+        CHECK(smap_scope_chain_at(NULL, 0, 12, LIST(chain), &count) == SMAP_NULL_HANDLE && left == 0);
+        left = -1;
+    }
+    smap_free_scopes(scopes);
+}
+
 /* Lookups, counts and lists take no memory. */
 static void no_memory_is_taken(void) {
     smap_map *map = read_map(A);
@@ -282,8 +312,7 @@ static void no_memory_is_taken(void) {
     CHECK(smap_open_compiled(bytes, texts[0].len, &turned, NULL) == SMAP_OK);
     left = 0;
     CHECK(smap_decompile(turned, &back, NULL) == SMAP_NO_ENTRY && back == (smap_map *)&failed);
-    CHECK(smap_trace(map, 0, 4, SMAP_BEFORE, &p, NULL) == SMAP_OK &&
-          smap_trace_all(map, &one, 1, SMAP_AFTER, &p, 1, NULL) == SMAP_OK);
+    CHECK(smap_trace(map, 0, 4, SMAP_BEFORE, &p, NULL) == SMAP_OK && smap_trace_all(map, &one, 1, SMAP_AFTER, &p, 1, NULL) == SMAP_OK);
     CHECK(smap_find_all(map, &one, 1, SMAP_CLAMPED, &n, 1, NULL) == SMAP_OK &&
           smap_pieces(map, one, at(9, 9), LIST(pieces), &count) == SMAP_OK);
     CHECK(smap_get_counts(map, &counts) == SMAP_OK && smap_get_tokens(map, LIST(tokens), &count) == SMAP_OK);
@@ -298,6 +327,8 @@ static void no_memory_is_taken(void) {
     CHECK(smap_scopes_get_counts(scopes, &scopes_held) == SMAP_OK && smap_get_scope(scopes, 1, &scope) == SMAP_OK);
     CHECK(smap_get_range(scopes, 1, &range) == SMAP_OK && smap_scope_at(scopes, 0, 3, 0, &n) == SMAP_OK);
     CHECK(smap_function_at(scopes, 0, 3, 0, &n) == SMAP_OK && smap_range_at(scopes, 0, 12, &n) == SMAP_OK);
+    CHECK(smap_get_variables(scopes, 0, &n, 1, &count) == SMAP_OK && n == 0 && count == 2);
+    CHECK(smap_value_at(scopes, 0, 1, 0, 4, &n) == SMAP_OK && n == 0 && smap_value_at(scopes, 0, 1, 0, 5, &n) == SMAP_OK && n == NO);
     CHECK(left == 0);
     left = -1;
     smap_free_scopes(scopes);
@@ -314,5 +345,6 @@ void test_memory(void) {
     nothing_is_made();
     nothing_is_compiled();
     nothing_is_read_of_scopes();
+    nothing_is_chained();
     no_memory_is_taken();
 }

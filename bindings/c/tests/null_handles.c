@@ -1,21 +1,43 @@
 /* Null in the place of a handle. */
 #include "tests.h"
 
+#define NULL_HANDLE(call) CHECK((call) == SMAP_NULL_HANDLE)
+
+static void null_scopes(void) {
+    smap_scopes_counts held;
+    smap_scope scope;
+    smap_range range;
+    smap_frame frame;
+    smap_chain_entry entry = { 77, 77 };
+    uint32_t n = 77;
+    size_t count = 77;
+    held.scopes = 77, scope.source = 77, range.definition = 77, frame.name = 77;
+    NULL_HANDLE(smap_scopes_get_counts(NULL, &held));
+    NULL_HANDLE(smap_get_scope(NULL, 0, &scope));
+    NULL_HANDLE(smap_get_range(NULL, 0, &range));
+    NULL_HANDLE(smap_scope_at(NULL, 0, 0, 0, &n));
+    NULL_HANDLE(smap_function_at(NULL, 0, 0, 0, &n));
+    NULL_HANDLE(smap_range_at(NULL, 0, 0, &n));
+    NULL_HANDLE(smap_frames_at(NULL, 0, 0, &frame, 1, &count, &n));
+    NULL_HANDLE(smap_frames_at(NULL, 0, 0, NULL, 0, &count, NULL));
+    NULL_HANDLE(smap_get_variables(NULL, 0, &n, 1, &count));
+    NULL_HANDLE(smap_get_variables(NULL, 0, NULL, 0, &count));
+    NULL_HANDLE(smap_value_at(NULL, 0, 0, 0, 0, &n));
+    NULL_HANDLE(smap_scope_chain_at(NULL, 0, 0, &entry, 1, &count));
+    NULL_HANDLE(smap_scope_chain(NULL, 0, 0, 0, &entry, 1, &count));
+    CHECK(held.scopes == 77 && scope.source == 77 && range.definition == 77 && frame.name == 77);
+    CHECK(n == 77 && count == 77 && entry.scope == 77 && entry.range == 77);
+}
+
 static void null_readers(void) {
     smap_counts counts;
     smap_text text = text_of("kept");
     smap_token token;
     smap_mend mend;
-    smap_scopes_counts held;
-    smap_scope scope;
-    smap_range range;
-    smap_frame frame;
     uint32_t n = 77;
     size_t count = 77;
     counts.tokens = 77;
     token.dst_line = 77;
-    held.scopes = 77, scope.source = 77, range.definition = 77, frame.name = 77;
-#define NULL_HANDLE(call) CHECK((call) == SMAP_NULL_HANDLE)
     NULL_HANDLE(smap_get_counts(NULL, &counts));
     NULL_HANDLE(smap_is_sorted(NULL, &n));
     NULL_HANDLE(smap_is_sound(NULL, &n));
@@ -39,16 +61,7 @@ static void null_readers(void) {
     NULL_HANDLE(smap_compiled_get_text(NULL, 9, 0, &text));
     NULL_HANDLE(smap_compiled_get_stamp(NULL, &text));
     NULL_HANDLE(smap_compiled_is_ignored(NULL, 0, &n));
-    NULL_HANDLE(smap_scopes_get_counts(NULL, &held));
-    NULL_HANDLE(smap_get_scope(NULL, 0, &scope));
-    NULL_HANDLE(smap_get_range(NULL, 0, &range));
-    NULL_HANDLE(smap_scope_at(NULL, 0, 0, 0, &n));
-    NULL_HANDLE(smap_function_at(NULL, 0, 0, 0, &n));
-    NULL_HANDLE(smap_range_at(NULL, 0, 0, &n));
-    NULL_HANDLE(smap_frames_at(NULL, 0, 0, &frame, 1, &count, &n));
-    NULL_HANDLE(smap_frames_at(NULL, 0, 0, NULL, 0, &count, NULL));
     CHECK(counts.tokens == 77 && n == 77 && count == 77 && token.dst_line == 77 && is(&text, "kept"));
-    CHECK(held.scopes == 77 && scope.source == 77 && range.definition == 77 && frame.name == 77);
     smap_free_map(NULL);
     smap_free_mends(NULL);
     smap_free_join(NULL);
@@ -124,6 +137,7 @@ static void null_handles(void) {
 }
 
 void test_null_handles(void) {
+    null_scopes();
     null_readers();
     null_handles();
 }

@@ -32,6 +32,9 @@ typedef struct frame_row {
     uint32_t name, scope;
     call_row call;
 } frame_row;
+typedef struct chain_row {
+    uint32_t scope, range;
+} chain_row;
 
 static int is_place(smap_position it, place wanted) {
     return it.line == wanted.line && it.column == wanted.column;
@@ -82,7 +85,7 @@ static const scope_row SECOND_SCOPES[] = { { 1, { 2, 3 }, { 2, 9 }, NO, 0, 0, NO
 #define HIDDEN "ENDC,FCH"
 static const range_row HIDDEN_RANGES[] = { { { 3, 2 }, { 5, 7 }, NO, 1, 1, NOWHERE, NO } };
 
-/* Variables and their values are passed over. */
+/* A scope with the variables a and b, and its code: there a has no value, and b that of x up to 1:1, then that of y. */
 #define VALUES "BAAA,DAC,CJA,ECAA,GAD,HBBBE,FCE"
 static const scope_row VALUES_SCOPES[] = { { 0, { 0, 0 }, { 9, 0 }, NO, NO, 0, NO } };
 static const range_row VALUES_RANGES[] = { { { 0, 0 }, { 2, 4 }, 0, 0, 0, NOWHERE, NO } };
@@ -271,6 +274,156 @@ static void frames(void) {
     smap_free_scopes(scopes);
 }
 
+/* ---- variables and their values ---- */
+
+/* The variables of a scope, in a buffer that is too long, and in one too short for the last. */
+static void variables_are(const smap_scopes *scopes, uint32_t scope, const uint32_t *wanted, size_t len) {
+    uint32_t out[8];
+    for (size_t room = len + 1;; room--) {
+        size_t count = 77, written = room < len ? room : len;
+        for (size_t i = 0; i < LEN(out); i++) out[i] = 77;
+        CHECK_ROW(smap_get_variables(scopes, scope, out, room, &count) == SMAP_OK && count == len, (int)scope, "how many variables");
+        for (size_t i = 0; i < written; i++) CHECK_ROW(out[i] == wanted[i], (int)i, "a variable");
+        CHECK_ROW(out[written] == 77, (int)room, "room that is not needed");
+        if (room == 0) break;
+    }
+    size_t count = 77;
+    CHECK_ROW(smap_get_variables(scopes, scope, NULL, 0, &count) == SMAP_OK && count == len, (int)scope, "how many variables");
+}
+
+static void value_is(const smap_scopes *scopes, uint32_t range, uint32_t variable, uint32_t line, uint32_t column, uint32_t wanted) {
+    uint32_t out = 77;
+    CHECK_ROW(smap_value_at(scopes, range, variable, line, column, &out) == SMAP_OK && out == wanted, (int)column, "a value");
+}
+
+/* Three variables, which two items tell, and the code at 2:5 to 4:9. The first has the value 3, from 2:9 on 4, from 3:2 on none, and from
+ * 3:5 on 5; the second 3 from 3:0 on; of the third 5 is not told anywhere. */
+#define SPLIT "BAAA,DAC,DC,CJA,EDCFA,GEAG,HAAEFBCAADG,HCAAA,HBBAE,FCJ"
+
+static void sub_ranges(void) {
+    static const uint32_t OF_SPLIT[] = { 0, 1, 2 };
+    static const struct {
+        uint32_t variable, line, column, value;
+    } IN_SPLIT[] = {
+        { 0, 2, 5, 3 },  { 0, 2, 8, 3 },  { 0, 2, 9, 4 },  { 0, 2, MAX, 4 }, { 0, 3, 1, 4 },
+        { 0, 3, 2, NO }, { 0, 3, 4, NO }, { 0, 3, 5, 5 },  { 0, 4, 8, 5 },   { 1, 2, 5, NO },
+        { 1, 3, 0, 3 },  { 1, 4, 8, 3 },  { 2, 2, 5, NO }, { 2, 4, 0, NO },  { 3, 3, 0, NO },
+    };
+    smap_scopes *scopes = decoded(SPLIT, 6);
+    variables_are(scopes, 0, LIST(OF_SPLIT));
+    for (size_t i = 0; i < LEN(IN_SPLIT); i++)
+        value_is(scopes, 0, IN_SPLIT[i].variable, IN_SPLIT[i].line, IN_SPLIT[i].column, IN_SPLIT[i].value);
+    smap_free_scopes(scopes);
+}
+
+static void values(void) {
+    static const uint32_t OF_OUTER[] = { 4 }, OF_VALUES[] = { 0, 1 };
+    smap_scopes *scopes = decoded(INLINED, 7);
+    variables_are(scopes, 0, NULL, 0);
+    variables_are(scopes, 1, LIST(OF_OUTER));
+    variables_are(scopes, 2, NULL, 0);
+    value_is(scopes, 1, 0, 0, 10, 6);
+    value_is(scopes, 1, 0, 0, 39, 6);
+    value_is(scopes, 1, 1, 0, 10, NO);
+    value_is(scopes, 0, 0, 0, 10, NO);
+    value_is(scopes, 2, 0, 0, 20, NO);
+    for (int far = 0; far < 2; far++) {
+        uint32_t out = 77;
+        size_t count = 77;
+        CHECK(smap_get_variables(scopes, far ? MAX : 3, &out, 1, &count) == SMAP_NO_ENTRY && out == 77 && count == 77);
+        CHECK(smap_value_at(scopes, far ? MAX : 3, 0, 0, 20, &out) == SMAP_NO_ENTRY && out == 77);
+    }
+    smap_free_scopes(scopes);
+    scopes = decoded(VALUES, 4);
+    variables_are(scopes, 0, LIST(OF_VALUES));
+    value_is(scopes, 0, 0, 1, 1, NO);
+    value_is(scopes, 0, 1, 0, 0, 2);
+    value_is(scopes, 0, 1, 1, 0, 2);
+    value_is(scopes, 0, 1, 1, 1, 3);
+    value_is(scopes, 0, 1, 2, 3, 3);
+    value_is(scopes, 0, MAX, 1, 1, NO);
+    smap_free_scopes(scopes);
+}
+
+/* ---- chains of scopes ---- */
+
+static int is_entry(const smap_chain_entry *it, const chain_row *wanted) {
+    return it->scope == wanted->scope && it->range == wanted->range;
+}
+
+/* Calls for the chain at a position, or for that of a frame there. */
+static uint32_t ask_chain(const smap_scopes *scopes, uint32_t frame, smap_position at, smap_chain_entry *out, size_t room, size_t *count) {
+    return frame == NO ? smap_scope_chain_at(scopes, at.line, at.column, out, room, count)
+                       : smap_scope_chain(scopes, frame, at.line, at.column, out, room, count);
+}
+
+/* The chain, in a buffer that is too long, and in one too short for the last. */
+static void chain_is(const smap_scopes *scopes, uint32_t frame, uint32_t line, uint32_t column, const chain_row *wanted, size_t len) {
+    smap_chain_entry out[8], kept_entry;
+    const smap_position there = at(line, column);
+    for (size_t room = len + 1;; room--) {
+        size_t count = 77, written = room < len ? room : len;
+        memset(out, 7, sizeof out), memset(&kept_entry, 7, sizeof kept_entry);
+        CHECK_ROW(ask_chain(scopes, frame, there, out, room, &count) == SMAP_OK && count == len, (int)column, "how many scopes");
+        for (size_t i = 0; i < written; i++) CHECK_ROW(is_entry(&out[i], &wanted[i]), (int)i, "an entry");
+        CHECK_ROW(memcmp(&out[written], &kept_entry, sizeof *out) == 0, (int)room, "room that is not needed");
+        if (room == 0) break;
+    }
+    size_t count = 77;
+    CHECK_ROW(ask_chain(scopes, frame, there, NULL, 0, &count) == SMAP_OK && count == len, (int)column, "how many scopes");
+}
+
+static void chains(void) {
+    static const chain_row OF_INNER[] = { { 2, 2 }, { 0, 0 } }, OF_OUTER[] = { { 1, 1 }, { 0, 0 } };
+    smap_scopes *scopes = decoded(INLINED, 7);
+    smap_chain_entry entry = { 77, 77 };
+    size_t count = 77;
+    chain_is(scopes, NO, 0, 25, LIST(OF_INNER));
+    chain_is(scopes, NO, 0, 15, LIST(OF_OUTER));
+    chain_is(scopes, NO, 0, 5, &OF_OUTER[1], 1);
+    chain_is(scopes, NO, 1, 0, NULL, 0);
+    chain_is(scopes, 0, 0, 25, LIST(OF_INNER));
+    chain_is(scopes, 1, 0, 25, LIST(OF_OUTER));
+    chain_is(scopes, 0, 0, 15, LIST(OF_OUTER));
+    CHECK(smap_scope_chain(scopes, 2, 0, 25, &entry, 1, &count) == SMAP_NO_ENTRY);
+    CHECK(smap_scope_chain(scopes, 1, 0, 15, &entry, 1, &count) == SMAP_NO_ENTRY);
+    CHECK(smap_scope_chain(scopes, 0, 1, 0, &entry, 1, &count) == SMAP_NO_ENTRY);
+    CHECK(smap_scope_chain(scopes, MAX, 0, 25, &entry, 1, &count) == SMAP_NO_ENTRY);
+    CHECK(entry.scope == 77 && entry.range == 77 && count == 77);
+    smap_free_scopes(scopes);
+    scopes = decoded(HIDDEN, 0);
+    chain_is(scopes, NO, 4, 0, NULL, 0);
+    smap_free_scopes(scopes);
+}
+
+/* A function, inlined into itself at columns 10 to 20; the same where the inner range is the code of none; and a block in a function, whose
+ * code stands around that of the function. */
+#define RECURSIVE "BFAAA,CJA,EGAA,ECKA,IABB,FK,FU"
+#define OF_NONE "BFAAA,CJA,EGAA,EAK,FK,FU"
+#define TURNED "BFAAA,BABA,CBC,CJA,ECAC,ECKD,FK,FU"
+
+static void chains_of_ranges(void) {
+    static const chain_row WHOLE[] = { { 0, 0 } }, INNER[] = { { 0, 1 } }, BLOCK[] = { { 1, 0 }, { 0, NO } };
+    smap_scopes *scopes = decoded(RECURSIVE, 1);
+    chain_is(scopes, NO, 0, 9, LIST(WHOLE));
+    chain_is(scopes, NO, 0, 10, LIST(INNER));
+    chain_is(scopes, NO, 0, 19, LIST(INNER));
+    chain_is(scopes, 0, 0, 15, LIST(INNER));
+    chain_is(scopes, 1, 0, 15, LIST(WHOLE));
+    chain_is(scopes, NO, 0, 20, LIST(WHOLE));
+    chain_is(scopes, NO, 0, 40, NULL, 0);
+    smap_free_scopes(scopes);
+    scopes = decoded(OF_NONE, 1);
+    chain_is(scopes, NO, 0, 9, LIST(WHOLE));
+    chain_is(scopes, NO, 0, 15, NULL, 0);
+    chain_is(scopes, 0, 0, 15, NULL, 0);
+    smap_free_scopes(scopes);
+    scopes = decoded(TURNED, 1);
+    chain_is(scopes, NO, 0, 5, LIST(BLOCK));
+    chain_is(scopes, NO, 0, 15, LIST(INNER));
+    smap_free_scopes(scopes);
+}
+
 /* ---- errors ---- */
 
 static const struct {
@@ -296,6 +449,7 @@ static const struct {
     { "BAAA,A", 0, SMAP_SCOPES_NOT_CLOSED, 5, "scopes, byte 5: the scopes before it are not closed" },
     { "BAAA", 0, SMAP_SCOPES_LEFT_OPEN, 4, "scopes, byte 4: a scope or a range has no end" },
     { "BAAA,CAA,EAA", 0, SMAP_SCOPES_LEFT_OPEN, 12, "scopes, byte 12: a scope or a range has no end" },
+    { "EAA,GB,HABAB,HABAB", 1, SMAP_SCOPES_SPLIT_TWICE, 13, "scopes, byte 13: the value has sub-ranges already" },
 };
 
 /* A fault of scopes, and its message. */
@@ -313,7 +467,7 @@ static void is_refused(const char *text, size_t names, uint32_t kind, uint64_t b
 static void errors(void) {
     CHECK(SMAP_SCOPES_NOT_A_DIGIT == 1 && SMAP_SCOPES_CUT_SHORT == 2 && SMAP_SCOPES_TOO_LARGE == 3 && SMAP_SCOPES_MISSING_NUMBER == 4);
     CHECK(SMAP_SCOPES_BAD_INDEX == 5 && SMAP_SCOPES_NOTHING_OPEN == 6 && SMAP_SCOPES_NOT_CLOSED == 7 && SMAP_SCOPES_TOO_DEEP == 8);
-    CHECK(SMAP_SCOPES_LEFT_OPEN == 9);
+    CHECK(SMAP_SCOPES_LEFT_OPEN == 9 && SMAP_SCOPES_SPLIT_TWICE == 10);
     for (size_t i = 0; i < LEN(REFUSED); i++)
         is_refused(REFUSED[i].text, REFUSED[i].names, REFUSED[i].kind, REFUSED[i].byte, REFUSED[i].message);
     smap_scopes *out = (smap_scopes *)&failed;
@@ -380,7 +534,8 @@ static const struct {
     { "[]", SMAP_OK, 0, 0, 0 },
     { "{\"scopes\":\"A\"}", SMAP_OK, 0, 0, 1 },
     { "{\"scopes\":\"BBAAA,CAA\",\"names\":null}", SMAP_BAD_SCOPES, SMAP_SCOPES_BAD_INDEX, 0, 0 },
-    { "{\"version\":3,\"sections\":[{\"offset\":{\"line\":0,\"column\":0},\"map\":" WITH(",\"scopes\":\"A\"") "}]}", SMAP_SCOPES_INDEXED, 0, 0, 0 },
+    { "{\"version\":3,\"sections\":[{\"offset\":{\"line\":0,\"column\":0},\"map\":" WITH(",\"scopes\":\"A\"") "}]}", SMAP_SCOPES_INDEXED, 0,
+      0, 0 },
     { "{\"sections\":null,\"scopes\":\"A\"}", SMAP_OK, 0, 0, 1 },
 };
 
@@ -428,6 +583,10 @@ void test_scopes(void) {
     finds();
     far_away();
     frames();
+    values();
+    sub_ranges();
+    chains();
+    chains_of_ranges();
     errors();
     deep();
     members();

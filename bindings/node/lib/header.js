@@ -71,6 +71,7 @@ const ScopesFault = Object.freeze({
   NOT_CLOSED: 7,
   TOO_DEEP: 8,
   LEFT_OPEN: 9,
+  SPLIT_TWICE: 10,
 });
 
 const Place = Object.freeze({
@@ -144,6 +145,7 @@ const Words = Object.freeze({
   SCOPE: 9,
   RANGE: 11,
   FRAME: 5,
+  CHAIN_ENTRY: 2,
 });
 
 module.exports = { NO_ID, Code, Field, ScopesFault, Place, Bias, Kind, Mend, Direction, Text, Language, Words };

@@ -78,6 +78,7 @@ scopes_back kinds.NothingOpen byte = refl
 scopes_back kinds.NotClosed byte = refl
 scopes_back kinds.TooDeep byte = refl
 scopes_back kinds.LeftOpen byte = refl
+scopes_back kinds.SplitTwice byte = refl
 
 pub read_back : (r : CallError) → IsSmall r → call_error_of (fault_of r) ≡ Some r
 read_back (Plan (Map VlqLeftover)) s = refl

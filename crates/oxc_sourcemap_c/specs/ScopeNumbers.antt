@@ -7,11 +7,13 @@ use Rattle.oxc_sourcemap_scopes.specs.declared.frames.OriginalScope.{OriginalSco
 use Rattle.oxc_sourcemap_scopes.specs.declared.frames.GeneratedRange.{GeneratedRange}
 use Rattle.oxc_sourcemap_scopes.specs.declared.scopes.CallSite.{CallSite}
 use Rattle.oxc_sourcemap_scopes.specs.declared.scopes.ScopeFrame.{ScopeFrame}
+use Rattle.oxc_sourcemap_scopes.specs.declared.chains.ScopeChainEntry.{ScopeChainEntry}
 use Rattle.oxc_sourcemap_c.specs.declared.texts.scopes.ScopesCounts.{ScopesCounts}
 use Rattle.oxc_sourcemap_c.specs.declared.texts.scopes.ScopeNumbers.{ScopeNumbers}
 use Rattle.oxc_sourcemap_c.specs.declared.texts.scopes.RangeNumbers.{RangeNumbers}
 use Rattle.oxc_sourcemap_c.specs.declared.texts.scopes.CallNumbers.{CallNumbers}
 use Rattle.oxc_sourcemap_c.specs.declared.texts.scopes.FrameNumbers.{FrameNumbers}
+use Rattle.oxc_sourcemap_c.specs.declared.texts.scopes.ChainEntryNumbers.{ChainEntryNumbers}
 use Rattle.oxc_sourcemap_c.specs.Answers.{flag_of}
 use Rattle.oxc_sourcemap_c.specs.Structs.{index_number, number_or_none}
 
@@ -59,3 +61,7 @@ frame_numbers s f = record {
   scope = index_number f.scope;
   call = call_numbers f.call_site;
 }
+
+-- the numbers of an entry of a chain of scopes
+abbrev pub chain_entry_numbers : ScopeChainEntry → ChainEntryNumbers
+chain_entry_numbers e = record { scope = index_number (Some e.scope); range = index_number e.range }

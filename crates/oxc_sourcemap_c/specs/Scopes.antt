@@ -1,20 +1,25 @@
 -- Calls on scopes.
-use Rattle.std.specs.Prelude.{◌≡◌, ◌⊎◌, ℕ, List, length, map, min, Option, Result, Ok, Err}
-use Rattle.std.specs.Prelude.{IsUtf8, MatchOption, MatchResult, option_map}
+use Rattle.std.specs.Prelude.{◌≡◌, ◌⊎◌, ℕ, List, length, map, Option, Some, None, Result, Ok, Err}
+use Rattle.std.specs.Prelude.{IsUtf8, MatchOption, MatchResult, option_map, nat_lt}
+use Rattle.std.specs.Prelude.{if◌then◌else◌}
 use Rattle.oxc_sourcemap_scopes.specs.Reading.{ScopesRecord, scopes_of, read_scopes}
-use Rattle.oxc_sourcemap_scopes.specs.Asking.{frames_at}
+use Rattle.oxc_sourcemap_scopes.specs.Asking.{frames_at, variables_of, value_at, scope_chain}
+use Rattle.oxc_sourcemap_scopes.specs.Asking.{scope_chain_at}
 use Rattle.oxc_sourcemap_scopes.specs.declared.errors.ScopesError.{ScopesError}
+use Rattle.oxc_sourcemap_scopes.specs.declared.chains.ScopeChainEntry.{ScopeChainEntry}
 use Rattle.oxc_sourcemap_c.specs.CallErrors.{IsNotText, of_scopes, out_of_memory}
 use Rattle.oxc_sourcemap_c.specs.Holding.{held_scopes}
 use Rattle.oxc_sourcemap_c.specs.Listed.{filled}
 use Rattle.oxc_sourcemap_c.specs.Answers.{flag_of}
 use Rattle.oxc_sourcemap_c.specs.Compiled.{IsWrittenOut}
-use Rattle.oxc_sourcemap_c.specs.ScopeNumbers.{frame_numbers}
+use Rattle.oxc_sourcemap_c.specs.ScopeNumbers.{frame_numbers, chain_entry_numbers}
+use Rattle.oxc_sourcemap_c.specs.Structs.{index_number, number_or_none}
 use Rattle.oxc_sourcemap_c.specs.declared.holding.held.Held.{Held}
 use Rattle.oxc_sourcemap_c.specs.declared.numbers.call_error.CallError.{CallError}
 use Rattle.oxc_sourcemap_c.specs.declared.numbers.call_error.CallError.TheVariants.{NullHandle}
 use Rattle.oxc_sourcemap_c.specs.declared.numbers.call_error.CallError.TheVariants.{NoEntry}
 use Rattle.oxc_sourcemap_c.specs.declared.texts.scopes.FrameNumbers.{FrameNumbers}
+use Rattle.oxc_sourcemap_c.specs.declared.texts.scopes.ChainEntryNumbers.{ChainEntryNumbers}
 
 -- a handle holds scopes of which this holds
 abbrev pub HoldsScopes : Option Held → (ScopesRecord → Type 0) → Type 0
@@ -37,13 +42,9 @@ abbrev pub IsScopesAnswer : {A : Type 0} → Option Held → (ScopesRecord → O
 IsScopesAnswer held ask answer =
     MatchOption (held_scopes held) (answer ≡ Err NullHandle) (λ s. MatchOption (ask s) (answer ≡ Err NoEntry) (λ found. answer ≡ Ok found))
 
--- an index as a number, 4294967295 if it is not below that
-abbrev pub index_as_number : ℕ → ℕ
-index_as_number i = min i 4294967295
-
 -- what scopes in a handle answer where an index is asked for
 abbrev pub IsIndexAnswer : Option Held → (ScopesRecord → Option ℕ) → Result ℕ CallError → Type 0
-IsIndexAnswer held ask answer = IsScopesAnswer held (λ s. option_map index_as_number (ask s)) answer
+IsIndexAnswer held ask answer = IsScopesAnswer held (λ s. option_map (λ i. index_number (Some i)) (ask s)) answer
 
 -- the code and the output for that
 abbrev pub IsIndexWritten : Option Held → (ScopesRecord → Option ℕ) → ℕ → ℕ → ℕ → Type 0
@@ -64,3 +65,36 @@ abbrev pub AreFrames : Option Held → ℕ → ℕ → Result (ℕ × ℕ) CallE
 AreFrames held line column answer old new =
     MatchOption (held_scopes held) ((answer ≡ Err NullHandle) × (new ≡ old))
     (λ s. MatchResult answer (λ found. AreFramesOf s line column old new found.0 found.1) (λ r. (r ≡ out_of_memory) × (new ≡ old)))
+
+-- the variables of the scope with this index in a handle, as many as there was room for, and how many there are: `NullHandle`, `NoEntry`,
+-- or these
+abbrev pub AreVariables : Option Held → ℕ → Result ℕ CallError → List ℕ → List ℕ → Type 0
+AreVariables held scope answer old new =
+    MatchOption (held_scopes held) ((answer ≡ Err NullHandle) × (new ≡ old))
+    (λ s. MatchOption (variables_of s scope) ((answer ≡ Err NoEntry) × (new ≡ old)) (λ list. (answer ≡ Ok (length list)) × (new ≡ filled list old)))
+
+-- this, if a list has an entry at an index
+abbrev pub if_entry : {A B : Type 0} → List B → ℕ → A → Option A
+if_entry list i it = if nat_lt i (length list) then Some it else None
+
+-- what scopes in a handle answer where the value of a variable in a range is asked for, at a generated position
+abbrev pub IsValue : Option Held → ℕ → ℕ → ℕ → ℕ → Result ℕ CallError → Type 0
+IsValue held range variable line column answer =
+    IsScopesAnswer held (λ s. if_entry s.ranges range (number_or_none (value_at s range variable line column))) answer
+
+-- a chain of scopes was written, as many entries as there was room for, and how many there are told; or nothing, as memory was refused
+abbrev pub IsChain : List ScopeChainEntry → Result ℕ CallError → List ChainEntryNumbers → List ChainEntryNumbers → Type 0
+IsChain chain answer old new =
+    MatchResult answer (λ count. (count ≡ length chain) × (new ≡ filled (map chain_entry_numbers chain) old)) (λ r. (r ≡ out_of_memory) × (new ≡ old))
+
+-- the result of asking what a handle holds for the chain at a generated position
+abbrev pub IsChainAt : Option Held → ℕ → ℕ → Result ℕ CallError → List ChainEntryNumbers → List ChainEntryNumbers → Type 0
+IsChainAt held line column answer old new =
+    MatchOption (held_scopes held) ((answer ≡ Err NullHandle) × (new ≡ old)) (λ s. IsChain (scope_chain_at s line column) answer old new)
+
+-- the same for that of a frame with this index; there may also be no such frame
+abbrev pub IsChainOf : Option Held → ℕ → ℕ → ℕ → Result ℕ CallError → List ChainEntryNumbers → List ChainEntryNumbers → Type 0
+IsChainOf held frame line column answer old new =
+    MatchOption (held_scopes held) ((answer ≡ Err NullHandle) × (new ≡ old))
+    (λ s. MatchOption (scope_chain s frame line column) (((answer ≡ Err NoEntry) ⊎ (answer ≡ Err out_of_memory)) × (new ≡ old))
+    (λ chain. IsChain chain answer old new))

@@ -10,6 +10,7 @@ use Rattle.oxc_sourcemap_scopes.specs.declared.errors.ScopesFaultKind.TheVariant
 use Rattle.oxc_sourcemap_scopes.specs.declared.errors.ScopesFaultKind.TheVariants.{NotClosed}
 use Rattle.oxc_sourcemap_scopes.specs.declared.errors.ScopesFaultKind.TheVariants.{TooDeep}
 use Rattle.oxc_sourcemap_scopes.specs.declared.errors.ScopesFaultKind.TheVariants.{LeftOpen}
+use Rattle.oxc_sourcemap_scopes.specs.declared.errors.ScopesFaultKind.TheVariants.{SplitTwice}
 
 -- the number of a kind, from 1
 abbrev pub number_of_fault_kind : ScopesFaultKind → ℕ
@@ -22,6 +23,7 @@ number_of_fault_kind NothingOpen = 6
 number_of_fault_kind NotClosed = 7
 number_of_fault_kind TooDeep = 8
 number_of_fault_kind LeftOpen = 9
+number_of_fault_kind SplitTwice = 10
 
 -- the kind with this number
 abbrev pub fault_kind_of : ℕ → Option ScopesFaultKind
@@ -35,4 +37,5 @@ fault_kind_of n =
     else if n == 7 then Some NotClosed
     else if n == 8 then Some TooDeep
     else if n == 9 then Some LeftOpen
+    else if n == 10 then Some SplitTwice
     else None

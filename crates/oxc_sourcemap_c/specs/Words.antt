@@ -143,10 +143,11 @@ pub use Rattle.oxc_sourcemap_c.specs.Holding.{held_scopes}
 pub use Rattle.oxc_sourcemap_c.specs.ScopesKinds.{number_of_fault_kind, fault_kind_of}
 pub use Rattle.oxc_sourcemap_c.specs.ScopeNumbers.{scopes_counts_of, scope_numbers, range_numbers}
 pub use Rattle.oxc_sourcemap_c.specs.ScopeNumbers.{call_numbers, frame_numbers, name_of_scope}
+pub use Rattle.oxc_sourcemap_c.specs.ScopeNumbers.{chain_entry_numbers}
 pub use Rattle.oxc_sourcemap_c.specs.Scopes.{HoldsScopes, IsReadScopesError, IsDecodeScopesError}
 pub use Rattle.oxc_sourcemap_c.specs.Scopes.{IsScopesAnswer, IsIndexAnswer, IsIndexWritten}
-pub use Rattle.oxc_sourcemap_c.specs.Scopes.{index_as_number}
-pub use Rattle.oxc_sourcemap_c.specs.Scopes.{ListsFrames, AreFrames}
+pub use Rattle.oxc_sourcemap_c.specs.Scopes.{ListsFrames, AreFrames, AreVariables, IsValue}
+pub use Rattle.oxc_sourcemap_c.specs.Scopes.{IsChainAt, IsChainOf}
 pub use Rattle.oxc_sourcemap_c.specs.declared.texts.scopes.ScopeNumbers.{ScopeNumbers}
 pub use Rattle.oxc_sourcemap_c.specs.declared.texts.scopes.RangeNumbers.{RangeNumbers}
 pub use Rattle.oxc_sourcemap_c.specs.declared.numbers.call_error.CallError.TheVariants.{NoEntry}

@@ -18,6 +18,7 @@ pub(crate) fn number_of_fault_kind(kind: ScopesFaultKind) -> u32
         ScopesFaultKind::NotClosed => 7,
         ScopesFaultKind::TooDeep => 8,
         ScopesFaultKind::LeftOpen => 9,
+        ScopesFaultKind::SplitTwice => 10,
     }
 }
 
@@ -35,6 +36,7 @@ pub(crate) fn fault_kind_of(number: u32) -> Option<ScopesFaultKind>
         7 => Some(ScopesFaultKind::NotClosed),
         8 => Some(ScopesFaultKind::TooDeep),
         9 => Some(ScopesFaultKind::LeftOpen),
+        10 => Some(ScopesFaultKind::SplitTwice),
         _ => None,
     }
 }

@@ -1,8 +1,8 @@
 //! What scopes in handles say.
-ghost use Rattle.std.specs.Prelude.{◌≡◌, ◌≢◌, None, Result, Ok, Err, ℕ, map};
+ghost use Rattle.std.specs.Prelude.{◌≡◌, ◌≢◌, None, Some, Result, Ok, Err, ℕ, map};
 ghost use Rattle.std.specs.Prelude.{MatchOption, option_map};
 ghost use Rattle.oxc_sourcemap_c.specs.Words.{IsScopesAnswer, IsWrittenOut, held_scopes, filled};
-ghost use Rattle.oxc_sourcemap_c.specs.Words.{index_as_number};
+ghost use Rattle.oxc_sourcemap_c.specs.Words.{index_number};
 ghost use Rattle.oxc_sourcemap_c.specs.Words.{IsIndexAnswer, IsIndexWritten};
 ghost use Rattle.oxc_sourcemap_c.specs.Words.{scopes_counts_of, scope_numbers, range_numbers};
 ghost use Rattle.oxc_sourcemap_c.specs.Words.{frame_numbers, NullHandle, NoEntry, code_of};
@@ -83,7 +83,7 @@ pub extern "C" fn proved_range(scopes: &Lent, index: u32, out: &mut RangeNumbers
 
 /// The number of an index that was found. Fails with `NoEntry` if there is none.
 fn found(index: Option<usize>) -> Result<u32, CallError>
-    ensures { MatchOption index (result ≡ Err NoEntry) (λ i. result ≡ Ok (index_as_number i)) }
+    ensures { MatchOption index (result ≡ Err NoEntry) (λ i. result ≡ Ok (index_number (Some i))) }
 {
     match index {
         Some(index) => Ok(index_or_none(Some(index))),

@@ -2,10 +2,13 @@
 ghost use Rattle.std.specs.Prelude.{◌≡◌};
 ghost use Rattle.oxc_sourcemap_c.specs.Words.{scope_numbers, range_numbers, frame_numbers};
 ghost use Rattle.oxc_sourcemap_c.specs.Words.{scopes_counts_of, call_numbers, name_of_scope};
+ghost use Rattle.oxc_sourcemap_c.specs.Words.{chain_entry_numbers};
 
 use crate::reading::getters::flag;
 use crate::texts::text::{index_or_none, number_or_none};
-use oxc_sourcemap_scopes::{CallSite, GeneratedRange, OriginalScope, ScopeFrame, Scopes};
+use oxc_sourcemap_scopes::{
+    CallSite, GeneratedRange, OriginalScope, ScopeChainEntry, ScopeFrame, Scopes,
+};
 use oxc_sourcemap_tokens::Position;
 
 /// How many sources, scopes and ranges there are.
@@ -145,6 +148,27 @@ impl FrameNumbers {
             name: number_or_none(name_of(scopes, frame.scope)),
             scope: index_or_none(frame.scope),
             call: CallNumbers::of(frame.call_site),
+        }
+    }
+}
+
+/// A scope around a generated position, and the range that has the values of its variables, by their index. 4294967295 stands for no
+/// range.
+#[repr(C)]
+#[derive(Clone, Copy)]
+pub struct ChainEntryNumbers {
+    pub scope: u32,
+    pub range: u32,
+}
+
+impl ChainEntryNumbers {
+    /// The numbers of an entry.
+    pub fn of(entry: &ScopeChainEntry) -> ChainEntryNumbers
+        ensures { result ≡ chain_entry_numbers entry.now }
+    {
+        ChainEntryNumbers {
+            scope: index_or_none(Some(entry.scope)),
+            range: index_or_none(entry.range),
         }
     }
 }

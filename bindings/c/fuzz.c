@@ -81,45 +81,14 @@ static void replace(buffer *it, size_t at, size_t len, const char *with, size_t 
 }
 
 static const char *const PIECES[] = {
-    "0",
-    "-1",
-    "4294967295",
-    "4294967296",
-    "1e99",
-    "3.0",
-    "null",
-    "true",
-    "\"\"",
-    "[]",
-    "{}",
-    ",",
-    ";",
-    ";;;;",
-    "\"",
-    "\\",
-    "\\ud800",
-    "\\u0000",
-    "\xff",
-    "\xc3\xa9",
-    "\xf0\x9f\x98\x80",
-    "\xef\xbb\xbf",
-    ")]}'\n",
-    "AAAA",
-    "+/////H",
-    "+/////HAAAA",
-    "D",
-    "gggggggg",
-    "AAAAA",
-    "\"version\":3,",
-    "\"sources\":null,",
-    "\"sections\":[",
-    "\"ignoreList\":[0,7],",
-    "\"x_google_ignoreList\":[1],",
-    "\"names\":[\"x\"],",
-    "\"sourcesContent\":[null,\"x\"],",
-    "\"mappings\":\"",
-    "{\"offset\":{\"line\":0,\"column\":0},\"map\":",
-    "data:application/json,",
+    "0", "-1", "4294967295", "4294967296", "1e99", "3.0", "null", "true", "\"\"", "[]", "{}", ",", ";", ";;;;", "\"", "\\",
+        "\\ud800",
+    "\\u0000", "\xff", "\xc3\xa9", "\xf0\x9f\x98\x80", "\xef\xbb\xbf", ")]}'\n", "AAAA", "+/////H", "+/////HAAAA", "D", "gggggggg",
+        "AAAAA",
+    "\"version\":3,", "\"sources\":null,", "\"sections\":[", "\"ignoreList\":[0,7],", "\"x_google_ignoreList\":[1],",
+        "\"names\":[\"x\"],",
+    "\"sourcesContent\":[null,\"x\"],", "\"mappings\":\"", "{\"offset\":{\"line\":0,\"column\":0},\"map\":",
+        "data:application/json,",
 };
 
 static void mutate(buffer *it) {
@@ -128,25 +97,15 @@ static void mutate(buffer *it) {
     const char *piece = PIECES[below(sizeof PIECES / sizeof *PIECES)];
     char byte = (char)below(256);
     switch (below(8)) {
-    case 0: replace(it, at, 1, &byte, 1); break;
-    case 1: replace(it, at, len, "", 0); break;
-    case 2: replace(it, at, below(2), piece, strlen(piece)); break;
-    case 3: replace(it, at, len, other->at + from, len < other->len - from ? len : other->len - from); break;
-    case 4:
-        byte = "ABCDEFGHIJKLMNOPQRSTUVWXYZabcdefghijklmnopqrstuvwxyz0123456789+/,;"[below(66)];
-        replace(it, at, 1, &byte, 1);
-        break;
-    case 5:
-        byte = "{}[]\":, 0123456789"[below(18)];
-        replace(it, at, below(2), &byte, 1);
-        break;
-    case 6:
-        if (!below(8)) it->len = at;
-        break;
-    default:
-        byte = ",;"[below(2)];
-        replace(it, at, 0, &byte, 1);
-        break;
+        case 0: replace(it, at, 1, &byte, 1); break;
+        case 1: replace(it, at, len, "", 0); break;
+        case 2: replace(it, at, below(2), piece, strlen(piece)); break;
+        case 3: replace(it, at, len, other->at + from, len < other->len - from ? len : other->len - from); break;
+        case 4: byte = "ABCDEFGHIJKLMNOPQRSTUVWXYZabcdefghijklmnopqrstuvwxyz0123456789+/,;"[below(66)]; replace(it, at, 1, &byte,
+            1); break;
+        case 5: byte = "{}[]\":, 0123456789"[below(18)]; replace(it, at, below(2), &byte, 1); break;
+        case 6: if (!below(8)) it->len = at; break;
+        default: byte = ",;"[below(2)]; replace(it, at, 0, &byte, 1); break;
     }
 }
 
@@ -233,7 +192,7 @@ static void look_up(const smap_map *map, const smap_counts *counts, uint32_t is_
 static void look_back(const smap_map *map, const smap_counts *counts) {
     size_t count;
     uint32_t index, direction = (uint32_t)below(4), source = (uint32_t)below(counts->sources + 1), line = (uint32_t)below(30),
-                    column = (uint32_t)below(90);
+        column = (uint32_t)below(90);
     smap_token token;
     smap_token *tokens = all_tokens(map, counts);
     if (counts->tokens && below(2)) {
@@ -244,7 +203,8 @@ static void look_back(const smap_map *map, const smap_counts *counts) {
     uint32_t *out = exact(OUT, count * sizeof *out);
     MUST(smap_all_generated(map, source, line, column, direction, out, count, &count) == SMAP_OK);
     uint32_t code = smap_generated(map, source, line, column, direction, &index, &token);
-    MUST(code == (count ? SMAP_OK : SMAP_NO_ENTRY) && (code || (index == out[0] && memcmp(&token, &tokens[index], sizeof token) == 0)));
+    MUST(code == (count ? SMAP_OK : SMAP_NO_ENTRY) && (code || (index == out[0] &&
+         memcmp(&token, &tokens[index], sizeof token) == 0)));
     for (size_t i = 0; i < count; i++) MUST(tokens[out[i]].source_id == source && tokens[out[i]].src_line == line);
 }
 
@@ -531,8 +491,8 @@ static void build(const smap_map *map, const smap_counts *counts, const buffer *
     size_t len = below(text->len < 20 ? text->len : 20), count;
     const char *at = copied(text->at, len);
     smap_token *tokens = all_tokens(map, counts);
-    for (size_t i = below(4); i < counts->tokens && i < 4; i++)
-        ((uint32_t *)&tokens[below(counts->tokens)])[below(6)] = (uint32_t)below(9) - 1;
+    for (size_t i = below(4); i < counts->tokens &&
+        i < 4; i++) ((uint32_t *)&tokens[below(counts->tokens)])[below(6)] = (uint32_t)below(9) - 1;
     smap_text *names = exact(OUT, counts->names * sizeof *names);
     MUST(smap_get_names(map, names, counts->names, &count) == SMAP_OK);
     MADE(smap_from_tokens(tokens, counts->tokens, names, count, names, count, names, count, NULL, 0, &out, &fault));
@@ -554,8 +514,8 @@ static void build(const smap_map *map, const smap_counts *counts, const buffer *
 
 /* Evaluates words at random over a text. */
 static void evaluate(const buffer *text) {
-    static const char *const WORD[] = { "@0",     "@1",      "sort",  "rewrite", "root", "simplify", "join",
-                                        "joinat", "compose", "remap", "1",       "2",    "0",        "x" };
+    static const char *const WORD[] = { "@0", "@1", "sort", "rewrite", "root", "simplify", "join", "joinat", "compose", "remap",
+        "1", "2", "0", "x" };
     smap_text words[12], texts[2];
     size_t len = below(12);
     smap_fault fault;
@@ -570,26 +530,10 @@ static void evaluate(const buffer *text) {
 
 /* Texts of scopes, whole ones and single items. */
 static const char *const SCOPES[] = {
-    "BFAAA,BHCAGA,CCA,BACA,CCA,CJA,",
-    "A,BCCDA,CAG,",
-    "EGAA,ECKC,IAFC,FK,FU,",
-    "EMA,ECCA,FE,FC,",
-    "BAAA,DAC,CJA,",
-    "BFAAA,CJA,",
-    "BABA,",
-    "CBA,",
-    "ECAC,",
-    "EBBA,",
-    "EAC,",
-    "FBA,",
-    "FC,",
-    "IACB,",
-    "IBED,",
-    "BAAA,DAC,CJA,ECAA,GBA,FU,",
-    "BFAAA,DEDC,",
-    "EGAC,GAB,HBBBA,",
-    "DC,",
-    "GACB,",
+    "BFAAA,BHCAGA,CCA,BACA,CCA,CJA,", "A,BCCDA,CAG,", "EGAA,ECKC,IAFC,FK,FU,", "EMA,ECCA,FE,FC,", "BAAA,DAC,CJA,",
+    "BFAAA,CJA,",                     "BABA,",         "CBA,",                  "ECAC,",           "EBBA,",
+    "EAC,",                           "FBA,",          "FC,",                   "IACB,",           "IBED,",
+    "BAAA,DAC,CJA,ECAA,GBA,FU,",      "BFAAA,DEDC,",   "EGAC,GAB,HBBBA,",       "DC,",             "GACB,",
     "HAAFBBCA,",
 };
 
@@ -660,10 +604,8 @@ static void ask_scopes(const smap_scopes *scopes, const smap_scopes_counts *coun
     MUST(smap_frames_at(scopes, at.line, at.column, frames, count, &count, NULL) == SMAP_OK);
     for (size_t i = 0; i < count; i++) {
         MUST((frames[i].call.source == SMAP_NO_ID) == (i == 0));
-        if (frames[i].scope == SMAP_NO_ID)
-            MUST(frames[i].name == SMAP_NO_ID);
-        else
-            MUST(smap_get_scope(scopes, frames[i].scope, &scope) == SMAP_OK && scope.is_stack_frame && scope.name == frames[i].name);
+        if (frames[i].scope == SMAP_NO_ID) MUST(frames[i].name == SMAP_NO_ID);
+        else MUST(smap_get_scope(scopes, frames[i].scope, &scope) == SMAP_OK && scope.is_stack_frame && scope.name == frames[i].name);
     }
     frames = exact(OUT, few * sizeof *frames);
     MUST(smap_frames_at(scopes, at.line, at.column, frames, few, &count, &is_hidden) == SMAP_OK);
@@ -730,8 +672,7 @@ static void ask_chains(const smap_scopes *scopes) {
     smap_frame frames[8];
     uint32_t index, first = SMAP_NO_ID, is_hidden;
     size_t count, all;
-    if (!smap_range_at(scopes, at.line, at.column, &index))
-        MUST(smap_get_range(scopes, index, &range) == SMAP_OK), first = range.definition;
+    if (!smap_range_at(scopes, at.line, at.column, &index)) MUST(smap_get_range(scopes, index, &range) == SMAP_OK), first = range.definition;
     MUST(smap_scope_chain_at(scopes, at.line, at.column, NULL, 0, &count) == SMAP_OK);
     smap_chain_entry *chain = exact(OUT, count * sizeof *chain);
     MUST(smap_scope_chain_at(scopes, at.line, at.column, chain, count, &all) == SMAP_OK && all == count);
@@ -804,10 +745,8 @@ static void try_text(const buffer *text, smap_map **kept) {
     told(answer, &fault);
     uint32_t answer_found = smap_read_found(copied(text->at, text->len), text->len, &found, &mends, &of_found);
     told(answer_found, &of_found);
-    if (answer)
-        refused_maps++;
-    else
-        read_maps++;
+    if (answer) refused_maps++;
+    else read_maps++;
     if (!answer_found) {
         size_t count;
         MUST(smap_get_mends(mends, NULL, 0, &count) == SMAP_OK);
@@ -858,12 +797,10 @@ int main(int argc, char **argv) {
         for (size_t n = below(below(4) ? 3 : 40); n; n--) mutate(&text);
         try_text(&text, &kept);
     }
-    printf("%lu texts read, %lu refused; %lu compiled maps damaged, %lu of them opened, %lu taken apart\n", read_maps, refused_maps,
-           damaged_bytes, damaged_maps, taken_apart);
-    printf("%lu texts of scopes read, %lu refused; %lu lists of variables, %lu values\n", read_scopes, refused_scopes, read_variables,
-           read_values);
-    MUST(rounds < 1000 ||
-         (read_scopes > rounds / 2 && refused_scopes > rounds / 2 && read_variables > rounds / 2 && read_values > rounds / 9));
+    printf("%lu texts read, %lu refused; %lu compiled maps damaged, %lu of them opened, %lu taken apart\n", read_maps, refused_maps, damaged_bytes,
+           damaged_maps, taken_apart);
+    printf("%lu texts of scopes read, %lu refused; %lu lists of variables, %lu values\n", read_scopes, refused_scopes, read_variables, read_values);
+    MUST(rounds < 1000 || (read_scopes > rounds / 2 && refused_scopes > rounds / 2 && read_variables > rounds / 2 && read_values > rounds / 9));
     MUST(rounds < 1000 || (taken_apart > rounds && damaged_maps > taken_apart && damaged_bytes > damaged_maps));
     smap_free_map(kept);
     for (size_t i = 0; i < files_len; i++) free(files[i].at);

@@ -60,26 +60,20 @@ namespace detail {
 
 /* What a call that is given room for `out_len` characters writes. */
 template <class Call> std::string written(Call call) {
-    std::string out(call(nullptr, std::size_t{ 0 }), '\0');
+    std::string out(call(nullptr, std::size_t{0}), '\0');
     out.resize(std::min(out.size(), call(out.data(), out.size())));
     return out;
 }
 
-inline std::string_view view(const smap_text &text) {
-    return { text.len ? text.at : "", text.len };
-}
+inline std::string_view view(const smap_text &text) { return {text.len ? text.at : "", text.len}; }
 
-inline smap_text lent(std::string_view text) {
-    return { text.data(), text.size() };
-}
-inline smap_text lent(const std::string &text) {
-    return { text.data(), text.size() };
-}
+inline smap_text lent(std::string_view text) { return {text.data(), text.size()}; }
+inline smap_text lent(const std::string &text) { return {text.data(), text.size()}; }
 
 /* A text that is known even if it is empty, and one that may not be known. */
 inline smap_text lent(const std::optional<std::string_view> &text) {
-    if (!text) return { nullptr, 0 };
-    return { text->data() ? text->data() : "", text->size() };
+    if (!text) return {nullptr, 0};
+    return {text->data() ? text->data() : "", text->size()};
 }
 
 template <class Texts> std::vector<smap_text> all_lent(const Texts &texts) {
@@ -89,14 +83,10 @@ template <class Texts> std::vector<smap_text> all_lent(const Texts &texts) {
     return all;
 }
 
-template <class Option> constexpr std::uint32_t number(Option option) {
-    return static_cast<std::uint32_t>(option);
-}
+template <class Option> constexpr std::uint32_t number(Option option) { return static_cast<std::uint32_t>(option); }
 
 template <auto FREE> struct Frees {
-    template <class Handle> void operator()(Handle *handle) const noexcept {
-        FREE(handle);
-    }
+    template <class Handle> void operator()(Handle *handle) const noexcept { FREE(handle); }
 };
 
 template <class Handle, auto FREE> using Owner = std::unique_ptr<Handle, Frees<FREE>>;
@@ -107,20 +97,13 @@ template <class Handle, auto FREE> using Owner = std::unique_ptr<Handle, Frees<F
  * little for the message, that is the name of the code.) */
 class Error : public std::runtime_error {
   public:
-    explicit Error(const smap_fault &fault) : std::runtime_error(words(fault)), fault_(fault) {}
+    explicit Error(const smap_fault &fault)
+        : std::runtime_error(words(fault)), fault_(fault) {}
 
-    std::uint32_t code() const noexcept {
-        return fault_.code;
-    }
-    const char *name() const noexcept {
-        return smap_code_name(fault_.code);
-    }
-    std::uint64_t detail() const noexcept {
-        return fault_.detail;
-    }
-    const smap_fault &fault() const noexcept {
-        return fault_;
-    }
+    std::uint32_t code() const noexcept { return fault_.code; }
+    const char *name() const noexcept { return smap_code_name(fault_.code); }
+    std::uint64_t detail() const noexcept { return fault_.detail; }
+    const smap_fault &fault() const noexcept { return fault_; }
 
     /* Where the fault is, as `line 0, segment 3 (byte 12)`; empty where no place is told. */
     std::string place() const {
@@ -192,7 +175,7 @@ template <class Call> std::optional<std::string_view> text_entry(Call call) {
 /* A list that a call writes; it is counted first. */
 template <class T, class Call> std::vector<T> list(Call call) {
     std::size_t count = 0;
-    check(call(nullptr, std::size_t{ 0 }, &count));
+    check(call(nullptr, std::size_t{0}, &count));
     std::vector<T> out(count);
     check(call(out.data(), out.size(), &count));
     return out;
@@ -218,25 +201,13 @@ class Text {
         detail::check(smap_get_text(own_.get(), &text));
         return detail::view(text);
     }
-    operator std::string_view() const SMAP_LENT {
-        return view();
-    }
-    const char *data() const SMAP_LENT {
-        return view().data();
-    }
-    std::size_t size() const {
-        return view().size();
-    }
-    std::string str() const {
-        return std::string(view());
-    }
-    smap_string *release() noexcept {
-        return own_.release();
-    }
+    operator std::string_view() const SMAP_LENT { return view(); }
+    const char *data() const SMAP_LENT { return view().data(); }
+    std::size_t size() const { return view().size(); }
+    std::string str() const { return std::string(view()); }
+    smap_string *release() noexcept { return own_.release(); }
 
-    friend bool operator==(const Text &one, std::string_view other) {
-        return one.view() == other;
-    }
+    friend bool operator==(const Text &one, std::string_view other) { return one.view() == other; }
     template <class Stream> friend auto operator<<(Stream &to, const Text &text) -> decltype(to << std::string_view()) {
         return to << text.view();
     }
@@ -257,7 +228,7 @@ namespace detail {
 
 inline std::optional<Original> original(const smap_original &found) {
     if (found.kind == SMAP_NOTHING) return std::nullopt;
-    Original original{ found.token, found.index, std::nullopt, std::nullopt };
+    Original original{found.token, found.index, std::nullopt, std::nullopt};
     if (found.kind != SMAP_UNMAPPED) original.source = view(found.source);
     if (found.kind == SMAP_NAMED) original.name = view(found.name);
     return original;
@@ -301,15 +272,9 @@ class SourceMap {
     explicit SourceMap(smap_map *handle) noexcept : own_(handle) {}
 
     /* The handle, for calls of oxc_sourcemap.h; and taken away, to be freed by the caller. */
-    const smap_map *get() const noexcept {
-        return own_.get();
-    }
-    smap_map *get() noexcept {
-        return own_.get();
-    }
-    smap_map *release() noexcept {
-        return own_.release();
-    }
+    const smap_map *get() const noexcept { return own_.get(); }
+    smap_map *get() noexcept { return own_.get(); }
+    smap_map *release() noexcept { return own_.release(); }
 
     static SourceMap from_json(std::string_view json) {
         return made([&](smap_map **out, smap_fault *fault) { return smap_from_json_string(json.data(), json.size(), out, fault); });
@@ -325,8 +290,8 @@ class SourceMap {
         auto lent_names = detail::all_lent(names), lent_sources = detail::all_lent(sources), lent_contents = detail::all_lent(contents);
         return made([&](smap_map **out, smap_fault *fault) {
             return smap_from_tokens(tokens.data(), tokens.size(), lent_names.data(), lent_names.size(), lent_sources.data(),
-                                    lent_sources.size(), lent_contents.data(), lent_contents.size(), ignore_list.data(), ignore_list.size(),
-                                    out, fault);
+                                    lent_sources.size(), lent_contents.data(), lent_contents.size(), ignore_list.data(),
+                                    ignore_list.size(), out, fault);
         });
     }
 
@@ -373,47 +338,23 @@ class SourceMap {
 
     /* ---- what it holds ---- */
 
-    Counts counts() const {
-        return *detail::entry<Counts>([&](Counts *out) { return smap_get_counts(get(), out); });
-    }
-    bool is_sorted() const {
-        return flag(smap_is_sorted);
-    }
-    bool is_sound() const {
-        return flag(smap_is_sound);
-    }
+    Counts counts() const { return *detail::entry<Counts>([&](Counts *out) { return smap_get_counts(get(), out); }); }
+    bool is_sorted() const { return flag(smap_is_sorted); }
+    bool is_sound() const { return flag(smap_is_sound); }
 
-    std::optional<std::string_view> file() const SMAP_LENT {
-        return text(smap_get_file);
-    }
-    std::optional<std::string_view> source_root() const SMAP_LENT {
-        return text(smap_get_source_root);
-    }
-    std::optional<std::string_view> debug_id() const SMAP_LENT {
-        return text(smap_get_debug_id);
-    }
-    std::optional<std::string_view> name(std::uint32_t id) const SMAP_LENT {
-        return text_of(smap_get_name, id);
-    }
-    std::optional<std::string_view> source(std::uint32_t id) const SMAP_LENT {
-        return text_of(smap_get_source, id);
-    }
-    std::optional<std::string_view> source_content(std::uint32_t id) const SMAP_LENT {
-        return text_of(smap_get_source_content, id);
-    }
+    std::optional<std::string_view> file() const SMAP_LENT { return text(smap_get_file); }
+    std::optional<std::string_view> source_root() const SMAP_LENT { return text(smap_get_source_root); }
+    std::optional<std::string_view> debug_id() const SMAP_LENT { return text(smap_get_debug_id); }
+    std::optional<std::string_view> name(std::uint32_t id) const SMAP_LENT { return text_of(smap_get_name, id); }
+    std::optional<std::string_view> source(std::uint32_t id) const SMAP_LENT { return text_of(smap_get_source, id); }
+    std::optional<std::string_view> source_content(std::uint32_t id) const SMAP_LENT { return text_of(smap_get_source_content, id); }
     std::optional<Token> token(std::uint32_t index) const {
         return detail::entry<Token>([&](Token *out) { return smap_get_token(get(), index, out); });
     }
 
-    std::vector<Token> tokens() const {
-        return list<Token>(smap_get_tokens);
-    }
-    std::vector<std::string_view> names() const SMAP_LENT {
-        return texts(smap_get_names);
-    }
-    std::vector<std::string_view> sources() const SMAP_LENT {
-        return texts(smap_get_sources);
-    }
+    std::vector<Token> tokens() const { return list<Token>(smap_get_tokens); }
+    std::vector<std::string_view> names() const SMAP_LENT { return texts(smap_get_names); }
+    std::vector<std::string_view> sources() const SMAP_LENT { return texts(smap_get_sources); }
     std::vector<std::optional<std::string_view>> source_contents() const SMAP_LENT {
         std::vector<std::optional<std::string_view>> contents;
         for (const auto &it : list<smap_text>(smap_get_source_contents))
@@ -450,17 +391,14 @@ class SourceMap {
         return found;
     }
     std::vector<Piece> pieces(Position begin, Position end) const {
-        return detail::list<Piece>(
-            [&](Piece *out, std::size_t len, std::size_t *count) { return smap_pieces(get(), begin, end, out, len, count); });
+        return detail::list<Piece>([&](Piece *out, std::size_t len, std::size_t *count) { return smap_pieces(get(), begin, end, out, len, count); });
     }
     std::optional<Position> first_difference(const SourceMap &other) const {
         return detail::entry<Position>([&](Position *out) { return smap_first_difference(get(), other.get(), out); });
     }
 
     /* Makes the index that the next two calls need, if there is none. */
-    void index_sources() {
-        change([&](smap_fault *fault) { return smap_index_sources(get(), fault); });
-    }
+    void index_sources() { change([&](smap_fault *fault) { return smap_index_sources(get(), fault); }); }
     std::optional<std::pair<std::uint32_t, Token>> generated(std::uint32_t source_id, std::uint32_t line, std::uint32_t column,
                                                              Direction direction = Direction::At) const {
         return detail::entry<std::pair<std::uint32_t, Token>>([&](auto *out) {
@@ -476,15 +414,9 @@ class SourceMap {
 
     /* ---- changing ---- */
 
-    void set_file(std::string_view file) {
-        set(smap_set_file, file);
-    }
-    void set_source_root(std::string_view root) {
-        set(smap_set_source_root, root);
-    }
-    void set_debug_id(std::string_view id) {
-        set(smap_set_debug_id, id);
-    }
+    void set_file(std::string_view file) { set(smap_set_file, file); }
+    void set_source_root(std::string_view root) { set(smap_set_source_root, root); }
+    void set_debug_id(std::string_view id) { set(smap_set_debug_id, id); }
     void set_ignore_list(const std::vector<std::uint32_t> &ids) {
         change([&](smap_fault *fault) { return smap_set_ignore_list(get(), ids.data(), ids.size(), fault); });
     }
@@ -497,33 +429,17 @@ class SourceMap {
         auto lent = detail::all_lent(contents);
         change([&](smap_fault *fault) { return smap_set_source_contents(get(), lent.data(), lent.size(), fault); });
     }
-    void apply_source_root() {
-        change([&](smap_fault *fault) { return smap_apply_source_root(get(), fault); });
-    }
-    void sort() {
-        change([&](smap_fault *fault) { return smap_sort(get(), fault); });
-    }
-    void simplify() {
-        change([&](smap_fault *fault) { return smap_simplify(get(), fault); });
-    }
+    void apply_source_root() { change([&](smap_fault *fault) { return smap_apply_source_root(get(), fault); }); }
+    void sort() { change([&](smap_fault *fault) { return smap_sort(get(), fault); }); }
+    void simplify() { change([&](smap_fault *fault) { return smap_simplify(get(), fault); }); }
 
     /* ---- writing: of at most `limit` bytes, else SMAP_TOO_LARGE ---- */
 
-    Text to_json(std::size_t limit = SIZE_MAX) const {
-        return written(smap_to_json_string_within, limit);
-    }
-    Text to_data_url(std::size_t limit = SIZE_MAX) const {
-        return written(smap_to_data_url_within, limit);
-    }
-    Text mappings(std::size_t limit = SIZE_MAX) const {
-        return written(smap_get_mappings_within, limit);
-    }
-    Text visualize(std::string_view code) const {
-        return shown(smap_visualize, code);
-    }
-    Text visualizer_url(std::string_view code) const {
-        return shown(smap_visualizer_url, code);
-    }
+    Text to_json(std::size_t limit = SIZE_MAX) const { return written(smap_to_json_string_within, limit); }
+    Text to_data_url(std::size_t limit = SIZE_MAX) const { return written(smap_to_data_url_within, limit); }
+    Text mappings(std::size_t limit = SIZE_MAX) const { return written(smap_get_mappings_within, limit); }
+    Text visualize(std::string_view code) const { return shown(smap_visualize, code); }
+    Text visualizer_url(std::string_view code) const { return shown(smap_visualizer_url, code); }
 
     /* The bytes of the compiled map, which CompiledMap opens. */
     [[nodiscard]] Text compile(std::uint64_t text_length = 0, const std::array<unsigned char, 32> &stamp = {}) const {
@@ -532,12 +448,8 @@ class SourceMap {
     }
 
   private:
-    template <class Call> static SourceMap made(Call call) {
-        return detail::made<SourceMap, smap_map>(call);
-    }
-    template <class Call> void change(Call call) {
-        detail::called(call);
-    }
+    template <class Call> static SourceMap made(Call call) { return detail::made<SourceMap, smap_map>(call); }
+    template <class Call> void change(Call call) { detail::called(call); }
     template <class Call> void set(Call call, std::string_view text) {
         change([&](smap_fault *fault) { return call(get(), text.data(), text.size(), fault); });
     }
@@ -583,9 +495,9 @@ inline Found SourceMap::read_found(std::string_view text) {
     smap_mends *told = nullptr;
     auto map = made([&](smap_map **out, smap_fault *fault) { return smap_read_found(text.data(), text.size(), out, &told, fault); });
     detail::Owner<smap_mends, smap_free_mends> mends(told);
-    auto all =
-        detail::list<Mend>([&](Mend *out, std::size_t len, std::size_t *count) { return smap_get_mends(mends.get(), out, len, count); });
-    return { std::move(map), std::move(all) };
+    auto all = detail::list<Mend>(
+        [&](Mend *out, std::size_t len, std::size_t *count) { return smap_get_mends(mends.get(), out, len, count); });
+    return {std::move(map), std::move(all)};
 }
 
 /* A mend as words. */
@@ -600,12 +512,10 @@ class SourceMapBuilder {
     explicit SourceMapBuilder(smap_builder *handle) noexcept : own_(handle) {}
 
     std::uint32_t add_name(std::string_view name) {
-        return added(
-            [&](std::uint32_t *id, smap_fault *fault) { return smap_builder_add_name(own_.get(), name.data(), name.size(), id, fault); });
+        return added([&](std::uint32_t *id, smap_fault *fault) { return smap_builder_add_name(own_.get(), name.data(), name.size(), id, fault); });
     }
     std::uint32_t add_source(std::string_view path) {
-        return added(
-            [&](std::uint32_t *id, smap_fault *fault) { return smap_builder_add_source(own_.get(), path.data(), path.size(), id, fault); });
+        return added([&](std::uint32_t *id, smap_fault *fault) { return smap_builder_add_source(own_.get(), path.data(), path.size(), id, fault); });
     }
     std::uint32_t add_source_and_content(std::string_view path, std::string_view content) {
         return added([&](std::uint32_t *id, smap_fault *fault) {
@@ -615,20 +525,15 @@ class SourceMapBuilder {
     void add_tokens(const Token *tokens, std::size_t len) {
         detail::called([&](smap_fault *fault) { return smap_builder_add_tokens(own_.get(), tokens, len, fault); });
     }
-    void add_tokens(const std::vector<Token> &tokens) {
-        add_tokens(tokens.data(), tokens.size());
-    }
-    void add_token(const Token &token) {
-        add_tokens(&token, 1);
-    }
+    void add_tokens(const std::vector<Token> &tokens) { add_tokens(tokens.data(), tokens.size()); }
+    void add_token(const Token &token) { add_tokens(&token, 1); }
     void set_file(std::string_view file) {
         detail::called([&](smap_fault *fault) { return smap_builder_set_file(own_.get(), file.data(), file.size(), fault); });
     }
 
     /* The map that was built. The builder is then as a new one. */
     [[nodiscard]] SourceMap finish() {
-        return detail::made<SourceMap, smap_map>(
-            [&](smap_map **out, smap_fault *fault) { return smap_builder_finish(own_.get(), out, fault); });
+        return detail::made<SourceMap, smap_map>([&](smap_map **out, smap_fault *fault) { return smap_builder_finish(own_.get(), out, fault); });
     }
 
   private:
@@ -654,8 +559,7 @@ class SourceMapJoin {
 
     /* The joined map. The join is then as a new one. */
     [[nodiscard]] SourceMap finish() {
-        return detail::made<SourceMap, smap_map>(
-            [&](smap_map **out, smap_fault *fault) { return smap_join_finish(own_.get(), out, fault); });
+        return detail::made<SourceMap, smap_map>([&](smap_map **out, smap_fault *fault) { return smap_join_finish(own_.get(), out, fault); });
     }
 
   private:
@@ -685,35 +589,25 @@ class CompiledMap {
     }
     std::vector<std::optional<Original>> trace_all(const std::vector<Position> &positions, Bias bias = Bias::Before) const SMAP_LENT {
         std::vector<smap_original> found(positions.size());
-        detail::check(smap_compiled_trace_all(get(), positions.data(), positions.size(), detail::number(bias), found.data(), found.size()));
+        detail::check(smap_compiled_trace_all(get(), positions.data(), positions.size(), detail::number(bias), found.data(),
+                                              found.size()));
         return detail::originals(found);
     }
     std::vector<std::uint32_t> find_all(const std::vector<Position> &positions, Bias bias = Bias::Before) const {
         std::vector<std::uint32_t> found(positions.size());
-        detail::check(smap_compiled_find_all(get(), positions.data(), positions.size(), detail::number(bias), found.data(), found.size()));
+        detail::check(smap_compiled_find_all(get(), positions.data(), positions.size(), detail::number(bias), found.data(),
+                                             found.size()));
         return found;
     }
     std::optional<Token> token(std::uint32_t index) const {
         return detail::entry<Token>([&](Token *out) { return smap_compiled_get_token(get(), index, out); });
     }
-    std::optional<std::string_view> name(std::uint32_t id) const SMAP_LENT {
-        return text(SMAP_TEXT_NAME, id);
-    }
-    std::optional<std::string_view> source(std::uint32_t id) const SMAP_LENT {
-        return text(SMAP_TEXT_SOURCE, id);
-    }
-    std::optional<std::string_view> source_content(std::uint32_t id) const SMAP_LENT {
-        return text(SMAP_TEXT_SOURCE_CONTENT, id);
-    }
-    std::optional<std::string_view> file() const SMAP_LENT {
-        return text(SMAP_TEXT_FILE, 0);
-    }
-    std::optional<std::string_view> source_root() const SMAP_LENT {
-        return text(SMAP_TEXT_SOURCE_ROOT, 0);
-    }
-    std::optional<std::string_view> debug_id() const SMAP_LENT {
-        return text(SMAP_TEXT_DEBUG_ID, 0);
-    }
+    std::optional<std::string_view> name(std::uint32_t id) const SMAP_LENT { return text(SMAP_TEXT_NAME, id); }
+    std::optional<std::string_view> source(std::uint32_t id) const SMAP_LENT { return text(SMAP_TEXT_SOURCE, id); }
+    std::optional<std::string_view> source_content(std::uint32_t id) const SMAP_LENT { return text(SMAP_TEXT_SOURCE_CONTENT, id); }
+    std::optional<std::string_view> file() const SMAP_LENT { return text(SMAP_TEXT_FILE, 0); }
+    std::optional<std::string_view> source_root() const SMAP_LENT { return text(SMAP_TEXT_SOURCE_ROOT, 0); }
+    std::optional<std::string_view> debug_id() const SMAP_LENT { return text(SMAP_TEXT_DEBUG_ID, 0); }
 
     /* The 32 bytes that `compile` was given. */
     std::array<unsigned char, 32> stamp() const {
@@ -733,9 +627,7 @@ class CompiledMap {
         return SourceMap(map);
     }
 
-    const smap_compiled *get() const noexcept {
-        return own_.get();
-    }
+    const smap_compiled *get() const noexcept { return own_.get(); }
 
   private:
     std::optional<std::string_view> text(std::uint32_t kind, std::uint32_t id) const {
@@ -757,12 +649,8 @@ class CompiledFile {
         return *this;
     }
 
-    const CompiledMap &map() const noexcept {
-        return map_;
-    }
-    const CompiledMap *operator->() const noexcept {
-        return &map_;
-    }
+    const CompiledMap &map() const noexcept { return map_; }
+    const CompiledMap *operator->() const noexcept { return &map_; }
 
   private:
     using Owner = detail::Owner<smap_file, smap_free_file>;
@@ -774,7 +662,7 @@ class CompiledFile {
         smap_text bytes{};
         if (path.find('\0') != std::string::npos) detail::check(SMAP_NO_FILE);
         detail::called([&](smap_fault *fault) { return smap_map_file(path.c_str(), &file, &bytes, fault); });
-        return { Owner(file), detail::view(bytes) };
+        return {Owner(file), detail::view(bytes)};
     }
 
     Owner file_; /* (freed after the map that is open in it) */
@@ -837,7 +725,7 @@ class Scopes {
         auto frames = detail::list<Frame>([&](Frame *out, std::size_t len, std::size_t *count) {
             return smap_frames_at(get(), line, column, out, len, count, &is_hidden);
         });
-        return { std::move(frames), is_hidden != 0 };
+        return {std::move(frames), is_hidden != 0};
     }
 
     /* The variables of a scope, as ids of names. */
@@ -850,8 +738,8 @@ class Scopes {
     /* The value of a variable, by its place in `variables`, in a range at a position of the generated code: the id of the name that is
      * the expression for it. */
     std::optional<std::uint32_t> value_at(std::uint32_t range, std::uint32_t variable, std::uint32_t line, std::uint32_t column) const {
-        auto id =
-            detail::entry<std::uint32_t>([&](std::uint32_t *out) { return smap_value_at(get(), range, variable, line, column, out); });
+        auto id = detail::entry<std::uint32_t>(
+            [&](std::uint32_t *out) { return smap_value_at(get(), range, variable, line, column, out); });
         return id == SMAP_NO_ID ? std::nullopt : id;
     }
 
@@ -870,9 +758,7 @@ class Scopes {
         });
     }
 
-    const smap_scopes *get() const noexcept {
-        return own_.get();
-    }
+    const smap_scopes *get() const noexcept { return own_.get(); }
 
   private:
     detail::Owner<smap_scopes, smap_free_scopes> own_;
@@ -880,15 +766,17 @@ class Scopes {
 
 /* The mappings text of tokens. */
 inline Text encode_mappings(const std::vector<Token> &tokens, std::size_t limit = SIZE_MAX) {
-    return detail::made<Text, smap_string>(
-        [&](smap_string **out, smap_fault *fault) { return smap_encode_mappings_within(tokens.data(), tokens.size(), limit, out, fault); });
+    return detail::made<Text, smap_string>([&](smap_string **out, smap_fault *fault) {
+        return smap_encode_mappings_within(tokens.data(), tokens.size(), limit, out, fault);
+    });
 }
 
 /* The URL that a code names for its map, as a part of the code; nullopt if it names none. */
 inline std::optional<std::string_view> source_mapping_url(std::string_view code, Language language = Language::JavaScript) {
     smap_text url{};
-    if (!detail::has_entry(
-            [&](smap_fault *fault) { return smap_source_mapping_url(code.data(), code.size(), detail::number(language), &url, fault); }))
+    if (!detail::has_entry([&](smap_fault *fault) {
+            return smap_source_mapping_url(code.data(), code.size(), detail::number(language), &url, fault);
+        }))
         return std::nullopt;
     return detail::view(url);
 }
@@ -902,9 +790,7 @@ inline std::optional<Text> decode_data_url(std::string_view url) {
 }
 
 /* The version of the interface of the library; SMAP_VERSION is that of its header. */
-inline std::uint32_t version() {
-    return smap_version();
-}
+inline std::uint32_t version() { return smap_version(); }
 
 } // namespace oxc_sourcemap
 

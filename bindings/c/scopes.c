@@ -67,8 +67,8 @@ uint32_t smap_scope_chain_at(const smap_scopes *scopes, uint32_t line, uint32_t 
     return proved_scope_chain_at(LENT(scopes), line, column, OR(out, &none), out_len, count);
 }
 
-uint32_t smap_scope_chain(const smap_scopes *scopes, uint32_t frame, uint32_t line, uint32_t column, smap_chain_entry *out, size_t out_len,
-                          size_t *count) {
+uint32_t smap_scope_chain(const smap_scopes *scopes, uint32_t frame, uint32_t line, uint32_t column, smap_chain_entry *out,
+                          size_t out_len, size_t *count) {
     smap_chain_entry none;
     return proved_scope_chain(LENT(scopes), frame, line, column, OR(out, &none), out_len, count);
 }

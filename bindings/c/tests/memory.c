@@ -19,13 +19,12 @@ static void soil(void) {
 }
 
 /* Makes a call, whose fault `f` nobody initialised, and returns its code unless that is SMAP_OK. */
-#define MAKES(call)                                                                                                                        \
-    do {                                                                                                                                   \
-        *f = junk();                                                                                                                       \
-        soil();                                                                                                                            \
-        uint32_t code_ = (call);                                                                                                           \
-        if (code_ != SMAP_OK) return code_;                                                                                                \
-        CHECK(is_none(f));                                                                                                                 \
+#define MAKES(call) do { \
+        *f = junk(); \
+        soil(); \
+        uint32_t code_ = (call); \
+        if (code_ != SMAP_OK) return code_; \
+        CHECK(is_none(f)); \
     } while (0)
 
 /* More texts and maps than the layer has room for without a request for memory. */
@@ -152,7 +151,7 @@ static uint32_t run_all(long n) {
     uint32_t code = make_all(&m, &fault);
     if (!code) code = change_all(&m, &fault);
     if (!code && !(smap_message(&bad, NULL, 0) && smap_place_message(&bad, NULL, 0) && smap_mend_message(&mend, NULL, 0) &&
-                   smap_reason_message(TEXT(OF_A("\"mappings\":\"D\"")), &wrong, NULL, 0)))
+                    smap_reason_message(TEXT(OF_A("\"mappings\":\"D\"")), &wrong, NULL, 0)))
         code = SMAP_OUT_OF_MEMORY, fault = fault_of(code, 0, 0);
     left = -1;
     CHECK(code == SMAP_OK || is_fault(&fault, SMAP_OUT_OF_MEMORY, 0));
@@ -181,7 +180,8 @@ static void without_memory(void) {
 
 /* The fault of a text is told with its place, or the call fails for want of memory, whichever of its requests is refused. */
 static void places_without_memory(void) {
-    smap_text words[3] = { text_of("compose"), text_of("@0"), text_of("@1") }, texts[2] = { text_of(C), text_of("{\"version\":3}") };
+    smap_text words[3] = { text_of("compose"), text_of("@0"), text_of("@1") }, texts[2] = { text_of(C),
+        text_of("{\"version\":3}") };
     for (int of_a_plan = 0; of_a_plan < 2; of_a_plan++) {
         smap_map *map = (smap_map *)&failed;
         smap_fault fault = junk();
@@ -217,9 +217,9 @@ static void nothing_is_compiled(void) {
     smap_compiled *compiled = (smap_compiled *)&failed;
     smap_text bytes;
     long n;
-#define UNTIL_MADE(out, call)                                                                                                              \
-    for (n = 0; left = n, (call) == SMAP_OUT_OF_MEMORY && n < 1000; n++) CHECK((void *)(out) == (void *)&failed);                          \
-    left = -1;                                                                                                                             \
+#define UNTIL_MADE(out, call) \
+    for (n = 0; left = n, (call) == SMAP_OUT_OF_MEMORY && n < 1000; n++) CHECK((void *)(out) == (void *)&failed); \
+    left = -1; \
     CHECK(n > 0 && n < 1000 && (void *)(out) != (void *)&failed)
     UNTIL_MADE(string, smap_compile(map, 0, NULL, &string, NULL));
     CHECK(smap_get_text(string, &bytes) == SMAP_OK);
@@ -312,7 +312,8 @@ static void no_memory_is_taken(void) {
     CHECK(smap_open_compiled(bytes, texts[0].len, &turned, NULL) == SMAP_OK);
     left = 0;
     CHECK(smap_decompile(turned, &back, NULL) == SMAP_NO_ENTRY && back == (smap_map *)&failed);
-    CHECK(smap_trace(map, 0, 4, SMAP_BEFORE, &p, NULL) == SMAP_OK && smap_trace_all(map, &one, 1, SMAP_AFTER, &p, 1, NULL) == SMAP_OK);
+    CHECK(smap_trace(map, 0, 4, SMAP_BEFORE, &p, NULL) == SMAP_OK &&
+          smap_trace_all(map, &one, 1, SMAP_AFTER, &p, 1, NULL) == SMAP_OK);
     CHECK(smap_find_all(map, &one, 1, SMAP_CLAMPED, &n, 1, NULL) == SMAP_OK &&
           smap_pieces(map, one, at(9, 9), LIST(pieces), &count) == SMAP_OK);
     CHECK(smap_get_counts(map, &counts) == SMAP_OK && smap_get_tokens(map, LIST(tokens), &count) == SMAP_OK);

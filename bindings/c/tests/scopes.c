@@ -305,9 +305,8 @@ static void sub_ranges(void) {
     static const struct {
         uint32_t variable, line, column, value;
     } IN_SPLIT[] = {
-        { 0, 2, 5, 3 },  { 0, 2, 8, 3 },  { 0, 2, 9, 4 },  { 0, 2, MAX, 4 }, { 0, 3, 1, 4 },
-        { 0, 3, 2, NO }, { 0, 3, 4, NO }, { 0, 3, 5, 5 },  { 0, 4, 8, 5 },   { 1, 2, 5, NO },
-        { 1, 3, 0, 3 },  { 1, 4, 8, 3 },  { 2, 2, 5, NO }, { 2, 4, 0, NO },  { 3, 3, 0, NO },
+        { 0, 2, 5, 3 },  { 0, 2, 8, 3 },  { 0, 2, 9, 4 }, { 0, 2, MAX, 4 }, { 0, 3, 1, 4 }, { 0, 3, 2, NO },   { 0, 3, 4, NO }, { 0, 3, 5, 5 },
+        { 0, 4, 8, 5 },  { 1, 2, 5, NO }, { 1, 3, 0, 3 }, { 1, 4, 8, 3 },   { 2, 2, 5, NO }, { 2, 4, 0, NO }, { 3, 3, 0, NO },
     };
     smap_scopes *scopes = decoded(SPLIT, 6);
     variables_are(scopes, 0, LIST(OF_SPLIT));
@@ -534,8 +533,7 @@ static const struct {
     { "[]", SMAP_OK, 0, 0, 0 },
     { "{\"scopes\":\"A\"}", SMAP_OK, 0, 0, 1 },
     { "{\"scopes\":\"BBAAA,CAA\",\"names\":null}", SMAP_BAD_SCOPES, SMAP_SCOPES_BAD_INDEX, 0, 0 },
-    { "{\"version\":3,\"sections\":[{\"offset\":{\"line\":0,\"column\":0},\"map\":" WITH(",\"scopes\":\"A\"") "}]}", SMAP_SCOPES_INDEXED, 0,
-      0, 0 },
+    { "{\"version\":3,\"sections\":[{\"offset\":{\"line\":0,\"column\":0},\"map\":" WITH(",\"scopes\":\"A\"") "}]}", SMAP_SCOPES_INDEXED, 0, 0, 0 },
     { "{\"sections\":null,\"scopes\":\"A\"}", SMAP_OK, 0, 0, 1 },
 };
 

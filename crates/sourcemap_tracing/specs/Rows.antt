@@ -1,5 +1,5 @@
 -- The rows of a trace that have nothing but a frame. Texts have no white space around them.
-use Rattle.std.specs.Prelude.{Bool, ◌||◌, List, [], ◌∷◌, codes}
+use Rattle.std.specs.Prelude.{Bool, ◌||◌, [], ◌∷◌, codes}
 use Rattle.std.specs.Str.{bytes_eq}
 use Rattle.oxc_sourcemap_parts.specs.Record.{Text}
 

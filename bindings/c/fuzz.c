@@ -526,11 +526,9 @@ static void evaluate(const buffer *text) {
 /* Texts of scopes: first whole ones, then single items. */
 #define WHOLE 7
 static const char *const SCOPES[] = {
-    "BFAAA,BHCAGA,CCA,BACA,CCA,CJA,", "A,BCCDA,CAG,", "EGAA,ECKC,IAFC,FK,FU,", "EMA,ECCA,FE,FC,", "BAAA,DAC,CJA,",
-    "BAAA,DAC,CJA,ECAA,GBA,FU,", "BFAAA,DAC,DD,CJA,EGAA,GABC,HAAFBBCA,FCU,",
-    "BFAAA,CJA,",                     "BABA,",         "CBA,",                  "ECAC,",           "EBBA,",
-    "EAC,",                           "FBA,",          "FC,",                   "IACB,",           "IBED,",
-    "BFAAA,DEDC,",                    "EGAC,GAB,HBBBA,", "DC,",                 "GACB,",           "HAAFBBCA,",
+    "BFAAA,BHCAGA,CCA,BACA,CCA,CJA,", "A,BCCDA,CAG,", "EGAA,ECKC,IAFC,FK,FU,", "EMA,ECCA,FE,FC,", "BAAA,DAC,CJA,", "BAAA,DAC,CJA,ECAA,GBA,FU,",
+    "BFAAA,DAC,DD,CJA,EGAA,GABC,HAAFBBCA,FCU,", "BFAAA,CJA,", "BABA,", "CBA,", "ECAC,", "EBBA,", "EAC,", "FBA,", "FC,", "IACB,", "IBED,",
+    "BFAAA,DEDC,", "EGAC,GAB,HBBBA,", "DC,", "GACB,", "HAAFBBCA,",
 };
 
 /* A text of such, or of digits at random, without the last comma. */
@@ -563,16 +561,14 @@ static void are_sound(const smap_scopes *scopes, const smap_scopes_counts *count
     smap_range range, around;
     for (uint32_t i = 0; i < counts->scopes; i++) {
         MUST(smap_get_scope(scopes, i, &scope) == SMAP_OK && scope.source < counts->sources && !is_before(scope.end, scope.start));
-        MUST((scope.name == SMAP_NO_ID || scope.name < names) && (scope.kind == SMAP_NO_ID || scope.kind < names));
-        MUST(scope.is_stack_frame < 2);
+        MUST((scope.name == SMAP_NO_ID || scope.name < names) && (scope.kind == SMAP_NO_ID || scope.kind < names) && scope.is_stack_frame < 2);
         if (scope.parent == SMAP_NO_ID) continue;
         MUST(scope.parent < i && smap_get_scope(scopes, scope.parent, &outer) == SMAP_OK && outer.source == scope.source);
         MUST(!is_before(scope.start, outer.start) && !is_before(outer.end, scope.end));
     }
     for (uint32_t i = 0; i < counts->ranges; i++) {
         MUST(smap_get_range(scopes, i, &range) == SMAP_OK && !is_before(range.end, range.start));
-        MUST(range.is_stack_frame < 2 && range.is_hidden < 2);
-        MUST(range.definition == SMAP_NO_ID || range.definition < counts->scopes);
+        MUST(range.is_stack_frame < 2 && range.is_hidden < 2 && (range.definition == SMAP_NO_ID || range.definition < counts->scopes));
         if (range.parent == SMAP_NO_ID) continue;
         MUST(range.parent < i && smap_get_range(scopes, range.parent, &around) == SMAP_OK);
         MUST(!is_before(range.start, around.start) && !is_before(around.end, range.end));
@@ -595,8 +591,7 @@ static void ask_scopes(const smap_scopes *scopes, const smap_scopes_counts *coun
         MUST(smap_get_scope(scopes, index, &scope) == SMAP_OK && scope.is_stack_frame && is_within(at, scope.start, scope.end));
     uint32_t code = smap_range_at(scopes, at.line, at.column, &index);
     if (!code) MUST(smap_get_range(scopes, index, &range) == SMAP_OK && is_within(at, range.start, range.end));
-    MUST(smap_frames_at(scopes, at.line, at.column, NULL, 0, &count, &is_hidden) == SMAP_OK);
-    MUST(is_hidden < 2 && (count == 0) == (code != SMAP_OK));
+    MUST(smap_frames_at(scopes, at.line, at.column, NULL, 0, &count, &is_hidden) == SMAP_OK && is_hidden < 2 && (count == 0) == (code != SMAP_OK));
     smap_frame *frames = exact(OUT, count * sizeof *frames);
     MUST(smap_frames_at(scopes, at.line, at.column, frames, count, &count, NULL) == SMAP_OK);
     for (size_t i = 0; i < count; i++) {
@@ -637,28 +632,27 @@ static void is_chain(const smap_scopes *scopes, uint32_t scope, smap_position at
         MUST(chain[i].scope == scope && smap_get_scope(scopes, scope, &it) == SMAP_OK);
         scope = it.parent;
         if (chain[i].range == SMAP_NO_ID) continue;
-        MUST(smap_get_range(scopes, chain[i].range, &range) == SMAP_OK && range.definition == chain[i].scope);
-        MUST(is_within(at, range.start, range.end));
+        MUST(smap_get_range(scopes, chain[i].range, &range) == SMAP_OK && range.definition == chain[i].scope && is_within(at, range.start, range.end));
     }
     MUST(scope == SMAP_NO_ID);
 }
 
-/* The innermost scope of a frame, by where it was called. */
-static uint32_t scope_of_frame(const smap_scopes *scopes, const smap_frame *frame) {
-    uint32_t scope;
-    const smap_call *call = &frame->call;
-    return smap_scope_at(scopes, call->source, call->line, call->column, &scope) == SMAP_OK ? scope : SMAP_NO_ID;
+/* The chain at a position, or that of a frame there. */
+static uint32_t chain_at(const smap_scopes *scopes, uint32_t frame, smap_position at, smap_chain_entry *out, size_t len, size_t *count) {
+    if (frame == SMAP_NO_ID) return smap_scope_chain_at(scopes, at.line, at.column, out, len, count);
+    return smap_scope_chain(scopes, frame, at.line, at.column, out, len, count);
 }
 
-/* The chain of a frame at a position, which begins with this scope. */
-static void ask_chain(const smap_scopes *scopes, uint32_t frame, uint32_t first, smap_position at) {
+/* Asks for it, and returns the range of its first scope, which is this one. */
+static uint32_t ask_chain(const smap_scopes *scopes, uint32_t frame, uint32_t first, smap_position at) {
     size_t count, all, few = below(3);
-    MUST(smap_scope_chain(scopes, frame, at.line, at.column, NULL, 0, &count) == SMAP_OK);
-    smap_chain_entry *chain = exact(OUT, count * sizeof *chain);
-    MUST(smap_scope_chain(scopes, frame, at.line, at.column, chain, count, &all) == SMAP_OK && all == count);
+    MUST(chain_at(scopes, frame, at, NULL, 0, &count) == SMAP_OK);
+    smap_chain_entry *chain = exact(OUT, few * sizeof *chain);
+    MUST(chain_at(scopes, frame, at, chain, few, &all) == SMAP_OK && all == count);
+    chain = exact(OUT, count * sizeof *chain);
+    MUST(chain_at(scopes, frame, at, chain, count, &all) == SMAP_OK && all == count);
     is_chain(scopes, first, at, chain, count);
-    chain = exact(OUT, few * sizeof *chain);
-    MUST(smap_scope_chain(scopes, frame, at.line, at.column, chain, few, &all) == SMAP_OK && all == count);
+    return count ? chain->range : SMAP_NO_ID;
 }
 
 /* The chain at a position of the code, and those of the frames there. */
@@ -668,15 +662,16 @@ static void ask_chains(const smap_scopes *scopes) {
     smap_range range;
     smap_frame frames[8];
     uint32_t index, first = SMAP_NO_ID, is_hidden;
-    size_t count, all;
+    size_t all, none;
     if (!smap_range_at(scopes, at.line, at.column, &index)) MUST(smap_get_range(scopes, index, &range) == SMAP_OK), first = range.definition;
-    MUST(smap_scope_chain_at(scopes, at.line, at.column, NULL, 0, &count) == SMAP_OK);
-    smap_chain_entry *chain = exact(OUT, count * sizeof *chain);
-    MUST(smap_scope_chain_at(scopes, at.line, at.column, chain, count, &all) == SMAP_OK && all == count);
-    is_chain(scopes, first, at, chain, count);
+    MUST(ask_chain(scopes, SMAP_NO_ID, first, at) == (first == SMAP_NO_ID ? SMAP_NO_ID : index));
     MUST(smap_frames_at(scopes, at.line, at.column, frames, 8, &all, &is_hidden) == SMAP_OK);
-    MUST(smap_scope_chain(scopes, (uint32_t)all, at.line, at.column, NULL, 0, &count) == SMAP_NO_ENTRY);
-    for (uint32_t i = 0; i < all && i < 8; i++) ask_chain(scopes, i, i == 0 ? first : scope_of_frame(scopes, &frames[i]), at);
+    MUST(smap_scope_chain(scopes, (uint32_t)all, at.line, at.column, NULL, 0, &none) == SMAP_NO_ENTRY);
+    for (uint32_t i = 0; i < all && i < 8; i++) {
+        const smap_call *call = &frames[i].call;
+        if (i && smap_scope_at(scopes, call->source, call->line, call->column, &first)) first = SMAP_NO_ID;
+        ask_chain(scopes, i, first, at);
+    }
 }
 
 /* Scopes that were read, or a fault. */
@@ -702,8 +697,7 @@ static void try_scopes(const buffer *text) {
     smap_fault fault;
     size_t names = below(4) ? 9 : below(3);
     uint32_t code = smap_decode_scopes(copied(it.at, it.len), it.len, names, &scopes, &fault);
-    MUST(code != SMAP_BAD_SCOPES || fault.detail <= it.len);
-    MUST(code != SMAP_BAD_SCOPES || (fault.field >= SMAP_SCOPES_NOT_A_DIGIT && fault.field <= SMAP_SCOPES_SPLIT_TWICE));
+    MUST(code != SMAP_BAD_SCOPES || (fault.detail <= it.len && fault.field >= SMAP_SCOPES_NOT_A_DIGIT && fault.field <= SMAP_SCOPES_SPLIT_TWICE));
     use_scopes(code, scopes, &fault, names);
     /* (a map of a file has no scopes, unless they came there by chance) */
     code = smap_read_scopes(copied(text->at, text->len), text->len, &scopes, &fault);
@@ -796,10 +790,8 @@ int main(int argc, char **argv) {
     }
     printf("%lu texts read, %lu refused; %lu compiled maps damaged, %lu of them opened, %lu taken apart\n", read_maps, refused_maps, damaged_bytes,
            damaged_maps, taken_apart);
-    printf("%lu texts of scopes read, %lu refused; ", read_scopes, refused_scopes);
-    printf("%lu lists of variables, and %lu values\n", read_variables, read_values);
-    MUST(rounds < 1000 || (read_scopes > rounds / 2 && refused_scopes > rounds / 2));
-    MUST(rounds < 1000 || (read_variables > rounds / 8 && read_values > rounds / 20));
+    printf("%lu texts of scopes read, %lu refused; %lu lists of variables, %lu values\n", read_scopes, refused_scopes, read_variables, read_values);
+    MUST(rounds < 1000 || (read_scopes > rounds / 2 && refused_scopes > rounds / 2 && read_variables > rounds / 8 && read_values > rounds / 20));
     MUST(rounds < 1000 || (taken_apart > rounds && damaged_maps > taken_apart && damaged_bytes > damaged_maps));
     smap_free_map(kept);
     for (size_t i = 0; i < files_len; i++) free(files[i].at);

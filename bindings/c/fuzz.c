@@ -668,8 +668,7 @@ static void ask_chains(const smap_scopes *scopes) {
     MUST(smap_frames_at(scopes, at.line, at.column, frames, 8, &all, &is_hidden) == SMAP_OK);
     MUST(smap_scope_chain(scopes, (uint32_t)all, at.line, at.column, NULL, 0, &none) == SMAP_NO_ENTRY);
     for (uint32_t i = 0; i < all && i < 8; i++) {
-        const smap_call *call = &frames[i].call;
-        if (i && smap_scope_at(scopes, call->source, call->line, call->column, &first)) first = SMAP_NO_ID;
+        if (i && smap_scope_at(scopes, frames[i].call.source, frames[i].call.line, frames[i].call.column, &first)) first = SMAP_NO_ID;
         ask_chain(scopes, i, first, at);
     }
 }

@@ -206,6 +206,14 @@ export interface Native {
   /** Five words for each frame: the id of its name, the index of its scope, and the source, the line and the column of the call.
    *  `words[1]` is whether the frame is hidden, 1 or 0. */
   framesAt(scopes: ScopesHandle, line: number, column: number, out: Uint32Array): Code;
+  /** The id of the name of each variable of a scope. 103 past the last scope. */
+  getVariables(scopes: ScopesHandle, scope: number, out: Uint32Array): Code;
+  /** `words[0]` is the id of the name that is the expression for a value. 103 past the last range. */
+  valueAt(scopes: ScopesHandle, range: number, variable: number, line: number, column: number): Code;
+  /** Two words for each scope: its index, and that of its range. */
+  scopeChainAt(scopes: ScopesHandle, line: number, column: number, out: Uint32Array): Code;
+  /** The same of a frame. 103 past the last one. */
+  scopeChain(scopes: ScopesHandle, frame: number, line: number, column: number, out: Uint32Array): Code;
 
   // ---- changing ----
 

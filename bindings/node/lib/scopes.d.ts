@@ -14,14 +14,16 @@ export type ScopesFault =
   | "MISSING_NUMBER"
   /** An index leads to no name, scope or value. */
   | "BAD_INDEX"
-  /** It is an end, or a call site, and nothing that it could belong to is open. */
+  /** It is an end, variables, values or a call site, and nothing that it could belong to is open. */
   | "NOTHING_OPEN"
   /** A source without scopes comes within the scopes of another. */
   | "NOT_CLOSED"
   /** More than 1024 scopes or ranges are nested. */
   | "TOO_DEEP"
   /** The text ends, and a scope or a range has no end. */
-  | "LEFT_OPEN";
+  | "LEFT_OPEN"
+  /** It is sub-ranges of a value that has some already. */
+  | "SPLIT_TWICE";
 
 /** How many sources have a tree of scopes or none, and how many scopes and ranges there are. */
 export interface ScopesCounts {
@@ -89,6 +91,32 @@ export interface ScopeFrames {
   readonly isHidden: boolean;
 }
 
+/** A variable of a scope, by the id and the text of its name. A text that is not known is null. */
+export interface Variable {
+  readonly nameId: number;
+  readonly name: string | null;
+}
+
+/** The expression for the value of a variable, by the id of the name that it is, and its text; null if that is not known. */
+export interface VariableValue {
+  readonly valueId: number;
+  readonly value: string | null;
+}
+
+/** A variable with its value at a position; nulls if it has none there. */
+export interface ScopeVariable extends Variable {
+  readonly valueId: number | null;
+  readonly value: string | null;
+}
+
+/** A scope that a generated position is in, by its index, and its variables. */
+export interface ScopeChainEntry {
+  readonly scope: number;
+  /** The index of the innermost range there that is the code of the scope; if it is null, no variable has a value. */
+  readonly range: number | null;
+  readonly variables: readonly ScopeVariable[];
+}
+
 /** A frame of the source with its place. A name that the function has not, or that is not known, is null; so is a place that the map does
  *  not know, as of a call in a source that it lacks. */
 export interface SourceFrame {
@@ -108,8 +136,8 @@ export interface SourceFrames {
 
 /**
  * The scopes of a map, its member `scopes`: for each source a tree of its functions and blocks, and for the generated code a tree of
- * ranges, each with the scope that it is the code of. They have the names of functions in the source, and the frames of calls that were
- * inlined. What its calls answer is frozen.
+ * ranges, each with the scope that it is the code of. They have the names of functions in the source, the frames of calls that were
+ * inlined, and the values of variables. What its calls answer is frozen.
  *
  * @example
  * const [map, scopes] = [new SourceMap(json), Scopes.read(json)];
@@ -155,6 +183,20 @@ export class Scopes {
    *  position. */
   framesAt(line: number, column: number): ScopeFrames;
   framesAt(position: Position): ScopeFrames;
+  /** The variables of a scope, by its index; null past the last one. */
+  variables(scope: number): readonly Variable[] | null;
+  /** The value of a variable, by its place in `variables`, in a range of the code of its scope, at a generated position in that range; null
+   *  if it has none there, or there is no such variable or range. */
+  valueAt(range: number, variable: number, line: number, column: number): VariableValue | null;
+  valueAt(range: number, variable: number, position: Position): VariableValue | null;
+  /** The scopes that a generated position is in, from the inside out, with their variables and the values there: the scope that the
+   *  innermost range is the code of, and those around it. Empty where no range contains the position, or that one is the code of none. */
+  scopeChainAt(line: number, column: number): readonly ScopeChainEntry[];
+  scopeChainAt(position: Position): readonly ScopeChainEntry[];
+  /** The same of a frame of the source, by its index in `framesAt`; null past the last one: for frame 0 the scopes of `scopeChainAt`, for an
+   *  inlined call those at its place, with the ranges around the inlined body. */
+  scopeChain(frame: number, line: number, column: number): readonly ScopeChainEntry[] | null;
+  scopeChain(frame: number, position: Position): readonly ScopeChainEntry[] | null;
   /** The same with the sources of the map that has these scopes, which says where the first frame is. Where no range contains the position,
    *  the frame is that which the map alone knows, without a name. */
   trace(map: SourceMap | CompiledMap, line: number, column: number, bias?: Bias): SourceFrames;

@@ -12,7 +12,7 @@ const { CompiledMap } = require('./compiled.js');
 
 const answers = native.words;
 
-/** Room for the frames of a lookup, which are few. */
+/** Room for the frames of a lookup, for a chain of scopes or for variables, which are few. */
 let room = new Uint32Array(8 * Words.FRAME);
 
 /** What the constructor takes: the handle of scopes, and the names of their map if they are known. */
@@ -141,14 +141,69 @@ class Scopes {
 
   framesAt(line, column) {
     if (isPlace(line)) return this.framesAt(line.line, line.column);
-    check(native.framesAt(this.#handle, word(line, 'The line'), word(column, 'The column'), room));
-    if (Words.FRAME * answers[0] > room.length) {
-      room = new Uint32Array(Words.FRAME * answers[0]);
-      check(native.framesAt(this.#handle, line, column, room));
-    }
+    const place = [word(line, 'The line'), word(column, 'The column')];
+    check(listed(Words.FRAME, (out) => native.framesAt(this.#handle, ...place, out)));
     const [length, isHidden] = answers;
     const frames = Array.from({ length }, (_, i) => this.#frame(Words.FRAME * i));
     return Object.freeze({ frames: Object.freeze(frames), isHidden: isHidden === 1 });
+  }
+
+  // ---- variables ----
+
+  variables(scope) {
+    const ids = this.#variableIds(word(scope, 'The scope'));
+    return ids && Object.freeze(ids.map((nameId) => Object.freeze({ nameId, name: this.#name(nameId) })));
+  }
+
+  valueAt(range, variable, line, column) {
+    if (isPlace(line)) return this.valueAt(range, variable, line.line, line.column);
+    const [index, at] = [word(range, 'The range'), word(variable, 'The variable')];
+    const valueId = this.#valueId(index, at, [word(line, 'The line'), word(column, 'The column')]);
+    return valueId === null ? null : Object.freeze({ valueId, value: this.#name(valueId) });
+  }
+
+  scopeChainAt(line, column) {
+    if (isPlace(line)) return this.scopeChainAt(line.line, line.column);
+    const place = [word(line, 'The line'), word(column, 'The column')];
+    return this.#chain(place, (out) => native.scopeChainAt(this.#handle, ...place, out));
+  }
+
+  scopeChain(frame, line, column) {
+    if (isPlace(line)) return this.scopeChain(frame, line.line, line.column);
+    const [index, place] = [word(frame, 'The frame'), [word(line, 'The line'), word(column, 'The column')]];
+    return this.#chain(place, (out) => native.scopeChain(this.#handle, index, ...place, out));
+  }
+
+  /** The chain that a call lists, with the variables of its scopes at a place; null if there is none. */
+  #chain(place, list) {
+    const code = listed(Words.CHAIN_ENTRY, list);
+    if (code === Code.NO_ENTRY) return null;
+    check(code);
+    const pairs = Array.from({ length: answers[0] }, (_, i) => [room[Words.CHAIN_ENTRY * i], idOf(room[Words.CHAIN_ENTRY * i + 1])]);
+    return Object.freeze(pairs.map(([scope, range]) => Object.freeze({ scope, range, variables: this.#variablesIn(scope, range, place) })));
+  }
+
+  /** The variables of a scope with their values in a range, or with none. */
+  #variablesIn(scope, range, place) {
+    const variables = this.#variableIds(scope).map((nameId, i) => {
+      const valueId = range === null ? null : this.#valueId(range, i, place);
+      return Object.freeze({ nameId, name: this.#name(nameId), valueId, value: this.#name(valueId) });
+    });
+    return Object.freeze(variables);
+  }
+
+  /** The variables of a scope, by the ids of their names; null past the last scope. */
+  #variableIds(scope) {
+    const code = listed(1, (out) => native.getVariables(this.#handle, scope, out));
+    if (code === Code.NO_ENTRY) return null;
+    check(code);
+    return Array.from(room.subarray(0, answers[0]));
+  }
+
+  /** The id of the value of a variable; null if it has none. */
+  #valueId(range, variable, place) {
+    const id = indexOf(native.valueAt(this.#handle, range, variable, ...place));
+    return id === null ? null : idOf(id);
   }
 
   trace(map, line, column, bias) {
@@ -163,6 +218,14 @@ class Scopes {
     const nameId = idOf(room[at]);
     return Object.freeze({ nameId, name: this.#name(nameId), scope: idOf(room[at + 1]), call: callIn(room, at + 2) });
   }
+}
+
+/** The code of a call that lists entries of so many words in the room, which grows for all of them. */
+function listed(size, list) {
+  const code = list(room);
+  if (code !== 0 || size * answers[0] <= room.length) return code;
+  room = new Uint32Array(size * answers[0]);
+  return list(room);
 }
 
 /** The names of the value of a map. */

@@ -5,7 +5,8 @@
 
 enum {
     SPAN = 96, /* a scope or a range takes about so many bytes */
-    FRAME_WORDS = sizeof(smap_frame) / 4
+    FRAME_WORDS = sizeof(smap_frame) / 4,
+    CHAIN_ENTRY_WORDS = sizeof(smap_chain_entry) / 4
 };
 
 static const smap_scopes *scopes(Call *call, size_t i)
@@ -116,6 +117,59 @@ static napi_value frames_at(Call *call)
     return coded_alone(call, code);
 }
 
+static napi_value get_variables(Call *call)
+{
+    size_t count = 0;
+    const smap_scopes *from = scopes(call, 0);
+    uint32_t scope = word(call, 1);
+    Output out = output(call, 2, NO_WORDS);
+    if (call->failed) return NULL;
+    uint32_t code = smap_get_variables(from, scope, out.at, out.len, &count);
+    show(&out);
+    call->words[0] = at_most(count);
+    return coded_alone(call, code);
+}
+
+static napi_value value_at(Call *call)
+{
+    const smap_scopes *from = scopes(call, 0);
+    uint32_t range = word(call, 1);
+    uint32_t variable = word(call, 2);
+    uint32_t line = word(call, 3);
+    uint32_t column = word(call, 4);
+    if (call->failed) return NULL;
+    return coded_alone(call, smap_value_at(from, range, variable, line, column, &call->words[0]));
+}
+
+static napi_value scope_chain_at(Call *call)
+{
+    size_t count = 0;
+    const smap_scopes *from = scopes(call, 0);
+    uint32_t line = word(call, 1);
+    uint32_t column = word(call, 2);
+    Output out = output(call, 3, NO_WORDS);
+    if (call->failed) return NULL;
+    uint32_t code = smap_scope_chain_at(from, line, column, (smap_chain_entry *)out.at, out.len / CHAIN_ENTRY_WORDS, &count);
+    show(&out);
+    call->words[0] = at_most(count);
+    return coded_alone(call, code);
+}
+
+static napi_value scope_chain(Call *call)
+{
+    size_t count = 0;
+    const smap_scopes *from = scopes(call, 0);
+    uint32_t frame = word(call, 1);
+    uint32_t line = word(call, 2);
+    uint32_t column = word(call, 3);
+    Output out = output(call, 4, NO_WORDS);
+    if (call->failed) return NULL;
+    uint32_t code = smap_scope_chain(from, frame, line, column, (smap_chain_entry *)out.at, out.len / CHAIN_ENTRY_WORDS, &count);
+    show(&out);
+    call->words[0] = at_most(count);
+    return coded_alone(call, code);
+}
+
 const Entry SCOPES_CALLS[] = {
     {"readScopes", read_scopes},
     {"decodeScopes", decode_scopes},
@@ -126,5 +180,9 @@ const Entry SCOPES_CALLS[] = {
     {"functionAt", function_at},
     {"rangeAt", range_at},
     {"framesAt", frames_at},
+    {"getVariables", get_variables},
+    {"valueAt", value_at},
+    {"scopeChainAt", scope_chain_at},
+    {"scopeChain", scope_chain},
     {NULL, NULL},
 };

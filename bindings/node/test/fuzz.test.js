@@ -37,7 +37,7 @@ function words(next, memory = ArrayBuffer) {
   return out;
 }
 
-const SCOPES = 'BFAAA,BFCAC,CCA,CFA,EGAA,ECKC,IAFC,FK,FU';
+const SCOPES = 'BFAAA,DAC,BFCAC,CCA,CFA,EGAA,GCB,HBAFA,ECKC,IAFC,FK,FU';
 const SCOPED = JSON.stringify({ names: ['f', 'g'], scopes: SCOPES });
 const TEXTS = [
   TEXT,
@@ -143,6 +143,7 @@ const SHAPES = {
   write: 'hnt', writeBytes: 'hnt', encodeMappings: 'w', sourceMappingURL: 'tn', decodeDataURL: 't',
   compile: 'hnnb', openCompiled: 'b', compiledCounts: 'h', stamp: 'h', isIgnored: 'hn', decompile: 'h',
   readScopes: 't', decodeScopes: 'tn', scopesCounts: 'h', getScope: 'hn', getRange: 'hn', scopeAt: 'hnnn', functionAt: 'hnnn', rangeAt: 'hnn', framesAt: 'hnnw',
+  getVariables: 'hnw', valueAt: 'hnnnn', scopeChainAt: 'hnnw', scopeChain: 'hnnnw',
   message: 'w', placeMessage: 'w', mendMessage: 'w', reasonMessage: 'tw', codeName: 'n',
 };
 

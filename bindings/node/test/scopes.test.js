@@ -115,11 +115,114 @@ test('a hidden frame', () => {
   for (const place of [[3, 1], [5, 7]]) assert.deepEqual(scopes.framesAt(...place), { frames: [], isHidden: false });
 });
 
-test('variables and their values are passed over', () => {
+// ---- variables ----
+
+const none = (nameId, name) => ({ nameId, name, valueId: null, value: null });
+const WHOLE = { scope: 0, range: 0, variables: [] };
+const OF_INNER = { scope: 2, range: 2, variables: [] };
+const OF_OUTER = { scope: 1, range: 1, variables: [{ nameId: 4, name: 'a', valueId: 6, value: 'x' }] };
+
+// A scope with a, b and c, of which two items tell, and its code from 2:5 to 4:9. a is x, from 2:9 on y, from 3:2 on nothing, and z from
+// 3:5 on; b is x from 3:0 on.
+const SPLIT = 'BAAA,DAC,DC,CJA,EDCFA,GEAG,HAAEFBCAADG,HCAAA,HBBAE,FCJ';
+const SPLIT_NAMES = ['a', 'b', 'c', 'x', 'y', 'z'];
+const SPLIT_ROWS = [[2, 5, 'x', null], [2, 8, 'x', null], [2, 9, 'y', null], [2, NO_ID, 'y', null], [3, 0, 'y', 'x'], [3, 1, 'y', 'x'], [3, 2, null, 'x'], [3, 4, null, 'x'], [3, 5, 'z', 'x'], [4, 8, 'z', 'x']];
+
+test('a scope with variables, one without a value, and one with two', () => {
   const scopes = Scopes.decode('BAAA,DAC,CJA,ECAA,GAD,HBBBE,FCE', ['a', 'b', 'x', 'y']);
   assert.deepEqual(scopes.scopes, [scope(0, 0, [0, 0], [9, 0], null, null, null, null, false, null)]);
   assert.deepEqual(scopes.ranges, [range(0, [0, 0], [2, 4], 0, false, false, null, null)]);
+  assert.deepEqual(scopes.variables(0), [{ nameId: 0, name: 'a' }, { nameId: 1, name: 'b' }]);
+  for (const [line, column, valueId, value] of [[0, 0, 2, 'x'], [1, 0, 2, 'x'], [1, 1, 3, 'y'], [2, 3, 3, 'y']]) {
+    assert.deepEqual([scopes.valueAt(0, 0, line, column), scopes.valueAt(0, 1, line, column)], [null, { valueId, value }], `${line}:${column}`);
+    assert.deepEqual(scopes.scopeChainAt(line, column), [{ scope: 0, range: 0, variables: [none(0, 'a'), { nameId: 1, name: 'b', valueId, value }] }]);
+  }
 });
+
+test('variables of scopes, and values in ranges', () => {
+  const scopes = Scopes.decode(INLINED, NAMES);
+  const listed = [0, 1, 2, 3, NO_ID].map((index) => scopes.variables(index));
+  assert.deepEqual(listed, [[], [{ nameId: 4, name: 'a' }], [], null, null]);
+  const rows = [[1, 0, 10, 'x'], [1, 0, 39, 'x'], [1, 1, 10, null], [1, NO_ID, 10, null], [0, 0, 10, null], [2, 0, 20, null], [3, 0, 20, null], [NO_ID, 0, 20, null]];
+  for (const [index, variable, column, value] of rows) {
+    const wanted = value === null ? null : { valueId: 6, value };
+    assert.deepEqual(scopes.valueAt(index, variable, 0, column), wanted, `${index} ${variable} ${column}`);
+    assert.deepEqual(scopes.valueAt(index, variable, { line: 0, column }), wanted);
+  }
+});
+
+test('sub-ranges of values', () => {
+  const scopes = Scopes.decode(SPLIT, SPLIT_NAMES);
+  assert.deepEqual(scopes.variables(0).map((it) => it.name), ['a', 'b', 'c']);
+  for (const [line, column, ...values] of SPLIT_ROWS) {
+    const wanted = [...values, null, null];
+    assert.deepEqual(wanted.map((_, i) => scopes.valueAt(0, i, line, column)?.value ?? null), wanted, `${line}:${column}`);
+    if (column === NO_ID) continue;
+    assert.deepEqual(scopes.scopeChainAt(line, column)[0].variables.map((it) => it.value), wanted.slice(0, 3));
+  }
+});
+
+test('the scopes around a position, and those of its frames', () => {
+  const scopes = Scopes.decode(INLINED, NAMES);
+  const rows = [[9, [WHOLE]], [10, [OF_OUTER, WHOLE]], [15, [OF_OUTER, WHOLE]], [20, [OF_INNER, WHOLE]], [25, [OF_INNER, WHOLE]], [29, [OF_INNER, WHOLE]], [30, [OF_OUTER, WHOLE]], [40, [WHOLE]]];
+  for (const [column, chain] of rows) {
+    assert.deepEqual(scopes.scopeChainAt(0, column), chain, `${column}`);
+    assert.deepEqual(scopes.scopeChainAt({ line: 0, column }), chain);
+  }
+  assert.deepEqual(scopes.scopeChainAt(1, 0), []);
+  assert.deepEqual(scopes.scopeChain(0, 0, 25), [OF_INNER, WHOLE]);
+  assert.deepEqual(scopes.scopeChain(1, { line: 0, column: 25 }), [OF_OUTER, WHOLE]);
+  assert.deepEqual(scopes.scopeChain(0, 0, 15), [OF_OUTER, WHOLE]);
+  assert.deepEqual([scopes.scopeChain(2, 0, 25), scopes.scopeChain(NO_ID, 0, 25), scopes.scopeChain(1, 0, 15), scopes.scopeChain(0, 1, 0)], [null, null, null, null]);
+  assert.deepEqual(Scopes.decode('ENDC,FCH', []).scopeChainAt(4, 0), []);
+});
+
+test('a scope in two ranges, one in the other: the inner one counts', () => {
+  const values = (chain) => chain.map((it) => [it.scope, it.range, it.variables[0].value]);
+  const recursive = Scopes.decode('BFAAA,DC,CJA,EGAA,GD,ECKA,GE,IABB,FK,FU', ['f', 'a', 'x', 'y']);
+  for (const [column, index, value] of [[0, 0, 'x'], [9, 0, 'x'], [10, 1, 'y'], [19, 1, 'y'], [20, 0, 'x'], [39, 0, 'x']]) {
+    assert.deepEqual(values(recursive.scopeChainAt(0, column)), [[0, index, value]], `${column}`);
+    assert.deepEqual(values(recursive.scopeChain(0, 0, column)), [[0, index, value]]);
+  }
+  // The frame of the call does not see the values of the body that was inlined.
+  assert.deepEqual(values(recursive.scopeChain(1, 0, 15)), [[0, 0, 'x']]);
+  // The inner range is the code of none.
+  const ofNone = Scopes.decode('BFAAA,DC,CJA,EGAA,GD,EAK,FK,FU', ['f', 'a', 'x']);
+  assert.deepEqual([ofNone.scopeChainAt(0, 9), ofNone.scopeChainAt(0, 15), ofNone.scopeChain(0, 0, 15)].map(values), [[[0, 0, 'x']], [], []]);
+  // A block in a function, whose code stands around that of the function.
+  const turned = Scopes.decode('BFAAA,DC,BABA,DC,CBC,CJA,ECAC,GC,ECKD,GD,FK,FU', ['f', 'a', 'b']);
+  assert.deepEqual(values(turned.scopeChainAt(0, 5)), [[1, 0, 'a'], [0, null, null]]);
+  assert.deepEqual(values(turned.scopeChainAt(0, 15)), [[0, 1, 'b']]);
+});
+
+/** An index as the text has it, relative to the first one. */
+function encodeSigned(index) {
+  const digits = 'ABCDEFGHIJKLMNOPQRSTUVWXYZabcdefghijklmnopqrstuvwxyz0123456789+/';
+  let [rest, text] = [2 * index, ''];
+  for (; rest > 31; rest = Math.floor(rest / 32)) text += digits[(rest % 32) + 32];
+  return text + digits[rest];
+}
+
+test('more variables and scopes than there is room for at first', () => {
+  for (const many of [1, 19, 20, 21, 40, 41, 1000, 2]) {
+    const listed = Scopes.decode(`BAAA,DA${'C'.repeat(many - 1)},CJA,ECAA,G${'B'.repeat(many)},FJ`, many);
+    assert.deepEqual(listed.variables(0).map((it) => it.nameId), Array.from({ length: many }, (_, i) => i));
+    const [{ variables }] = listed.scopeChainAt(0, 0);
+    assert.deepEqual([variables.length, variables[many - 1]], [many, { nameId: many - 1, name: null, valueId: 0, value: null }]);
+    const nested = Scopes.decode('BAAA,'.repeat(many) + 'CJA' + ',CAA'.repeat(many - 1) + `,ECA${encodeSigned(many - 1)},FJ`, 0);
+    const chain = nested.scopeChain(0, 0, 0);
+    assert.deepEqual(chain.map((it) => it.scope), Array.from({ length: many }, (_, i) => many - 1 - i));
+  }
+});
+
+test('variables without the texts of names', () => {
+  const scopes = Scopes.decode(INLINED, 7);
+  assert.deepEqual(scopes.variables(1), [{ nameId: 4, name: null }]);
+  assert.deepEqual(scopes.valueAt(1, 0, 0, 10), { valueId: 6, value: null });
+  assert.deepEqual(scopes.scopeChainAt(0, 10)[0].variables, [{ nameId: 4, name: null, valueId: 6, value: null }]);
+  assert.deepEqual(Scopes.read(VALUE).scopeChainAt(0, 10)[0], OF_OUTER);
+});
+
 
 test('the scopes of two sources', () => {
   const scopes = Scopes.decode('BFAAA,CEA,BFBAA,CFA,EGAC,FJ,EGAD,FBC', ['f']);
@@ -154,7 +257,7 @@ test('names: their texts where they are known, and their ids', () => {
   const unknown = [[5, null], [2, null]];
   const known = [[5, 'inner'], [2, 'outer']];
   for (const names of [NAMES, Object.freeze([...NAMES]), new Set(NAMES), vm.runInNewContext('[...n]', { n: NAMES })]) assert.deepEqual(told(Scopes.decode(INLINED, names)), known);
-  for (const names of [7, 6, NO_ID]) assert.deepEqual(told(Scopes.decode(Buffer.from(INLINED), names)), unknown);
+  for (const names of [7, 8, NO_ID]) assert.deepEqual(told(Scopes.decode(Buffer.from(INLINED), names)), unknown);
   const later = [...NAMES];
   const scopes = Scopes.decode(INLINED, later);
   later[5] = 'another';
@@ -235,6 +338,7 @@ const FAULTS = [
   ['EAA,'.repeat(1024) + 'EAA', 0, 'TOO_DEEP', 4096, 'more than 1024 scopes or ranges are nested'],
   ['A,BAAA', 0, 'LEFT_OPEN', 6, 'a scope or a range has no end'],
   ['EAA', 0, 'LEFT_OPEN', 3, 'a scope or a range has no end'],
+  ['EAA,GB,HABAB,HABAB', 1, 'SPLIT_TWICE', 13, 'the value has sub-ranges already'],
 ];
 
 test('each fault of a text', () => {
@@ -275,6 +379,11 @@ test('arguments of other types', () => {
   assert.throws(() => scopes.framesAt(0), { name: 'TypeError', message: 'The column is undefined, and not an integer from 0 to 4294967295' });
   assert.throws(() => scopes.framesAt({ column: 0 }), { message: 'The line is undefined, and not an integer from 0 to 4294967295' });
   assert.throws(() => scopes.scopeAt('s.ts', 0, 0), { message: 'The source is "s.ts", and not an integer from 0 to 4294967295' });
+  assert.throws(() => scopes.variables(), { name: 'TypeError', message: 'The scope is undefined, and not an integer from 0 to 4294967295' });
+  assert.throws(() => scopes.valueAt('0', 0, 0, 0), { message: 'The range is "0", and not an integer from 0 to 4294967295' });
+  assert.throws(() => scopes.valueAt(0, 'a', 0, 0), { message: 'The variable is "a", and not an integer from 0 to 4294967295' });
+  assert.throws(() => scopes.scopeChain(-1, 0, 0), { name: 'RangeError', message: 'The frame is -1, and not an integer from 0 to 4294967295' });
+  assert.throws(() => scopes.scopeChainAt(0), { message: 'The column is undefined, and not an integer from 0 to 4294967295' });
   assert.throws(() => scopes.functionAt(0, 0, -1), { name: 'RangeError', message: 'The column is -1, and not an integer from 0 to 4294967295' });
   for (const make of [() => new Scopes(), () => new Scopes(INLINED), () => new Scopes({ handle: native.decodeScopes('', 0), names: null })]) {
     assert.throws(make, { name: 'TypeError', message: 'Scopes are made by Scopes.read and Scopes.decode' });
@@ -288,6 +397,8 @@ test('what is answered is frozen', () => {
   const [found, [outer]] = [scopes.framesAt(0, 25), scopes.framesAt(0, 15).frames];
   const one = scopes.scopeAt(0, 1, 0);
   const part = scopes.rangeAt(0, 25);
+  const [chain, variables] = [scopes.scopeChain(1, 0, 25), scopes.variables(1)];
+  for (const it of [chain, chain[0], chain[0].variables, chain[0].variables[0], variables, variables[0], scopes.valueAt(1, 0, 0, 10)]) assert.ok(Object.isFrozen(it));
   for (const it of [found, found.frames, outer, found.frames[1].call, one, one.start, one.end, part, part.start, part.end, part.call, scopes.scopes, scopes.ranges]) assert.ok(Object.isFrozen(it));
 });
 
@@ -301,6 +412,10 @@ const ASKS = [
   (it) => it.functionAt(0, 0, 0),
   (it) => it.rangeAt(0, 0),
   (it) => it.framesAt(0, 25),
+  (it) => it.variables(1),
+  (it) => it.valueAt(1, 0, 0, 10),
+  (it) => it.scopeChainAt(0, 25),
+  (it) => it.scopeChain(1, 0, 25),
 ];
 
 test('scopes that were freed', () => {
@@ -320,7 +435,7 @@ test('handles of another kind', () => {
   const handles = [native.fromJson(TEXT), native.builderNew(), native.joinNew(), native.openCompiled(Uint8Array.from(new SourceMap(TEXT).compile())), {}, null];
   const scopes = native.decodeScopes(INLINED, 7);
   for (const it of handles) {
-    for (const call of [() => native.scopesCounts(it), () => native.getScope(it, 0), () => native.getRange(it, 0), () => native.scopeAt(it, 0, 0, 0), () => native.functionAt(it, 0, 0, 0), () => native.rangeAt(it, 0, 0), () => native.framesAt(it, 0, 0, new Uint32Array(5))]) {
+    for (const call of [() => native.scopesCounts(it), () => native.getScope(it, 0), () => native.getRange(it, 0), () => native.scopeAt(it, 0, 0, 0), () => native.functionAt(it, 0, 0, 0), () => native.rangeAt(it, 0, 0), () => native.framesAt(it, 0, 0, new Uint32Array(5)), () => native.getVariables(it, 0, new Uint32Array(5)), () => native.valueAt(it, 0, 0, 0, 0), () => native.scopeChainAt(it, 0, 0, new Uint32Array(5)), () => native.scopeChain(it, 0, 0, 0, new Uint32Array(5))]) {
       assert.throws(call, TypeError);
     }
   }
@@ -344,6 +459,32 @@ test('frames as words: as many as there is room for', () => {
   assert.deepEqual([...native.words.subarray(0, 2), ...shared.subarray(0, 5)], [1, 1, NO_ID, NO_ID, NO_ID, NO_ID, NO_ID]);
   native.free(scopes);
   assert.equal(native.framesAt(scopes, 0, 25, shared), 100);
+});
+
+test('chains and variables as words: as many as there is room for', () => {
+  const [scopes, split] = [native.decodeScopes(INLINED, 7), native.decodeScopes(SPLIT, 6)];
+  const rows = [
+    [[0, 1, 2], 1, (out) => native.getVariables(split, 0, out)],
+    [[2, 2, 0, 0], 2, (out) => native.scopeChainAt(scopes, 0, 25, out)],
+    [[1, 1, 0, 0], 2, (out) => native.scopeChain(scopes, 1, 0, 25, out)],
+    [[2, 2, 0, 0], 2, (out) => native.scopeChain(scopes, 0, 0, 25, out)],
+  ];
+  for (const [whole, size, list] of rows) {
+    for (let length = 0; length <= whole.length + 1; length++) {
+      const written = Math.min(whole.length, length - (length % size));
+      const out = new Uint32Array(length + 1).fill(7);
+      assert.deepEqual([list(out.subarray(0, length)), native.words[0]], [0, whole.length / size]);
+      assert.deepEqual([...out], [...whole.slice(0, written), ...Array(length + 1 - written).fill(7)]);
+    }
+    const shared = new Uint32Array(new SharedArrayBuffer(4 * whole.length));
+    assert.deepEqual([list(shared), ...shared], [0, ...whole]);
+  }
+  assert.deepEqual([native.valueAt(scopes, 1, 0, 0, 10), native.words[0]], [0, 6]);
+  assert.deepEqual([native.valueAt(scopes, 0, 0, 0, 10), native.words[0]], [0, NO_ID]);
+  const out = new Uint32Array(2);
+  assert.deepEqual([native.valueAt(scopes, 3, 0, 0, 10), native.getVariables(scopes, 3, out), native.scopeChain(scopes, 3, 0, 0, out)], [103, 103, 103]);
+  for (const it of [scopes, split]) native.free(it);
+  assert.deepEqual([...rows.map(([, , list]) => list(out)), native.valueAt(scopes, 1, 0, 0, 10)], [100, 100, 100, 100, 100]);
 });
 
 test('the stack of a source, by a map and its scopes', () => {
@@ -375,7 +516,7 @@ test('100,000 reads leave nothing, dropped or freed, refused or asked', { skip: 
       if (i % 4 === 1) try { Scopes.decode(TEXT, 3) } catch {}
     }
     const scopes = Scopes.decode(TEXT, 7);
-    for (let i = 0; i < 100_000; i++) scopes.framesAt(0, 25);
+    for (let i = 0; i < 100_000; i++) (scopes.framesAt(0, 25), scopes.scopeChainAt(0, 15));
     ${PEAK}`);
   assert.ok(peak < 200, `${peak} MB`);
 });

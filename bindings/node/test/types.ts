@@ -17,7 +17,9 @@ import junketscarp, {
   OriginalScope,
   Piece,
   RawSourceMap,
+  ScopeChainEntry,
   ScopeFrame,
+  ScopeVariable,
   Scopes,
   ScopesCounts,
   ScopesFault,
@@ -74,8 +76,11 @@ async function uses(bytes: Uint8Array): Promise<void> {
   const frame: ScopeFrame | undefined = scopes.framesAt(0, 1).frames[0] ?? scopes.framesAt({ line: 0, column: 1 }).frames[1];
   const caller: number | undefined = frame?.call?.line;
   const hidden: boolean = scopes.framesAt(0, 0).isHidden;
+  const chain: readonly ScopeChainEntry[] | null = scopes.scopeChain(0, 1, 2) ?? scopes.scopeChain(0, { line: 0, column: 1 });
+  const variable: ScopeVariable | undefined = chain?.[0]?.variables[0] ?? scopes.scopeChainAt({ line: 0, column: 1 })[0]?.variables[0];
+  const texts: (string | null | undefined)[] = [variable?.value, scopes.variables(0)?.[0]?.name, scopes.valueAt(0, 0, 1, 2)?.value, scopes.valueAt(0, 0, { line: 1, column: 2 })?.value];
   scopes[Symbol.dispose]();
-  void [all_, one, caller, hidden];
+  void [all_, one, caller, hidden, scopes.scopeChainAt(0, 1).length, texts];
   void [found, name, token, answers, indices, pieces, back, all, raw, concat, url, NO_ID];
 }
 
@@ -139,6 +144,8 @@ function refused(map: SourceMap): void {
   Scopes.decode("");
   // @ts-expect-error: frames are only read
   Scopes.decode("", 0).framesAt(0, 0).frames.pop();
+  // @ts-expect-error: so are variables
+  Scopes.decode("", 0).scopeChainAt(0, 0)[0]!.variables.pop();
   // @ts-expect-error: errors are not made
   new SourceMapError("a");
   // @ts-expect-error: no such code

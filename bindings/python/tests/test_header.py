@@ -17,7 +17,8 @@ ENUMS = ("Code", "Field", "ScopesFault", "PlaceKind", "Bias", "Kind", "MendKind"
 PREFIXES = {"Field": "FIELD_", "ScopesFault": "SCOPES_", "PlaceKind": "PLACE_", "MendKind": "MEND_", "TextKind": "TEXT_"}
 STRUCTS = {"text": "Text", "fault": "Fault", "fault_place": "FaultPlace", "counts": "Counts", "token": "Token", "position": "Position",
            "original": "Original", "piece": "Piece", "mend": "Mend", "compiled_counts": "CompiledCounts",
-           "scopes_counts": "ScopesCounts", "scope": "Scope", "call": "Call", "range": "Range", "frame": "Frame"}  # fmt: skip
+           "scopes_counts": "ScopesCounts", "scope": "Scope", "call": "Call", "range": "Range", "frame": "Frame",
+           "chain_entry": "ChainEntry"}  # fmt: skip
 HANDLES = ("smap_map*", "smap_builder*", "smap_join*", "smap_string*", "smap_mends*", "smap_compiled*", "smap_scopes*", "smap_file*")
 NUMBERS = {"uint32_t": c_uint32, "uint64_t": c_uint64, "size_t": c_size_t}
 
@@ -78,7 +79,7 @@ class Header(unittest.TestCase):
 
     def test_sizes(self):
         sizes = re.findall(r"SMAP_HAS_SIZE\(smap_(\w+), (\d+), (\d+)\);", HEADER)
-        self.assertEqual(len(sizes), 14)
+        self.assertEqual(len(sizes), 15)
         for name, words, more in sizes:
             self.assertEqual(ctypes.sizeof(struct(name)), int(words) * ctypes.sizeof(c_void_p) + int(more), name)
 
@@ -90,6 +91,7 @@ class Header(unittest.TestCase):
                 said = [it.removesuffix("_id") for it in said]
             self.assertEqual(said, wanted)
         self.assertEqual([it for it, *_ in _library.Frame._fields_], [it.removesuffix("_id") for it in oxc_sourcemap.ScopeFrame._fields])
+        self.assertEqual([*(it for it, *_ in _library.ChainEntry._fields_), "variables"], list(oxc_sourcemap.ScopeChainEntry._fields))
         place = [it for it, *_ in _library.FaultPlace._fields_]
         self.assertEqual(list(oxc_sourcemap.FaultPlace._fields), [*place, "message"])
 

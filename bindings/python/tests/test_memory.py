@@ -120,7 +120,7 @@ class Memory(Case):
                 self.keeps_nothing(call)
 
     def test_scopes(self):
-        text = "BFAAA,BFCAC,CCA,CFA,EGAA,ECKC,IAFC,FK,FU"
+        text = "BFAAA,DAC,BFCAC,CCA,CFA,EGAA,GCB,HBAFA,ECKC,IAFC,FK,FU"
         data = f'{{"names":["f","g"],"scopes":"{text}"}}'
 
         def closed():
@@ -133,7 +133,8 @@ class Memory(Case):
             for call in (
                 it.counts, lambda: it.scopes, lambda: it.ranges, lambda: it.get_range(1), lambda: it.scope_at(0, 3, 0), lambda: it.frames_at(0, 12),
                 lambda: it.trace(map, 0, 12), lambda: Node(it=Scopes.decode(text, 2)), lambda: self.assertRaises(SourceMapError, Scopes.decode, text, 1),
-                lambda: self.assertRaises(SourceMapError, Scopes.read, '{"scopes":7}'),
+                lambda: self.assertRaises(SourceMapError, Scopes.read, '{"scopes":7}'), lambda: it.get_variables(0), lambda: it.value_at(0, 1, 0, 4),
+                lambda: it.scope_chain_at(0, 12), lambda: it.scope_chain(0, 0, 12, map), lambda: it.scope_chain(9, 0, 12), lambda: it.get_variables(9),
             ):  # fmt: skip
                 self.keeps_nothing(call)
 

@@ -1,4 +1,4 @@
-"""Scopes, by rows worked by hand; each fault of their text; frames with the texts of a map; and handles."""
+"""Scopes, by rows worked by hand; each fault of their text; frames and variables with the texts of a map; and handles."""
 
 import copy
 import json
@@ -18,10 +18,12 @@ from oxc_sourcemap import (
     Position,
     Range,
     Scope,
+    ScopeChainEntry,
     ScopeFrame,
     Scopes,
     ScopesCounts,
     ScopesFault,
+    ScopeVariable,
     SourceFrame,
     SourceMap,
     _library,
@@ -65,6 +67,14 @@ ROWS = [
     ("", 0, 0, [], []),
 ]  # fmt: skip
 INNER, OUTER, NAMELESS = ScopeFrame(5, 2, None), ScopeFrame(2, 1, None), ScopeFrame(None, None, None)
+# Scopes with a, b and c, of which two items tell, and its code from 2:5 to 4:9. a is x, from 2:9 on y, from 3:2 on nothing, and z from 3:5
+# on; b is x from 3:0 on.
+SPLIT, SPLIT_NAMES = "BAAA,DAC,DC,CJA,EDCFA,GEAG,HAAEFBCAADG,HCAAA,HBBAE,FCJ", ["a", "b", "c", "x", "y", "z"]
+# f with a, inlined into itself at columns 10 to 20, where a is y and not x; the same code where the inner range is of no scope; and a block
+# in f, whose code stands around that of f.
+RECURSIVE = "BFAAA,DC,CJA,EGAA,GD,ECKA,GE,IABB,FK,FU"
+OF_NONE = "BFAAA,DC,CJA,EGAA,GD,EAK,FK,FU"
+TURNED = "BFAAA,DC,BABA,DC,CBC,CJA,ECAC,GC,ECKD,GD,FK,FU"
 NESTED = "BFAAA,CJA,EGAA," + ",".join(["ECAA,IABC"] * 9) + ",FK" * 10
 
 
@@ -127,6 +137,71 @@ class OfScopes(Case):
             with self.assertRaisesRegex(TypeError, "map is no SourceMap or CompiledMap, but "):
                 it.trace(wrong, 0, 0)
 
+    def test_variables(self):
+        it = Scopes.decode(INLINED, 7)
+        self.assertEqual([it.get_variables(scope) for scope in (0, 1, 2, 3, 2**32 - 1)], [[], [4], [], None, None])
+        self.assertEqual(Scopes.decode(SPLIT, 6).get_variables(0), [0, 1, 2])
+
+    def test_values(self):
+        it = Scopes.decode(INLINED, 7)
+        rows = [(1, 0, 10, 6), (1, 0, 39, 6), (1, 1, 10, None), (0, 0, 10, None), (2, 0, 20, None), (3, 0, 20, None), (2**32 - 1, 0, 20, None)]
+        for range, variable, column, value in rows:
+            self.assertEqual(it.value_at(range, variable, 0, column), value, (range, variable, column))
+        it = Scopes.decode(SPLIT, 6)
+        rows = [
+            (0, 2, 5, 3), (0, 2, 8, 3), (0, 2, 9, 4), (0, 2, 2**32 - 1, 4), (0, 3, 1, 4), (0, 3, 2, None), (0, 3, 4, None), (0, 3, 5, 5), (0, 4, 8, 5),
+            (1, 2, 5, None), (1, 3, 0, 3), (1, 4, 8, 3), (2, 2, 5, None), (2, 4, 0, None), (3, 3, 0, None), (2**32 - 1, 3, 0, None),
+        ]  # fmt: skip
+        for variable, line, column, value in rows:
+            self.assertEqual(it.value_at(0, variable, line, column), value, (variable, line, column))
+
+    def test_chains(self):
+        it = Scopes.read(JSON)
+        inner, outer = ScopeChainEntry(2, 2, []), ScopeChainEntry(1, 1, [ScopeVariable(4, 6, None, None)])
+        whole = ScopeChainEntry(0, 0, [])
+        rows = [(9, [whole]), (10, [outer, whole]), (15, [outer, whole]), (20, [inner, whole]), (25, [inner, whole]), (30, [outer, whole])]
+        for column, chain in rows:
+            self.assertEqual(it.scope_chain_at(0, column), chain, column)
+        self.assertEqual((it.scope_chain_at(1, 0), it.scope_chain(0, 1, 0), it.scope_chain(2, 0, 25), it.scope_chain(2**32 - 1, 0, 25)), ([], None, None, None))
+        self.assertEqual((it.scope_chain(0, 0, 25), it.scope_chain(0, 0, 15), it.scope_chain(1, 0, 15)), ([inner, whole], [outer, whole], None))
+        # (the frame of the call, at 3:4)
+        self.assertEqual(it.scope_chain(1, 0, 25), [outer, whole])
+
+    def test_values_in_chains(self):
+        def told(chain):
+            return [(scope, range, [(it.name_id, it.value_id) for it in variables]) for scope, range, variables in chain]
+
+        it = Scopes.decode(RECURSIVE, 4)
+        for column, range, value in [(0, 0, 2), (9, 0, 2), (10, 1, 3), (19, 1, 3), (20, 0, 2), (39, 0, 2)]:
+            self.assertEqual(told(it.scope_chain_at(0, column)), [(0, range, [(1, value)])], column)
+            self.assertEqual(it.scope_chain(0, 0, column), it.scope_chain_at(0, column))
+        # (the frame of the call does not see the values of the body that was inlined)
+        self.assertEqual(told(it.scope_chain(1, 0, 15)), [(0, 0, [(1, 2)])])
+        it = Scopes.decode(OF_NONE, 3)
+        self.assertEqual((told(it.scope_chain_at(0, 9)), it.scope_chain_at(0, 15)), ([(0, 0, [(1, 2)])], []))
+        self.assertEqual(it.scope_chain(0, 0, 15), [])
+        it = Scopes.decode(TURNED, 3)
+        self.assertEqual(told(it.scope_chain_at(0, 5)), [(1, 0, [(2, 1)]), (0, None, [(1, None)])])
+        self.assertEqual(told(it.scope_chain_at(0, 15)), [(0, 1, [(1, 2)])])
+        it = Scopes.decode(SPLIT, 6)
+        for place, values in [((2, 8), [3, None, None]), ((2, 9), [4, None, None]), ((3, 0), [4, 3, None]), ((3, 2), [None, 3, None]), ((4, 8), [5, 3, None])]:
+            self.assertEqual(told(it.scope_chain_at(*place)), [(0, 0, list(zip([0, 1, 2], values)))], place)
+
+    def test_texts_of_variables(self):
+        it = Scopes.decode(SPLIT, 6)
+        few = SourceMap.from_json(json.dumps({"version": 3, "sources": [], "names": SPLIT_NAMES[:4], "mappings": ""}))
+        map = SourceMap.from_json(json.dumps({"version": 3, "sources": [], "names": SPLIT_NAMES, "mappings": ""}))
+        wanted = [ScopeVariable(0, 4, "a", "y"), ScopeVariable(1, 3, "b", "x"), ScopeVariable(2, None, "c", None)]
+        with CompiledMap(map.compile()) as compiled:
+            for of in (map, compiled):
+                self.assertEqual(it.scope_chain_at(3, 1, of), [ScopeChainEntry(0, 0, wanted)])
+                self.assertEqual(it.scope_chain(0, 3, 1, map=of), [ScopeChainEntry(0, 0, wanted)])
+        self.assertEqual(it.scope_chain_at(3, 1, few)[0].variables, [ScopeVariable(0, 4, "a", None), *wanted[1:]])
+        for wrong in (7, "map", it):
+            for call in (lambda: it.scope_chain_at(0, 0, wrong), lambda: it.scope_chain(0, 0, 0, wrong)):
+                with self.assertRaisesRegex(TypeError, "map is no SourceMap or CompiledMap, but "):
+                    call()
+
     def test_faults(self):
         rows = [
             ("A,!", 0, ScopesFault.NOT_A_DIGIT, 2, "a character is no base64 digit"),
@@ -138,6 +213,7 @@ class OfScopes(Case):
             ("BAAA,A", 0, ScopesFault.NOT_CLOSED, 5, "the scopes before it are not closed"),
             (",".join(["BAAA"] * 1025), 0, ScopesFault.TOO_DEEP, 5120, "more than 1024 scopes or ranges are nested"),
             ("BAAA", 0, ScopesFault.LEFT_OPEN, 4, "a scope or a range has no end"),
+            ("EAA,GB,HABAB,HABAB", 1, ScopesFault.SPLIT_TWICE, 13, "the value has sub-ranges already"),
         ]
         self.assertEqual([kind for _, _, kind, _, _ in rows], list(ScopesFault))
         for text, names, kind, byte, message in rows:
@@ -163,9 +239,14 @@ class OfScopes(Case):
         for call in (it.scope_at, it.function_at):
             self.assertRaises(OverflowError, call, 0, -1, 0)
             self.assertRaises(OverflowError, call, 2**32, 0, 0)
-        for call in (it.range_at, it.frames_at):
+        for call in (it.range_at, it.frames_at, it.scope_chain_at):
             self.assertRaises(OverflowError, call, 2**32, 0)
-        for call in (it.get_scope, it.get_range):
+            self.assertRaises(OverflowError, call, 0, -1)
+        for at in range(4):
+            self.assertRaises(OverflowError, it.value_at, *([0] * at), 2**32, *([0] * (3 - at)))
+        for at in range(3):
+            self.assertRaises(OverflowError, it.scope_chain, *([0] * at), -1, *([0] * (2 - at)))
+        for call in (it.get_scope, it.get_range, it.get_variables):
             self.assertRaises(TypeError, call, "0")
         self.assertRaises(OverflowError, Scopes.decode, "", -1)
         self.assertRaises(TypeError, Scopes.read, {})
@@ -175,13 +256,23 @@ class OfScopes(Case):
         it = Scopes.read(JSON)
         with mock.patch.object(_library.lib, "smap_frames_at", lambda *_: Code.OUT_OF_MEMORY):
             self.assertRaises(MemoryError, it.frames_at, 0, 25)
+        for name, *given in [("scope_chain_at", 0, 25), ("scope_chain", 1, 0, 25)]:
+            call = getattr(_library.lib, f"smap_{name}")
+            # (at once, and where how many there are is known)
+            for refused in (lambda *_: Code.OUT_OF_MEMORY, lambda *given, call=call: Code.OUT_OF_MEMORY if given[-2] else call(*given)):
+                with mock.patch.object(_library.lib, f"smap_{name}", refused):
+                    self.assertRaises(MemoryError, getattr(it, name), *given)
 
     def test_codes_that_are_not_none(self):
         it = Scopes.read(JSON)
-        for name, *given in [("get_scope", 0), ("get_range", 0), ("scope_at", 0, 0, 0), ("function_at", 0, 1, 0), ("range_at", 0, 0)]:
+        rows = [("get_scope", 0), ("get_range", 0), ("scope_at", 0, 0, 0), ("function_at", 0, 1, 0), ("range_at", 0, 0)]
+        for name, *given in [*rows, ("get_variables", 0), ("value_at", 0, 0, 0, 0), ("scope_chain_at", 0, 0), ("scope_chain", 0, 0, 0)]:
             call = f"smap_{name}"
             with mock.patch.object(_library.lib, call, lambda *_: Code.BAD_OPTION):
                 self.fails(Code.BAD_OPTION, getattr(it, name), *given)
+        for call in ("smap_get_variables", "smap_value_at"):
+            with mock.patch.object(_library.lib, call, lambda *_: Code.BAD_OPTION):
+                self.fails(Code.BAD_OPTION, it.scope_chain_at, 0, 15)
 
     def test_closed(self):
         with Scopes.read(JSON) as it:
@@ -191,12 +282,13 @@ class OfScopes(Case):
         self.assertEqual(repr(it), "<Scopes: closed>")
         it.close()
         for call in (it.counts, lambda: it.scopes, lambda: it.ranges, lambda: it.get_scope(0), lambda: it.get_range(0), lambda: it.scope_at(0, 0, 0),
-                     lambda: it.function_at(0, 0, 0), lambda: it.range_at(0, 0), lambda: it.frames_at(0, 0), lambda: it.trace(read(), 0, 0)):  # fmt: skip
+                     lambda: it.function_at(0, 0, 0), lambda: it.range_at(0, 0), lambda: it.frames_at(0, 0), lambda: it.trace(read(), 0, 0),
+                     lambda: it.get_variables(0), lambda: it.value_at(0, 0, 0, 0), lambda: it.scope_chain_at(0, 0), lambda: it.scope_chain(0, 0, 0)):  # fmt: skip
             self.is_closed(call)
         it = Scopes.read(JSON)
         for call in (pickle.dumps, copy.copy, copy.deepcopy):
             self.assertRaisesRegex(TypeError, "cannot be pickled", call, it)
-        for value in (*it.scopes, *it.ranges, it.frames_at(0, 25), it.counts()):
+        for value in (*it.scopes, *it.ranges, it.frames_at(0, 25), it.counts(), it.scope_chain_at(0, 15)[0]):
             self.assertEqual(pickle.loads(pickle.dumps(value)), value)
 
     def test_threads(self):
@@ -204,9 +296,9 @@ class OfScopes(Case):
 
         def ask():
             for _ in range(200):
-                answers.append((it.frames_at(0, 25), tuple(it.scopes), it.scope_at(0, 4, 0), it.range_at(0, 29)) == wanted)
+                answers.append((it.frames_at(0, 25), tuple(it.scopes), it.scope_at(0, 4, 0), it.range_at(0, 29), it.scope_chain_at(0, 15)) == wanted)
 
-        wanted = (it.frames_at(0, 25), tuple(it.scopes), 1, 2)
+        wanted = (it.frames_at(0, 25), tuple(it.scopes), 1, 2, it.scope_chain(0, 0, 15))
         threads = [threading.Thread(target=ask) for _ in range(8)]
         for thread in threads:
             thread.start()

@@ -42,6 +42,13 @@ function framesAt(host, handle, line, column, out) {
   return lists(host, handle, out, Words.FRAME, run, scopesOf);
 }
 
+/** Lists of so many words an entry, by some numbers. */
+const listsBy = (name, numbers, size) => (host, handle, ...given) => {
+  const asked = Array.from({ length: numbers }, (_, i) => word(given[i]));
+  const run = (it, at, out, length) => it.call(name, at, ...asked, out, length, it.countAt);
+  return lists(host, handle, given[numbers], size, run, scopesOf);
+};
+
 module.exports = {
   readScopes,
   decodeScopes,
@@ -52,4 +59,8 @@ module.exports = {
   functionAt: asksWords('smap_function_at', 3, 1),
   rangeAt: asksWords('smap_range_at', 2, 1),
   framesAt,
+  getVariables: listsBy('smap_get_variables', 1, 1),
+  valueAt: asksWords('smap_value_at', 4, 1),
+  scopeChainAt: listsBy('smap_scope_chain_at', 2, Words.CHAIN_ENTRY),
+  scopeChain: listsBy('smap_scope_chain', 3, Words.CHAIN_ENTRY),
 };

@@ -24,7 +24,8 @@ const NOTHING = new Uint32Array(0);
 /** How many words a call answers. The bytes that a map holds (the last two of getCounts) are left out where maps were copied. */
 const ANSWERS = { getCounts: 6, isSorted: 1, isSound: 1, getToken: 6, getTokens: 1, getIgnoreList: 1, trace: 8, pieces: 1, firstDifference: 2,
   generated: 7, allGenerated: 1, builderAddName: 1, builderAddSource: 1, getMends: 1, decodeTokens: 2, compiledCounts: 12, isIgnored: 1,
-  scopesCounts: 6, getScope: 9, getRange: 11, scopeAt: 1, functionAt: 1, rangeAt: 1, framesAt: 2 };
+  scopesCounts: 6, getScope: 9, getRange: 11, scopeAt: 1, functionAt: 1, rangeAt: 1, framesAt: 2,
+  getVariables: 1, valueAt: 1, scopeChainAt: 1, scopeChain: 1 };
 
 /** The handles of both for one map, builder or join. */
 class Pair {
@@ -182,12 +183,19 @@ function asksScopes(scopes, next) {
     both('rangeAt', scopes, ...place);
     both('framesAt', scopes, ...place, output(next(12)));
     filled('framesAt', 5, scopes, ...place);
+    both('valueAt', scopes, next(4), next(3), ...place);
+    both('scopeChainAt', scopes, ...place, output(next(5)));
+    filled('scopeChainAt', 2, scopes, ...place);
+    both('scopeChain', scopes, next(4), ...place, output(next(5)));
+    filled('scopeChain', 2, scopes, next(4), ...place);
+    both('getVariables', scopes, next(4), output(next(3)));
+    filled('getVariables', 1, scopes, next(4));
   }
 }
 
 /** A text of scopes, with some of it changed more often than not. */
 function scopesText(next) {
-  const texts = ['BCAAC,BHBAEE,DI,CDB,BHBAGA,CCB,CBA,ECAA,EGKC,GH,ECKC,IADE,FK,FK,FBA', 'A,BEAAA,BABC,CBA,CBA,ENA,EA,IBAA,FC,FBA', 'BFAAA,CEA,BFBAA,CFA,EGAC,FJ,EGAD,FBC', 'A'];
+  const texts = ['BCAAC,BHBAEE,DI,CDB,BHBAGA,CCB,CBA,ECAA,EGKC,GH,ECKC,IADE,FK,FK,FBA', 'A,BEAAA,BABC,CBA,CBA,ENA,EA,IBAA,FC,FBA', 'BFAAA,CEA,BFBAA,CFA,EGAC,FJ,EGAD,FBC', 'BAAA,DAC,DC,CJA,ECAA,GEAG,HAAEFBCAADG,HCAAA,HBBAE,FEJ', 'A'];
   const text = texts[next(texts.length)];
   return next(3) === 0 ? text : mutated(Buffer.from(text), next).toString('latin1');
 }

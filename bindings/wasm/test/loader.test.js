@@ -140,6 +140,18 @@ test('scopes are where maps of such texts are, and find no memory as these', () 
   const block = small.decodeScopes('A,BEAAA,BABC,CBA,CBA', 0);
   assert.deepEqual([...words(1, 'scopeAt', block, 1, 1, 3), ...words(1, 'functionAt', block, 1, 1, 3)], [0, 1, 0, 0]);
   small.free(block);
+  const split = small.decodeScopes('BAAA,DAC,CJA,ECAA,GAD,HBBBE,FCE', 4);
+  const listed = (length, name, ...call) => {
+    const out = new Uint32Array(length + 1).fill(7);
+    return [small[name](split, ...call, out.subarray(0, length)), small.words[0], ...out];
+  };
+  assert.deepEqual([listed(0, 'getVariables', 0), listed(1, 'getVariables', 0), listed(3, 'getVariables', 0)], [[0, 2, 7], [0, 2, 0, 7], [0, 2, 0, 1, 7, 7]]);
+  assert.deepEqual([words(1, 'valueAt', split, 0, 0, 1, 1), words(1, 'valueAt', split, 0, 1, 1, 0), words(1, 'valueAt', split, 0, 1, 1, 1)], [[0, NOT_TOLD], [0, 2], [0, 3]]);
+  assert.deepEqual([listed(1, 'scopeChainAt', 1, 0), listed(3, 'scopeChainAt', 1, 0), listed(2, 'scopeChainAt', 9, 0)], [[0, 1, 7, 7], [0, 1, 0, 0, 7, 7], [0, 0, 7, 7, 7]]);
+  assert.deepEqual([listed(2, 'scopeChain', 0, 1, 0), small.scopeChain(split, 0, 9, 0, NOTHING)], [[0, 1, 0, 0, 7], 103]);
+  assert.deepEqual([small.valueAt(split, 1, 0, 0, 0), small.getVariables(split, 1, NOTHING), small.scopeChain(split, 1, 1, 0, NOTHING)], [103, 103, 103]);
+  small.free(split);
+  assert.deepEqual([small.getVariables(split, 0, NOTHING), small.valueAt(split, 0, 0, 0, 0), small.scopeChainAt(split, 0, 0, NOTHING), small.scopeChain(split, 0, 0, 0, NOTHING)], [100, 100, 100, 100]);
   assert.deepEqual([small.decodeScopes('BBAAA,CBA', 1).isFreed, small.decodeScopes('BBAAA,CBA', 0)], [false, 27]);
   assert.equal(map.instance.held, 4);
   for (const it of [one, one, large_]) small.free(it);
@@ -150,7 +162,7 @@ test('scopes are where maps of such texts are, and find no memory as these', () 
   assert.equal(small.framesAt(other, 0, 3, new Uint32Array(5 * 1_000_000)), NO_MEMORY);
   while (other.instance.call('malloc', 64) !== 0);
   while (other.instance.call('malloc', 1) !== 0);
-  assert.equal(small.framesAt(other, 0, 3, NOTHING), NO_MEMORY);
+  for (const code of [small.framesAt(other, 0, 3, NOTHING), small.scopeChainAt(other, 0, 15, NOTHING), small.scopeChain(other, 0, 0, 3, NOTHING)]) assert.equal(code, NO_MEMORY);
   assert.deepEqual([small.fault[0], small.scopeAt(other, 0, 1, 0), small.words[0]], [NO_MEMORY, 0, 0]);
 });
 
@@ -284,7 +296,7 @@ test('what is freed leaves nothing in its instance', () => {
   assert.equal(native.firstDifference(map, changed), 103);
   assert.equal(native.decodeScopes(`${SCOPES},B`, 0), 27);
   assert.equal(native.readScopes('{"scopes":1}'), 28);
-  for (const length of [0, 5, 10, 20]) assert.equal(native.framesAt(scopes, 0, 3, new Uint32Array(length)), 0);
+  for (const length of [0, 5, 10, 20]) for (const name of ['framesAt', 'scopeChainAt']) assert.equal(native[name](scopes, 0, 3, new Uint32Array(length)), 0);
   assert.equal(native.encodeMappings(new Uint32Array(6)), 'AAAAA');
   assert.equal(native.decodeTokens('AAAA', 1, 1, new Uint32Array(6)), 0);
   assert.equal(native.decodeTokens('AA', 1, 1, new Uint32Array(6)), 7);

@@ -85,6 +85,10 @@ class Frame(Structure):
     _fields_ = [("name", c_uint32), ("scope", c_uint32), ("call", Call)]
 
 
+class ChainEntry(Structure):
+    _fields_ = [("scope", c_uint32), ("range", c_uint32)]
+
+
 # The types of parameters: a handle and an array go by their address, texts as bytes, and what is written by reference.
 _u32, _size, _handle, _array, _bytes = c_uint32, c_size_t, c_void_p, c_void_p, c_char_p
 _made, _number, _count, _fault = POINTER(c_void_p), POINTER(c_uint32), POINTER(c_size_t), POINTER(Fault)
@@ -148,6 +152,10 @@ PROTOTYPES: dict[str, tuple[Any, ...]] = {
     "smap_function_at": (_u32, _handle, _u32, _u32, _u32, _number),
     "smap_range_at": (_u32, _handle, _u32, _u32, _number),
     "smap_frames_at": (_u32, _handle, _u32, _u32, _array, _size, _count, _number),
+    "smap_get_variables": (_u32, _handle, _u32, _array, _size, _count),
+    "smap_value_at": (_u32, _handle, _u32, _u32, _u32, _u32, _number),
+    "smap_scope_chain_at": (_u32, _handle, _u32, _u32, _array, _size, _count),
+    "smap_scope_chain": (_u32, _handle, _u32, _u32, _u32, _array, _size, _count),
     "smap_set_file": (_u32, _handle, _bytes, _size, _fault),
     "smap_set_source_root": (_u32, _handle, _bytes, _size, _fault),
     "smap_set_debug_id": (_u32, _handle, _bytes, _size, _fault),

@@ -1,4 +1,4 @@
-"""`Scopes`: the functions of sources, and the frames of calls that were inlined."""
+"""`Scopes`: the functions of sources, the frames of calls that were inlined, and the values of variables."""
 
 from __future__ import annotations
 
@@ -12,9 +12,9 @@ from . import _library
 from ._compiled import CompiledMap
 from ._errors import check_code
 from ._handle import Handle
-from ._library import lib
+from ._library import NO_ID, lib
 from ._map import SourceMap
-from ._numbers import bytes_of, number
+from ._numbers import bytes_of, listed, listed_or_none, number
 from ._values import (
     Bias,
     Call,
@@ -23,7 +23,9 @@ from ._values import (
     Position,
     Range,
     Scope,
+    ScopeChainEntry,
     ScopeFrame,
+    ScopeVariable,
     ScopesCounts,
     SourceFrame,
     Text,
@@ -166,6 +168,16 @@ class Scopes(Handle):
         code = self._read(lambda at: lib.smap_get_range(at, index, byref(out)))
         return _range_of(out) if _is_there(code) else None
 
+    def get_variables(self, scope: int) -> Optional[list[int]]:
+        """The variables of a scope by its index, as ids of names, or None past the last scope.
+
+        >>> Scopes.decode("BFAAA,DCC,CJA", names=3).get_variables(0)
+        [1, 2]
+        """
+        index = number(scope)
+        found = self._read(lambda at: listed_or_none(lambda *out: lib.smap_get_variables(at, index, *out), "I", 1))
+        return None if found is None else found.tolist()
+
     # ---- lookups ----
 
     def scope_at(self, source_id: int, line: int, column: int) -> Optional[int]:
@@ -219,6 +231,65 @@ class Scopes(Handle):
 
         return self._read(copied)
 
+    def value_at(self, range: int, variable: int, line: int, column: int) -> Optional[int]:
+        """The value of a variable, by its place in `get_variables`, in a range of its scope's code at a position in the range: the id of
+        the name that is the expression for it. None if it has no value there, or there is no such variable or range.
+
+        >>> Scopes.decode("BFAAA,DC,CJA,EGAA,GD,FU", names=3).value_at(0, 0, 0, 4)
+        2
+        """
+        place, out = (number(range), number(variable), number(line), number(column)), ctypes.c_uint32()
+        code = self._read(lambda at: lib.smap_value_at(at, *place, byref(out)))
+        return id_of(out.value) if _is_there(code) else None
+
+    def scope_chain_at(
+        self, line: int, column: int, map: Union[SourceMap, CompiledMap, None] = None
+    ) -> list[ScopeChainEntry]:
+        """The scopes that a position of the generated code is in, from the inside out, with their variables, whose texts are those of the
+        map: the scope that the innermost range is the code of, and those around it. An empty list where no range contains the position,
+        or that one is the code of no scope.
+
+        >>> json = '{"version":3,"sources":["a.js"],"names":["f","a","x"],"mappings":"AAAA","scopes":"BFAAA,DC,CJA,EGAA,GD,FU"}'
+        >>> Scopes.read(json).scope_chain_at(0, 4, SourceMap.from_json(json))[0].variables
+        [ScopeVariable(name_id=1, value_id=2, name='a', value='x')]
+        """
+        place = number(line), number(column)
+        return self._chain(lambda at, *out: lib.smap_scope_chain_at(at, *place, *out), place, map) or []
+
+    def scope_chain(
+        self, frame: int, line: int, column: int, map: Union[SourceMap, CompiledMap, None] = None
+    ) -> Optional[list[ScopeChainEntry]]:
+        """The same of a frame of the source, by its index in `frames_at`, or None past the last one: for frame 0 the scopes of
+        `scope_chain_at`, for an inlined call those at its place, with the ranges around the inlined body.
+
+        >>> scopes = Scopes.decode("BFAAA,BFCAC,CCA,CFA,EGAA,ECKC,IAFC,FK,FU", names=2)
+        >>> scopes.scope_chain(1, 0, 12)
+        [ScopeChainEntry(scope=0, range=0, variables=[])]
+        """
+        index, place = number(frame), (number(line), number(column))
+        return self._chain(lambda at, *out: lib.smap_scope_chain(at, index, *place, *out), place, map)
+
+    def _chain(
+        self, call: Callable[..., int], place: tuple[int, int], map: Union[SourceMap, CompiledMap, None]
+    ) -> Optional[list[ScopeChainEntry]]:
+        """The chain that a call gives, or None if it says that there is none."""
+        if map is not None:
+            _check_map(map)
+
+        def copied(at: int) -> Optional[list[tuple[int, int, list[tuple[int, Optional[int]]]]]]:
+            found = listed_or_none(lambda *out: call(at, *out), "I", 2)
+            if found is None:
+                return None
+            return [(*it, _variables_in(at, *it, place)) for it in zip(found[::2], found[1::2])]
+
+        found = self._read(copied)
+        if found is None:
+            return None
+        return [
+            ScopeChainEntry(scope, id_of(range), [_variable_of(map, *ids) for ids in variables])
+            for scope, range, variables in found
+        ]
+
     def trace(
         self, map: Union[SourceMap, CompiledMap], line: int, column: int, bias: int = Bias.BEFORE
     ) -> list[SourceFrame]:
@@ -230,8 +301,7 @@ class Scopes(Handle):
         >>> Scopes.read(json).trace(SourceMap.from_json(json), 0, 4)
         [SourceFrame(source='a.js', line=0, column=0, name='f')]
         """
-        if not isinstance(map, (SourceMap, CompiledMap)):
-            raise TypeError(f"map is no SourceMap or CompiledMap, but {type(map).__name__}")
+        _check_map(map)
         frames, is_hidden = self.frames_at(line, column)
         if is_hidden:
             return []
@@ -253,6 +323,11 @@ def _is_there(code: int) -> bool:
         return False
     check_code(code)
     return True
+
+
+def _check_map(map: object) -> None:
+    if not isinstance(map, (SourceMap, CompiledMap)):
+        raise TypeError(f"map is no SourceMap or CompiledMap, but {type(map).__name__}")
 
 
 def _counts_in(at: int) -> _library.ScopesCounts:
@@ -283,3 +358,22 @@ def _range_of(it: _library.Range) -> Range:
 
 def _frame_of(it: _library.Frame) -> ScopeFrame:
     return ScopeFrame(id_of(it.name), id_of(it.scope), _call_of(it.call))
+
+
+def _variables_in(at: int, scope: int, range: int, place: tuple[int, int]) -> list[tuple[int, Optional[int]]]:
+    """The variables of a scope with their values in a range, as ids."""
+    variables = listed(lambda *out: lib.smap_get_variables(at, scope, *out), "I", 1)
+    return [(name, _value_in(at, range, index, place)) for index, name in enumerate(variables)]
+
+
+def _value_in(at: int, range: int, variable: int, place: tuple[int, int]) -> Optional[int]:
+    if range == NO_ID:
+        return None
+    out = ctypes.c_uint32()
+    check_code(lib.smap_value_at(at, range, variable, *place, byref(out)))
+    return id_of(out.value)
+
+
+def _variable_of(map: Union[SourceMap, CompiledMap, None], name: int, value: Optional[int]) -> ScopeVariable:
+    texts = [None if map is None or it is None else map.get_name(it) for it in (name, value)]
+    return ScopeVariable(name, value, *texts)

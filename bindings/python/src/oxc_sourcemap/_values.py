@@ -95,10 +95,11 @@ class ScopesFault(IntEnum):
     TOO_LARGE: a number has more than seven digits, or with it a line, a column or a source is above its limit.
     MISSING_NUMBER: it is empty, or lacks a number.
     BAD_INDEX: an index leads to no name, scope or value.
-    NOTHING_OPEN: it is an end, or a call site, and nothing that it could belong to is open.
+    NOTHING_OPEN: it is an end, variables, values, sub-ranges or a call site, and nothing that it could belong to is open.
     NOT_CLOSED: a source without scopes comes within the scopes of another.
     TOO_DEEP: more than 1024 scopes or ranges are nested.
     LEFT_OPEN: the text ends, and a scope or a range has no end.
+    SPLIT_TWICE: it is sub-ranges of a value that has some already.
     """
 
     NOT_A_DIGIT = 1
@@ -110,6 +111,7 @@ class ScopesFault(IntEnum):
     NOT_CLOSED = 7
     TOO_DEEP = 8
     LEFT_OPEN = 9
+    SPLIT_TWICE = 10
 
 
 class PlaceKind(IntEnum):
@@ -339,6 +341,25 @@ class Frames(NamedTuple):
 
     frames: list[ScopeFrame]
     is_hidden: bool
+
+
+class ScopeVariable(NamedTuple):
+    """A variable of a scope, and its value at a position: the ids of its name, and of the name that is the expression for the value, or
+    None if it has none there. `name` and `value` are their texts if a map was given."""
+
+    name_id: int
+    value_id: Optional[int]
+    name: Optional[str]
+    value: Optional[str]
+
+
+class ScopeChainEntry(NamedTuple):
+    """A scope that a position of the generated code is in, and the innermost range there that is the code of it, both by their index;
+    and the variables of the scope, with the values that they have in that range. Without one no variable has a value."""
+
+    scope: int
+    range: Optional[int]
+    variables: list[ScopeVariable]
 
 
 class SourceFrame(NamedTuple):

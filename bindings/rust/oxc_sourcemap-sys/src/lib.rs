@@ -101,6 +101,7 @@ pub const SMAP_SCOPES_NOTHING_OPEN: u32 = 6;
 pub const SMAP_SCOPES_NOT_CLOSED: u32 = 7;
 pub const SMAP_SCOPES_TOO_DEEP: u32 = 8;
 pub const SMAP_SCOPES_LEFT_OPEN: u32 = 9;
+pub const SMAP_SCOPES_SPLIT_TWICE: u32 = 10;
 
 // The kinds of places.
 pub const SMAP_PLACE_NONE: u32 = 0;
@@ -376,6 +377,14 @@ pub struct smap_frame {
     pub call: smap_call,
 }
 
+/// A scope that a position of the generated code is in, and the innermost range there that is the code of it, by their indices.
+#[repr(C)]
+#[derive(Clone, Copy, Debug, Default, PartialEq, Eq)]
+pub struct smap_chain_entry {
+    pub scope: u32,
+    pub range: u32,
+}
+
 unsafe extern "C" {
     pub fn smap_version() -> u32;
     pub fn smap_from_json_string(
@@ -563,6 +572,38 @@ unsafe extern "C" {
         out_len: usize,
         count: *mut usize,
         is_hidden: *mut u32,
+    ) -> u32;
+    pub fn smap_get_variables(
+        scopes: *const smap_scopes,
+        scope: u32,
+        out: *mut u32,
+        out_len: usize,
+        count: *mut usize,
+    ) -> u32;
+    pub fn smap_value_at(
+        scopes: *const smap_scopes,
+        range: u32,
+        variable: u32,
+        line: u32,
+        column: u32,
+        out: *mut u32,
+    ) -> u32;
+    pub fn smap_scope_chain_at(
+        scopes: *const smap_scopes,
+        line: u32,
+        column: u32,
+        out: *mut smap_chain_entry,
+        out_len: usize,
+        count: *mut usize,
+    ) -> u32;
+    pub fn smap_scope_chain(
+        scopes: *const smap_scopes,
+        frame: u32,
+        line: u32,
+        column: u32,
+        out: *mut smap_chain_entry,
+        out_len: usize,
+        count: *mut usize,
     ) -> u32;
     pub fn smap_set_file(map: *mut smap_map, file: *const c_char, file_len: usize, fault: *mut smap_fault) -> u32;
     pub fn smap_set_source_root(

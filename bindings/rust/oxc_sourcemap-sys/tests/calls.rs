@@ -281,6 +281,7 @@ fn scopes_tell_null_handles_first() {
     let mut counts = smap_scopes_counts { scopes: 7, ..smap_scopes_counts::default() };
     let (mut scope, mut range) = (smap_scope::default(), smap_range::default());
     let mut frame = smap_frame { name: 7, ..smap_frame::default() };
+    let mut entry = smap_chain_entry { scope: 7, range: 7 };
     // SAFETY: pointers are null or to live values, and lengths are theirs.
     let codes = unsafe {
         [
@@ -292,11 +293,40 @@ fn scopes_tell_null_handles_first() {
             smap_range_at(null(), 0, 0, &mut out.number),
             smap_frames_at(null(), 0, 0, &mut frame, 1, &mut out.count, &mut out.number),
             smap_frames_at(null(), 0, 0, null_mut(), 0, &mut out.count, null_mut()),
+            smap_get_variables(null(), 0, &mut out.number, 1, &mut out.count),
+            smap_value_at(null(), 0, 0, 0, 0, &mut out.number),
+            smap_scope_chain_at(null(), 0, 0, &mut entry, 1, &mut out.count),
+            smap_scope_chain(null(), 0, 0, 0, &mut entry, 1, &mut out.count),
         ]
     };
     are_of_null_handles(&codes, &out);
-    assert_eq!((counts.scopes, frame.name), (7, 7));
+    assert_eq!((counts.scopes, frame.name, entry), (7, 7, smap_chain_entry { scope: 7, range: 7 }));
     assert_eq!((scope, range), (smap_scope::default(), smap_range::default()));
+}
+
+#[test]
+fn variables_and_chains_are_counted_without_a_list_and_fit_into_a_short_one() {
+    // The value of the first variable is none, that of the second x, and from 1:1 on y.
+    let member = "BAAA,DAC,CJA,ECAA,GAD,HBBBE,FCE";
+    let (mut scopes, mut count, mut number, mut entry) = (null_mut(), 7, 7, smap_chain_entry { scope: 7, range: 7 });
+    // SAFETY: pointers are null or to live values, lengths are theirs, and the scopes are freed once.
+    unsafe {
+        assert_eq!(smap_decode_scopes(at(member), member.len(), 4, &mut scopes, null_mut()), SMAP_OK);
+        assert_eq!((smap_get_variables(scopes, 0, null_mut(), 0, &mut count), count), (SMAP_OK, 2));
+        assert_eq!((smap_get_variables(scopes, 0, &mut number, 1, &mut count), count, number), (SMAP_OK, 2, 0));
+        assert_eq!((smap_value_at(scopes, 0, 0, 1, 0, &mut number), number), (SMAP_OK, SMAP_NO_ID));
+        assert_eq!((smap_value_at(scopes, 0, 1, 1, 0, &mut number), number), (SMAP_OK, 2));
+        assert_eq!((smap_value_at(scopes, 0, 1, 1, 1, &mut number), number), (SMAP_OK, 3));
+        assert_eq!((smap_scope_chain_at(scopes, 1, 0, null_mut(), 0, &mut count), count), (SMAP_OK, 1));
+        assert_eq!((smap_scope_chain_at(scopes, 1, 0, &mut entry, 1, &mut count), count), (SMAP_OK, 1));
+        assert_eq!(entry, smap_chain_entry { scope: 0, range: 0 });
+        entry = smap_chain_entry { scope: 7, range: 7 };
+        assert_eq!((smap_scope_chain(scopes, 0, 1, 0, &mut entry, 1, &mut count), count), (SMAP_OK, 1));
+        assert_eq!(entry, smap_chain_entry { scope: 0, range: 0 });
+        assert_eq!(smap_scope_chain(scopes, 1, 1, 0, &mut entry, 1, &mut count), SMAP_NO_ENTRY);
+        assert_eq!(smap_scope_chain(scopes, 0, 9, 0, &mut entry, 1, &mut count), SMAP_NO_ENTRY);
+        smap_free_scopes(scopes);
+    }
 }
 
 #[test]

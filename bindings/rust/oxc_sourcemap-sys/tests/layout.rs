@@ -38,4 +38,5 @@ fn layouts() {
         start: 0, end: 8, definition: 16, is_stack_frame: 20, is_hidden: 24, call: 28, parent: 40,
     });
     layout!(smap_frame, 20, 4, { name: 0, scope: 4, call: 8, });
+    layout!(smap_chain_entry, 8, 4, { scope: 0, range: 4, });
 }

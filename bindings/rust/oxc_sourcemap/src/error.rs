@@ -130,7 +130,7 @@ pub enum ScopesFaultKind {
     MissingNumber,
     /// An index leads to no name, scope or value.
     BadIndex,
-    /// It is an end, or a call site, and nothing that it could belong to is open.
+    /// It is an end, variables, values or a call site, and nothing that it could belong to is open.
     NothingOpen,
     /// A source without scopes comes within the scopes of another.
     NotClosed,
@@ -138,11 +138,13 @@ pub enum ScopesFaultKind {
     TooDeep,
     /// The text ends, and a scope or a range has no end.
     LeftOpen,
+    /// It is sub-ranges of a value that has some already.
+    SplitTwice,
     /// Another one, which this crate does not know.
     Unknown(u32),
 }
 
-const SCOPES_FAULTS: [(ScopesFaultKind, u32); 9] = [
+const SCOPES_FAULTS: [(ScopesFaultKind, u32); 10] = [
     (ScopesFaultKind::NotADigit, sys::SMAP_SCOPES_NOT_A_DIGIT),
     (ScopesFaultKind::CutShort, sys::SMAP_SCOPES_CUT_SHORT),
     (ScopesFaultKind::TooLarge, sys::SMAP_SCOPES_TOO_LARGE),
@@ -152,6 +154,7 @@ const SCOPES_FAULTS: [(ScopesFaultKind, u32); 9] = [
     (ScopesFaultKind::NotClosed, sys::SMAP_SCOPES_NOT_CLOSED),
     (ScopesFaultKind::TooDeep, sys::SMAP_SCOPES_TOO_DEEP),
     (ScopesFaultKind::LeftOpen, sys::SMAP_SCOPES_LEFT_OPEN),
+    (ScopesFaultKind::SplitTwice, sys::SMAP_SCOPES_SPLIT_TWICE),
 ];
 
 impl ScopesFaultKind {
@@ -548,10 +551,10 @@ mod tests {
 
     #[test]
     fn every_fault_of_scopes_has_its_kind() {
-        for field in 0..11 {
+        for field in 0..12 {
             let fault = smap_fault { code: 27, field, detail: 7, ..smap_fault::default() };
             let Error::BadScopes(error) = Error::of(&fault) else { panic!("{field}") };
-            assert_eq!(matches!(error.kind, ScopesFaultKind::Unknown(_)), field == 0 || field == 10);
+            assert_eq!(matches!(error.kind, ScopesFaultKind::Unknown(_)), field == 0 || field == 11);
             assert_eq!((Error::of(&fault).told(), error.byte), (fault, 7));
         }
     }

@@ -58,7 +58,7 @@ pub use found::{Mend, MendKind};
 pub use json::JSONSourceMap;
 pub use lookup::{Bias, Direction, Found, Original, Piece, Traced};
 pub use owned_sourcemap::OwnedSourceMap;
-pub use scopes::{CallSite, Frames, GeneratedRange, OriginalScope, ScopeFrame, Scopes};
+pub use scopes::{CallSite, Frames, GeneratedRange, OriginalScope, ScopeChainEntry, ScopeFrame, Scopes};
 pub use sourcemap::{Counts, SourceMap, SourceMapParts};
 pub use sourcemap_builder::SourceMapBuilder;
 pub use sourcemap_visualizer::SourcemapVisualizer;

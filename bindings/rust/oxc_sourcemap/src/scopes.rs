@@ -1,11 +1,11 @@
-//! Scopes: the functions of sources, and the frames of calls that were inlined.
+//! Scopes: the functions of sources, the frames of calls that were inlined, and the values of variables.
 
-use std::fmt;
+use std::{fmt, ptr};
 
 use oxc_sourcemap_sys as sys;
 
-use crate::error::Result;
-use crate::raw::{Owned, listed, made};
+use crate::error::{Error, Result};
+use crate::raw::{Owned, Told, expected, listed, made};
 use crate::token::{Position, id};
 
 /// The scopes of a map, its member `scopes`: for each source a tree of its functions and blocks, and for the generated code a tree of
@@ -100,6 +100,16 @@ pub struct Frames {
     pub frames: Vec<ScopeFrame>,
     /// Whether the source has no such frame, as where a helper was made. A trace leaves it out.
     pub is_hidden: bool,
+}
+
+/// A scope that a position of the generated code is in.
+#[derive(Clone, Copy, Debug, PartialEq, Eq, Hash)]
+#[non_exhaustive]
+pub struct ScopeChainEntry {
+    /// The index of the scope.
+    pub scope: u32,
+    /// The index of the innermost range there that is the code of it, which has the values of its variables.
+    pub range: Option<u32>,
 }
 
 impl Scopes {
@@ -265,6 +275,71 @@ impl Scopes {
         })?;
         Ok(Frames { frames: frames.into_iter().map(ScopeFrame::of).collect(), is_hidden: is_hidden == 1 })
     }
+
+    /// The variables of a scope, by its index, as ids of names.
+    pub fn get_variables(&self, scope: u32) -> Option<Vec<u32>> {
+        self.get_scope(scope)?;
+        let variables = listed(|out, len, count| {
+            // SAFETY: the scopes are live, there is room for so many ids, and the outputs are ours.
+            unsafe { sys::smap_get_variables(self.scopes.get(), scope, out, len, count) }
+        });
+        Some(expected(variables.map_err(Error::from)))
+    }
+
+    /// The value of a variable, by its place in [`get_variables`](Scopes::get_variables), in a range of the code of its scope, at a position
+    /// in that range: the id of the name that is the expression for it. None if it has no value there, or there is no such variable or
+    /// range.
+    pub fn value_at(&self, range: u32, variable: u32, line: u32, column: u32) -> Option<u32> {
+        let mut name = 0;
+        // SAFETY: the scopes are live, and the output is ours.
+        let code = unsafe { sys::smap_value_at(self.scopes.get(), range, variable, line, column, &mut name) };
+        if code == sys::SMAP_OK { id(name) } else { None }
+    }
+
+    /// The scopes that a position of the generated code is in, from the inside out: that which the innermost range is the code of, and
+    /// those around it. None where no range contains the position, or that one is the code of none. Fails with `OutOfMemory`.
+    ///
+    /// ```
+    /// use oxc_sourcemap::Scopes;
+    /// // a function f with a variable a, whose value in its code is x
+    /// let names = ["f", "a", "x"];
+    /// let scopes = Scopes::decode("BFAAA,DC,CJA,EGAA,GD,FU", names.len())?;
+    /// for entry in scopes.scope_chain_at(0, 4)? {
+    ///     let variable = scopes.get_variables(entry.scope).unwrap()[0];
+    ///     let value = scopes.value_at(entry.range.unwrap(), 0, 0, 4).unwrap();
+    ///     assert_eq!((names[variable as usize], names[value as usize]), ("a", "x"));
+    /// }
+    /// # Ok::<(), oxc_sourcemap::Error>(())
+    /// ```
+    pub fn scope_chain_at(&self, line: u32, column: u32) -> Result<Vec<ScopeChainEntry>> {
+        chain(listed(|out, len, count| {
+            // SAFETY: the scopes are live, there is room for so many entries, and the outputs are ours.
+            unsafe { sys::smap_scope_chain_at(self.scopes.get(), line, column, out, len, count) }
+        }))
+    }
+
+    /// The same of a frame of the source, by its index in [`frames_at`](Scopes::frames_at): for frame 0 the scopes of
+    /// [`scope_chain_at`](Scopes::scope_chain_at), for an inlined call those at its place, with the ranges around the inlined body. None
+    /// past the last frame. Fails with `OutOfMemory`.
+    pub fn scope_chain(&self, frame: u32, line: u32, column: u32) -> Result<Option<Vec<ScopeChainEntry>>> {
+        let mut count = 0;
+        // SAFETY: the scopes are live, there is no list, and the output is ours.
+        let code = unsafe { sys::smap_scope_chain(self.scopes.get(), frame, line, column, ptr::null_mut(), 0, &mut count) };
+        if code == sys::SMAP_NO_ENTRY {
+            return Ok(None);
+        }
+        let entries = listed(|out, len, count| {
+            // SAFETY: the scopes are live, there is room for so many entries, and the outputs are ours.
+            unsafe { sys::smap_scope_chain(self.scopes.get(), frame, line, column, out, len, count) }
+        });
+        chain(entries).map(Some)
+    }
+}
+
+/// The entries that a call listed.
+fn chain(listed: Result<Vec<sys::smap_chain_entry>, Told>) -> Result<Vec<ScopeChainEntry>> {
+    let entries = listed?.into_iter();
+    Ok(entries.map(|entry| ScopeChainEntry { scope: entry.scope, range: id(entry.range) }).collect())
 }
 
 impl CallSite {

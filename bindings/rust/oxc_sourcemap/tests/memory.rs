@@ -93,7 +93,7 @@ unsafe extern "C" fn free(at: *mut c_void) {
 
 const TEXT: &str = r#"{"version":3,"file":"f","sourceRoot":"r","names":["n","m"],"sources":["a.ts","b.ts"],"sourcesContent":["A",null],"ignoreList":[1],"mappings":"AAAAA,GCCEC;A","debugId":"d"}"#;
 
-const SCOPED: &str = r#"{"names":["f","g"],"scopes":"BFAAA,BFCAC,CCA,CFA,EGAA,ECKC,IAFC,FK,FU"}"#;
+const SCOPED: &str = r#"{"names":["f","g"],"scopes":"BFAAA,DAC,BFCAC,CCA,CFA,EGAA,GCB,HBAFA,ECKC,IAFC,FK,FU"}"#;
 
 fn map() -> SourceMap<'static> {
     SourceMap::from_json_string(TEXT).unwrap()
@@ -220,6 +220,7 @@ fn nothing_is_left_behind_by_compiled_maps_and_scopes() {
 fn scopes_leave_nothing_behind() {
     leave_nothing! {
         Scopes::read(SCOPED.as_bytes()).map(|it| it.frames_at(0, 12));
+        Scopes::read(SCOPED.as_bytes()).map(|it| (it.get_variables(0), it.scope_chain_at(0, 12), it.scope_chain(0, 0, 12)));
         Scopes::read(b"{\"scopes\":7}");
         Scopes::decode("BFAAA,CJA", 1).map(|it| it.get_scopes().len());
         Scopes::decode("BFAAA", 1);
@@ -337,6 +338,8 @@ fn want_of_memory_is_an_error_of_scopes() {
     let scopes = Scopes::read(SCOPED.as_bytes()).unwrap();
     refuse_each! {
         scopes.frames_at(0, 12);
+        scopes.scope_chain_at(0, 12);
+        scopes.scope_chain(0, 0, 12);
     }
     let mut refused = 0;
     for nth in 0..40 {

@@ -1,8 +1,8 @@
 //! Scopes, by rows worked by hand; and each fault of their text.
 
 use oxc_sourcemap::{
-    CallSite, Error, Frames, GeneratedRange, JsonFault, OriginalScope, Position, ScopeFrame, Scopes, ScopesFault,
-    ScopesFaultKind as Kind, SourceMap,
+    CallSite, Error, Frames, GeneratedRange, JsonFault, OriginalScope, Position, ScopeChainEntry, ScopeFrame, Scopes,
+    ScopesFault, ScopesFaultKind as Kind, SourceMap,
 };
 
 /// global; in it outer, and inner, which was inlined into outer at columns 20 to 30.
@@ -115,6 +115,80 @@ fn frames_are_those_of_the_source() {
     assert_eq!((rows(&helper.frames), helper.is_hidden), (vec![(None, None, None)], true));
 }
 
+/// A scope with three variables, of which two items tell, and its code from 2:5 to 4:9. The first is 3, from 2:9 on 4, from 3:2 on nothing,
+/// and from 3:5 on 5; the second 3 from 3:0 on.
+const SPLIT: &str = "BAAA,DAC,DC,CJA,EDCFA,GEAG,HAAEFBCAADG,HCAAA,HBBAE,FCJ";
+
+#[test]
+fn variables_have_their_values() {
+    let it = decoded(INLINED, 7);
+    let listed = [0, 1, 2, 3, u32::MAX].map(|scope| it.get_variables(scope));
+    assert_eq!(listed, [Some(vec![]), Some(vec![4]), Some(vec![]), None, None]);
+    assert_eq!([10, 39].map(|column| it.value_at(1, 0, 0, column)), [Some(6), Some(6)]);
+    let none = [(1, 1, 10), (1, u32::MAX, 10), (0, 0, 10), (2, 0, 20), (3, 0, 20), (u32::MAX, 0, 20)];
+    assert_eq!(none.map(|(range, variable, column)| it.value_at(range, variable, 0, column)), [None; 6]);
+    let values = decoded("BAAA,DAC,CJA,ECAA,GAD,HBBBE,FCE", 4);
+    assert_eq!(values.get_variables(0), Some(vec![0, 1]));
+    let at =
+        |variable| [(0, 0), (1, 0), (1, 1), (2, 3)].map(|(line, column)| values.value_at(0, variable, line, column));
+    assert_eq!((at(0), at(1)), ([None; 4], [Some(2), Some(2), Some(3), Some(3)]));
+}
+
+#[test]
+fn sub_ranges_have_their_values() {
+    let it = decoded(SPLIT, 6);
+    assert_eq!(it.get_variables(0), Some(vec![0, 1, 2]));
+    let places = [(2, 5), (2, 8), (2, 9), (2, u32::MAX), (3, 0), (3, 1), (3, 2), (3, 4), (3, 5), (4, 8)];
+    let at = |variable| places.map(|(line, column)| it.value_at(0, variable, line, column));
+    let (three, four, five) = (Some(3), Some(4), Some(5));
+    assert_eq!(at(0), [three, three, four, four, four, four, None, None, five, five]);
+    assert_eq!(at(1), [None, None, None, None, three, three, three, three, three, three]);
+    assert_eq!((at(2), at(3)), ([None; 10], [None; 10]));
+}
+
+fn pairs(chain: Result<Vec<ScopeChainEntry>, Error>) -> Vec<(u32, Option<u32>)> {
+    chain.unwrap().iter().map(|it| (it.scope, it.range)).collect()
+}
+
+fn of_frame(scopes: &Scopes, frame: u32, column: u32) -> Option<Vec<(u32, Option<u32>)>> {
+    scopes.scope_chain(frame, 0, column).unwrap().map(|chain| pairs(Ok(chain)))
+}
+
+#[test]
+fn chains_lead_from_the_inside_out() {
+    let it = decoded(INLINED, 7);
+    let (inner, outer, whole) = ((2, Some(2)), (1, Some(1)), (0, Some(0)));
+    for (column, chain) in [(10, [outer, whole]), (15, [outer, whole]), (20, [inner, whole]), (25, [inner, whole])] {
+        assert_eq!(pairs(it.scope_chain_at(0, column)), chain, "{column}");
+    }
+    assert_eq!([9, 40].map(|column| pairs(it.scope_chain_at(0, column))), [[whole], [whole]]);
+    assert_eq!(it.scope_chain_at(1, 0).unwrap(), []);
+    assert_eq!(of_frame(&it, 0, 25), Some(vec![inner, whole]));
+    assert_eq!(of_frame(&it, 1, 25), Some(vec![outer, whole]));
+    assert_eq!(of_frame(&it, 0, 15), Some(vec![outer, whole]));
+    assert_eq!([(2, 25), (u32::MAX, 25), (1, 15)].map(|(frame, column)| of_frame(&it, frame, column)), [None, None, None]);
+    assert!(it.scope_chain(0, 1, 0).unwrap().is_none());
+}
+
+#[test]
+fn the_innermost_of_nested_ranges_counts() {
+    // A function, inlined into itself at columns 10 to 20.
+    let it = decoded("BFAAA,CJA,EGAA,ECKA,IABB,FK,FU", 1);
+    for (column, range) in [(9, 0), (10, 1), (19, 1), (20, 0)] {
+        assert_eq!(pairs(it.scope_chain_at(0, column)), [(0, Some(range))], "{column}");
+        assert_eq!(of_frame(&it, 0, column), Some(vec![(0, Some(range))]), "{column}");
+    }
+    assert_eq!((of_frame(&it, 1, 15), of_frame(&it, 1, 9)), (Some(vec![(0, Some(0))]), None));
+    // The inner range is the code of none.
+    let it = decoded("BFAAA,CJA,EGAA,EAK,FK,FU", 1);
+    assert_eq!([9, 15].map(|column| pairs(it.scope_chain_at(0, column))), [vec![(0, Some(0))], vec![]]);
+    assert_eq!(of_frame(&it, 0, 15), Some(vec![]));
+    // A block in a function, whose code stands around that of the function.
+    let it = decoded("BFAAA,BABA,CBC,CJA,ECAC,ECKD,FK,FU", 1);
+    assert_eq!(pairs(it.scope_chain_at(0, 5)), [(1, Some(0)), (0, None)]);
+    assert_eq!(pairs(it.scope_chain_at(0, 15)), [(0, Some(1))]);
+}
+
 #[test]
 fn each_fault_has_its_kind_and_byte() {
     let deep = vec!["BAAA"; 1025].join(",");
@@ -128,6 +202,7 @@ fn each_fault_has_its_kind_and_byte() {
         ("BAAA,A", 0, Kind::NotClosed, 5, "scopes, byte 5: the scopes before it are not closed"),
         (&deep, 0, Kind::TooDeep, 5120, "scopes, byte 5120: more than 1024 scopes or ranges are nested"),
         ("BAAA", 0, Kind::LeftOpen, 4, "scopes, byte 4: a scope or a range has no end"),
+        ("EAA,GB,HABAB,HABAB", 1, Kind::SplitTwice, 13, "scopes, byte 13: the value has sub-ranges already"),
     ];
     for (text, names, kind, byte, message) in rows {
         let error = Scopes::decode(text, names).unwrap_err();

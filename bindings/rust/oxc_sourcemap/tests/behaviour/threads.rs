@@ -78,11 +78,12 @@ fn eight_threads_read_one_map() {
 
 #[test]
 fn eight_threads_ask_the_same_scopes() {
-    let decoded = || Scopes::decode("BFAAA,BFCAC,CCA,CFA,EGAA,ECKC,IAFC,FK,FU", 2).unwrap();
+    let decoded = || Scopes::decode("BFAAA,DC,BFCAC,CCA,CFA,EGAA,GB,ECKC,IAFC,FK,FU", 2).unwrap();
     let said = |it: &Scopes| {
         let listed = (it.get_scopes().collect::<Vec<_>>(), it.get_ranges().collect::<Vec<_>>());
         let found = (it.scope_at(0, 3, 0), it.function_at(0, 5, 0), it.range_at(0, 12));
-        format!("{it:?} {listed:?} {found:?} {:?}", it.frames_at(0, 12))
+        let values = (it.get_variables(0), it.value_at(0, 0, 0, 4), it.scope_chain(0, 0, 12));
+        format!("{it:?} {listed:?} {found:?} {values:?} {:?} {:?}", it.frames_at(0, 12), it.scope_chain_at(0, 12))
     };
     let (scopes, wanted) = (Arc::new(decoded()), said(&decoded()));
     let readers: Vec<_> = (0..8)

@@ -286,9 +286,9 @@ impl Scopes {
         Some(expected(variables.map_err(Error::from)))
     }
 
-    /// The value of a variable, by its place in [`get_variables`](Scopes::get_variables), in a range of the code of its scope, at a position
-    /// in that range: the id of the name that is the expression for it. None if it has no value there, or there is no such variable or
-    /// range.
+    /// The value of a variable, by its place in [`get_variables`](Scopes::get_variables), in a range of the code of its scope, at a
+    /// position in that range: the id of the name that is the expression for it. None if it has no value there, or there is no such
+    /// variable or range.
     pub fn value_at(&self, range: u32, variable: u32, line: u32, column: u32) -> Option<u32> {
         let mut name = 0;
         // SAFETY: the scopes are live, and the output is ours.

@@ -1,6 +1,6 @@
 //! Scopes: the functions of sources, the frames of calls that were inlined, and the values of variables.
 
-use std::{fmt, ptr};
+use std::fmt;
 
 use oxc_sourcemap_sys as sys;
 
@@ -322,17 +322,14 @@ impl Scopes {
     /// [`scope_chain_at`](Scopes::scope_chain_at), for an inlined call those at its place, with the ranges around the inlined body. None
     /// past the last frame. Fails with `OutOfMemory`.
     pub fn scope_chain(&self, frame: u32, line: u32, column: u32) -> Result<Option<Vec<ScopeChainEntry>>> {
-        let mut count = 0;
-        // SAFETY: the scopes are live, there is no list, and the output is ours.
-        let code = unsafe { sys::smap_scope_chain(self.scopes.get(), frame, line, column, ptr::null_mut(), 0, &mut count) };
-        if code == sys::SMAP_NO_ENTRY {
-            return Ok(None);
-        }
         let entries = listed(|out, len, count| {
             // SAFETY: the scopes are live, there is room for so many entries, and the outputs are ours.
             unsafe { sys::smap_scope_chain(self.scopes.get(), frame, line, column, out, len, count) }
         });
-        chain(entries).map(Some)
+        match entries {
+            Err(told) if told.0.code == sys::SMAP_NO_ENTRY => Ok(None),
+            entries => chain(entries).map(Some),
+        }
     }
 }
 

@@ -166,7 +166,10 @@ fn chains_lead_from_the_inside_out() {
     assert_eq!(of_frame(&it, 0, 25), Some(vec![inner, whole]));
     assert_eq!(of_frame(&it, 1, 25), Some(vec![outer, whole]));
     assert_eq!(of_frame(&it, 0, 15), Some(vec![outer, whole]));
-    assert_eq!([(2, 25), (u32::MAX, 25), (1, 15)].map(|(frame, column)| of_frame(&it, frame, column)), [None, None, None]);
+    assert_eq!(
+        [(2, 25), (u32::MAX, 25), (1, 15)].map(|(frame, column)| of_frame(&it, frame, column)),
+        [None, None, None]
+    );
     assert!(it.scope_chain(0, 1, 0).unwrap().is_none());
 }
 

@@ -626,7 +626,7 @@ const CHAINS: &[(&str, usize, At, Chain)] = &[
     ("", 0, (0, 0), &[]),
 ];
 
-fn same_chain(rt: &HostRuntime, text: &str, found: Vec<ScopeChainEntry>, wanted: Chain) {
+fn same_chain(rt: &impl Abort, text: &str, found: Vec<ScopeChainEntry>, wanted: Chain) {
     same(rt, text, found.len(), wanted.len());
     for (entry, wanted) in found.iter().zip(wanted) {
         same(rt, text, (entry.scope, entry.range), *wanted);
@@ -641,29 +641,29 @@ fn chains_lead_outward(rt: HostRuntime) -> Result<(), ScopesError> {
     }
     // The frame of a call that was inlined has the scopes at its place.
     let scopes = decode_scopes(rt.alloc(), INLINED, 7)?;
-    same_frame_chain(&rt, &scopes, 0, (0, 25), Some(&[(2, Some(2)), (0, Some(0))]))?;
-    same_frame_chain(&rt, &scopes, 1, (0, 25), Some(&[(1, Some(1)), (0, Some(0))]))?;
-    same_frame_chain(&rt, &scopes, 2, (0, 25), None)?;
-    same_frame_chain(&rt, &scopes, 0, (0, 15), Some(&[(1, Some(1)), (0, Some(0))]))?;
-    same_frame_chain(&rt, &scopes, 1, (0, 15), None)?;
-    same_frame_chain(&rt, &scopes, 0, (1, 0), None)?;
+    same_frame_chain(&rt, rt.alloc(), &scopes, 0, (0, 25), Some(&[(2, Some(2)), (0, Some(0))]))?;
+    same_frame_chain(&rt, rt.alloc(), &scopes, 1, (0, 25), Some(&[(1, Some(1)), (0, Some(0))]))?;
+    same_frame_chain(&rt, rt.alloc(), &scopes, 2, (0, 25), None)?;
+    same_frame_chain(&rt, rt.alloc(), &scopes, 0, (0, 15), Some(&[(1, Some(1)), (0, Some(0))]))?;
+    same_frame_chain(&rt, rt.alloc(), &scopes, 1, (0, 15), None)?;
+    same_frame_chain(&rt, rt.alloc(), &scopes, 0, (1, 0), None)?;
     // A function that was inlined in itself: the outer frame does not see the values of the inner one.
     let scopes = decode_scopes(rt.alloc(), "BFAAA,DC,CJA,EGAA,GD,ECFA,GE,IAFA,FF,FK", 4)?;
-    same_frame_chain(&rt, &scopes, 0, (0, 7), Some(&[(0, Some(1))]))?;
-    same_frame_chain(&rt, &scopes, 1, (0, 7), Some(&[(0, Some(0))]))?;
+    same_frame_chain(&rt, rt.alloc(), &scopes, 0, (0, 7), Some(&[(0, Some(1))]))?;
+    same_frame_chain(&rt, rt.alloc(), &scopes, 1, (0, 7), Some(&[(0, Some(0))]))?;
     same(&rt, "inner", scopes.value_at(1, 0, 0, 7), Some(3));
     same(&rt, "outer", scopes.value_at(0, 0, 0, 7), Some(2));
     // A call from where no scope is, and one further out.
     let scopes = decode_scopes(rt.alloc(), "BFAAA,CJA,EGAA,ECFA,IABA,EAB,IBAA,FB,FB,FF", 1)?;
-    same_frame_chain(&rt, &scopes, 0, (0, 6), Some(&[]))?;
-    same_frame_chain(&rt, &scopes, 1, (0, 6), Some(&[]))?;
-    same_frame_chain(&rt, &scopes, 2, (0, 6), Some(&[(0, Some(0))]))?;
-    same_frame_chain(&rt, &scopes, 3, (0, 6), None)?;
+    same_frame_chain(&rt, rt.alloc(), &scopes, 0, (0, 6), Some(&[]))?;
+    same_frame_chain(&rt, rt.alloc(), &scopes, 1, (0, 6), Some(&[]))?;
+    same_frame_chain(&rt, rt.alloc(), &scopes, 2, (0, 6), Some(&[(0, Some(0))]))?;
+    same_frame_chain(&rt, rt.alloc(), &scopes, 3, (0, 6), None)?;
     Ok(())
 }
 
-fn same_frame_chain(rt: &HostRuntime, scopes: &Scopes, frame: usize, (line, column): At, wanted: Option<Chain>) -> Result<(), ScopesError> {
-    let found = scopes.scope_chain(rt.alloc(), frame, line, column)?;
+fn same_frame_chain(rt: &impl Abort, alloc: Global, scopes: &Scopes, frame: usize, (line, column): At, wanted: Option<Chain>) -> Result<(), ScopesError> {
+    let found = scopes.scope_chain(alloc, frame, line, column)?;
     same(rt, "frame", found.is_some(), wanted.is_some());
     if let (Some(found), Some(wanted)) = (found, wanted) {
         same_chain(rt, "frame", found, wanted);

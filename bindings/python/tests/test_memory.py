@@ -51,14 +51,17 @@ class Memory(Case):
 
     def keeps_nothing(self, call, times=1000):
         """Asserts that a call, done many times, leaves nothing: 16 bytes of malloc, or an object of Python, that were left each time
-        would be more than is allowed."""
+        would be more than is allowed. What is kept once, as by a cache of the interpreter, is not left in each of three rounds."""
         for _ in range(50):
             call()
-        before, blocks = held(), sys.getallocatedblocks()
-        for _ in range(times):
-            call()
-        self.assertLess(held() - before, 16 * times // 2)
-        self.assertLess(sys.getallocatedblocks() - blocks, times // 2)
+        for _ in range(3):
+            before, blocks = held(), sys.getallocatedblocks()
+            for _ in range(times):
+                call()
+            left, objects = held() - before, sys.getallocatedblocks() - blocks
+            if left < 16 * times // 2 and objects < times // 2:
+                return
+        self.fail(f"{left} bytes and {objects} objects are left by {times} calls")
 
     def test_maps_read_and_dropped(self):
         self.keeps_nothing(lambda: read(), 10_000)

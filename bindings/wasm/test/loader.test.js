@@ -162,7 +162,7 @@ test('scopes are where maps of such texts are, and find no memory as these', () 
   assert.equal(small.framesAt(other, 0, 3, new Uint32Array(5 * 1_000_000)), NO_MEMORY);
   while (other.instance.call('malloc', 64) !== 0);
   while (other.instance.call('malloc', 1) !== 0);
-  for (const code of [small.framesAt(other, 0, 3, NOTHING), small.scopeChainAt(other, 0, 15, NOTHING), small.scopeChain(other, 0, 0, 3, NOTHING)]) assert.equal(code, NO_MEMORY);
+  for (const code of [small.framesAt(other, 0, 3, NOTHING), small.scopeChainAt(other, 0, 15, NOTHING), small.scopeChain(other, 1, 0, 3, NOTHING)]) assert.equal(code, NO_MEMORY);
   assert.deepEqual([small.fault[0], small.scopeAt(other, 0, 1, 0), small.words[0]], [NO_MEMORY, 0, 0]);
 });
 

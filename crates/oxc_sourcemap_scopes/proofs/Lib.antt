@@ -9,3 +9,4 @@ pub mod Outward
 pub mod Pieces
 pub mod Spelled
 pub mod States
+pub mod WrittenItems

@@ -6,4 +6,5 @@ pub mod Reading
 pub mod Asking
 pub mod Laws
 pub mod Messages
+pub mod Writing
 pub mod Words

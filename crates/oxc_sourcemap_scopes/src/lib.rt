@@ -3,6 +3,7 @@
 //! source, and the frames of calls that were inlined. Part of `oxc_sourcemap`.
 #![tactic(auto)]
 
+mod building;
 mod chains;
 mod decoding;
 mod errors;
@@ -14,6 +15,7 @@ mod lists;
 mod numbers;
 mod scopes;
 mod trees;
+mod writing;
 
 pub use chains::ScopeChainEntry;
 pub use decoding::{decode_scopes, read_scopes};

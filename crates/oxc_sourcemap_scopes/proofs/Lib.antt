@@ -10,3 +10,4 @@ pub mod Pieces
 pub mod Spelled
 pub mod States
 pub mod WrittenItems
+pub mod BuiltItems

@@ -121,7 +121,6 @@ split-more (b ∷ bs) more = elim (b == 44) as (λ t. cond t ([] ∷ slice_split
   | false ↦ ap (onto_first b) (split-more bs more) ∙ onto-first-more b (slice_split is_comma bs) (slice_split is_comma more) (split-nonempty bs (slice_split is_comma bs) refl)
 ]
 
-
 -- where the item after these begins
 abbrev ends_at : ℕ → List (List ℕ) → ℕ
 ends_at at [] = at

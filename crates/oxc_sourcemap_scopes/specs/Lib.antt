@@ -7,4 +7,5 @@ pub mod Asking
 pub mod Laws
 pub mod Messages
 pub mod Writing
+pub mod Building
 pub mod Words

@@ -16,6 +16,7 @@ use Rattle.oxc_sourcemap_scopes.specs.declared.errors.ScopesFaultKind.TheVariant
 use Rattle.oxc_sourcemap_scopes.specs.declared.errors.ScopesFaultKind.TheVariants.{TooDeep}
 use Rattle.oxc_sourcemap_scopes.specs.declared.errors.ScopesFaultKind.TheVariants.{LeftOpen}
 use Rattle.oxc_sourcemap_scopes.specs.declared.errors.ScopesFaultKind.TheVariants.{SplitTwice}
+use Rattle.oxc_sourcemap_scopes.specs.declared.errors.ScopesFaultKind.TheVariants.{OutOfOrder}
 
 -- what is wrong, in words
 abbrev pub fault_text : ScopesFaultKind → List ℕ
@@ -29,6 +30,7 @@ fault_text NotClosed = codes "the scopes before it are not closed"
 fault_text TooDeep = codes "more than 1024 scopes or ranges are nested"
 fault_text LeftOpen = codes "a scope or a range has no end"
 fault_text SplitTwice = codes "the value has sub-ranges already"
+fault_text OutOfOrder = codes "a position lies before the last one"
 
 -- the message of an error
 abbrev pub error_text : ScopesError → List ℕ

@@ -53,6 +53,8 @@ pub enum ScopesFaultKind {
     LeftOpen,
     /// It has sub-ranges of a value that has some already.
     SplitTwice,
+    /// Its position lies before that of the item before it; of a builder alone.
+    OutOfOrder,
 }
 
 impl fmt::Display for ScopesFaultKind {
@@ -70,6 +72,7 @@ impl fmt::Display for ScopesFaultKind {
             ScopesFaultKind::TooDeep => write!(f, "more than 1024 scopes or ranges are nested"),
             ScopesFaultKind::LeftOpen => write!(f, "a scope or a range has no end"),
             ScopesFaultKind::SplitTwice => write!(f, "the value has sub-ranges already"),
+            ScopesFaultKind::OutOfOrder => write!(f, "a position lies before the last one"),
         }
     }
 }

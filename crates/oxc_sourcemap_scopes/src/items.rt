@@ -14,6 +14,7 @@ use crate::fields::{
 use crate::lists::{after_tag, push_indices, push_pieces, push_values, split_value};
 use crate::scopes::{CallSite, RangeInfo, ScopeInfo, Scopes, Value, ValuePiece};
 use crate::trees::Tree;
+use oxc_sourcemap_tokens::Position;
 use std::alloc::Global;
 use std::marker::Model;
 
@@ -85,6 +86,27 @@ impl Read {
             variable: 0,
             definition: 0,
         }
+    }
+
+    /// The position that scopes have reached.
+    pub(crate) fn scope_position(&self) -> Position
+        ensures { result ≡ self.now.scopes.position }
+    {
+        self.scopes.position()
+    }
+
+    /// The name that the next one is relative to.
+    pub(crate) fn last_name(&self) -> u32
+        ensures { result ≡ self.now.name }
+    {
+        self.name
+    }
+
+    /// The kind that the next one is relative to.
+    pub(crate) fn last_kind(&self) -> u32
+        ensures { result ≡ self.now.kind }
+    {
+        self.kind
     }
 
     /// After a scope, the next source begins if no scope is open.

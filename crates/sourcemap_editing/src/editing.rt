@@ -1,11 +1,9 @@
 //! Maps whose texts are changed at some places, and written where they lie or elsewhere.
-use oxc_sourcemap_found::{FoundParts, read_found_parts};
 use oxc_sourcemap_parts::{SourceMapParts, apply_root};
 use sourcemap_files::{
-    Asked, MapText, Progress, Written, found_error_text, map_of_file, read_map, refuse_overwriting,
-    tell, text_of_map, usage, write_text,
+    Asked, MapText, Progress, Written, map_of_file, parts_in, read_map, refuse_overwriting,
+    section_maps, tell, text_of_map, usage, write_text,
 };
-use sourcemap_run::maps_in;
 use sourcemap_words::{Failure, Outcome, failure_of};
 use std::alloc::Global;
 
@@ -95,33 +93,18 @@ pub fn map_to_edit(asked: &Asked<'_, '_>) -> Outcome<Edited> {
 /// The map of a text, or those of the sections of an indexed one, each with its source root applied.
 pub fn rooted_maps(rt: &HostRuntime, map: &MapText) -> Outcome<Vec<SourceMapParts<'static>>> {
     let alloc = rt.alloc();
-    let mut whole = read_map(rt, map)?;
-    let mut maps = Vec::new(alloc);
-    if let Written::Text(text) = &map.written {
-        for piece in &maps_in(alloc, text.as_str())? {
-            if piece.end() < text.len() {
-                let mut parts = parts_in(alloc, map.name.as_str(), piece.text)?;
-                apply_root(alloc, &mut parts)?;
-                maps.push(parts)?;
-            }
-        }
-    }
+    let whole = read_map(rt, map)?;
+    let mut maps = match &map.written {
+        Written::Text(text) => section_maps(alloc, map.name.as_str(), text.as_str())?,
+        Written::Compiled(_) => Vec::new(alloc),
+    };
     if maps.is_empty() {
-        apply_root(alloc, &mut whole)?;
         maps.push(whole)?;
     }
-    Ok(maps)
-}
-
-/// The parts of a map, or of that of a section, whose mends were told before.
-pub fn parts_in(alloc: Global, name: &str, text: &str) -> Outcome<SourceMapParts<'static>> {
-    match read_found_parts(alloc, text) {
-        Ok(FoundParts { parts, .. }) => Ok(parts),
-        Err(error) => {
-            let why = found_error_text(alloc, text, error)?;
-            Err(failure_of(alloc, name, why.as_str()))
-        }
+    for map in maps.as_mut_slice() {
+        apply_root(alloc, map)?;
     }
+    Ok(maps)
 }
 
 /// Whether what was asked for was done with a file. A failure of the file is told, so that others go on.

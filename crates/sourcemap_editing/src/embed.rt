@@ -1,17 +1,19 @@
 //! `embed`: a map with the contents of its sources, which are read from files.
-use crate::editing::{Edited, map_to_edit, parts_in};
+ghost use Rattle.std.specs.Prelude.{string_bytes, IfOk, IfSome};
+ghost use Rattle.sourcemap_texts.specs.Words.{IsBelow};
+
+use crate::editing::{Edited, map_to_edit};
 use crate::naming::Names;
 use crate::placing::place_of_source;
 use oxc_sourcemap_parts::{SourceMapParts, apply_root};
 use sourcemap_files::{
-    Asked, Status, is_inside, is_regular, path_of_url, plain_path, print, read_text, tell,
-    with_slash,
+    Asked, Status, is_inside, is_regular, parts_in, path_of_url, plain_path, print, read_text,
+    tell, with_slash,
 };
 use sourcemap_run::{
-    Change, Piece, changed, maps_in, push_contents, push_number_member, push_object,
-    push_text_member,
+    Change, changed, push_contents, push_number_member, push_object, push_text_member,
 };
-use sourcemap_texts::is_url;
+use sourcemap_texts::{Piece, is_url, maps_in};
 use sourcemap_words::{Failure, Outcome, failure_of};
 use std::alloc::Global;
 
@@ -40,18 +42,13 @@ struct Lacking {
 }
 
 /// The file of a source below the folder of `--from`, where `extract` puts it; None if it names none.
-fn file_below(alloc: Global, from: &str, source: &str) -> Outcome<Option<String>> {
+fn file_below(alloc: Global, from: &str, source: &str) -> Outcome<Option<String>>
+    ensures { IfOk result (λ path. IfSome path (λ path. IsBelow from.now (string_bytes path))) }
+{
     let Some(placed) = place_of_source(alloc, source)? else {
         return Ok(None);
     };
-    let mut path = String::from_str(alloc, from)?;
-    for (k, part) in placed.parts.iter().enumerate() {
-        if k > 0 {
-            path.push('/')?;
-        }
-        path.push_str(part.as_str())?;
-    }
-    Ok(Some(path))
+    Ok(Some(placed.path_below(alloc, from, placed.parts().len())?))
 }
 
 /// The file of a source: below the folder of `--from`, if that is there, else by its path from the folder of the map; None if it names

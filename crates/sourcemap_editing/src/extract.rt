@@ -1,4 +1,8 @@
 //! `extract`: the contents of sources, as files below a folder.
+ghost use Rattle.std.specs.Prelude.{◌≡◌, None, string_bytes, IfOk, IfSome};
+ghost use Rattle.sourcemap_texts.specs.Words.{IsBelow};
+ghost use Rattle.sourcemap_editing.specs.Fates.{file_of};
+
 use crate::editing::{is_done, rooted_maps};
 use crate::naming::Names;
 use crate::placing::place_of_source;
@@ -56,7 +60,9 @@ struct Named {
 }
 
 /// A reason why a source has no file.
-fn none(alloc: Global, why: &str) -> Outcome<Fate> {
+fn none(alloc: Global, why: &str) -> Outcome<Fate>
+    ensures { IfOk result (λ fate. file_of fate ≡ None) }
+{
     Ok(Fate::None(String::from_str(alloc, why)?))
 }
 
@@ -98,7 +104,7 @@ pub fn has_bytes(rt: &HostRuntime, path: &str, metadata: &Metadata, bytes: &[u8]
 /// Whether the names of a path are too long for files.
 fn is_too_long(folder: &str, placed: &Placed) -> bool {
     let mut len = folder.len();
-    for part in &placed.parts {
+    for part in placed.parts() {
         len = len.saturating_add(part.len()).saturating_add(1);
         if part.len() >= LONG_NAME {
             return true;
@@ -128,17 +134,14 @@ impl<'a> Extract<'a> {
         }
     }
 
-    /// Makes the folders of a path. Appends its parts to that of the folder, or says why one cannot be made.
-    fn enter(&self, parts: &[String], path: &mut String) -> Outcome<Option<String>> {
-        for (k, part) in parts.iter().enumerate() {
-            path.push_str(part.as_str())?;
-            if k.saturating_add(1) == parts.len() {
-                return Ok(None);
-            }
+    /// Makes the folders that a file is in, or says why one cannot be made.
+    fn make_folders(&self, placed: &Placed) -> Outcome<Option<String>> {
+        let alloc = self.alloc();
+        for count in 1..placed.parts().len() {
+            let path = placed.path_below(alloc, self.folder.as_str(), count)?;
             if let Some(why) = make_folder(self.rt, path.as_str())? {
-                return Ok(Some(format!(in self.alloc(); "{path} {why}")?));
+                return Ok(Some(format!(in alloc; "{path} {why}")?));
             }
-            path.push('/')?;
         }
         Ok(None)
     }
@@ -166,8 +169,12 @@ impl<'a> Extract<'a> {
         Ok(Some(text))
     }
 
-    /// Writes a content to a file, unless that has it.
-    fn write(&self, path: String, content: &str) -> Outcome<Fate> {
+    /// Writes a content to a file below the folder, unless that has it.
+    fn write(&self, path: String, content: &str) -> Outcome<Fate>
+        requires { IsBelow (string_bytes self.now.folder) (string_bytes path) }
+        ensures { IfOk result (λ fate. IfSome (file_of fate) (λ file.
+            file ≡ string_bytes path.entry)) }
+    {
         let (rt, alloc) = (self.rt, self.alloc());
         let bytes = content.as_bytes();
         if let Some(metadata) = entry_at(rt, path.as_str())? {
@@ -191,7 +198,10 @@ impl<'a> Extract<'a> {
     }
 
     /// Puts a content into the file of its source.
-    fn put(&self, source: &str, content: &str, named: &mut Named) -> Outcome<Fate> {
+    fn put(&self, source: &str, content: &str, named: &mut Named) -> Outcome<Fate>
+        ensures { IfOk result (λ fate. IfSome (file_of fate) (λ file.
+            IsBelow (string_bytes self.now.folder) file)) }
+    {
         let alloc = self.alloc();
         let Some(placed) = place_of_source(alloc, source)? else {
             return none(alloc, "its name is that of no file");
@@ -202,13 +212,13 @@ impl<'a> Extract<'a> {
                 "its path is too long: 255 bytes a name, and 4095 in all",
             );
         }
-        let mut path = String::from_str(alloc, self.folder.as_str())?;
-        if let Some(why) = self.enter(placed.parts.as_slice(), &mut path)? {
+        if let Some(why) = self.make_folders(&placed)? {
             return Ok(Fate::None(why));
         }
+        let path = placed.path_below(alloc, self.folder.as_str(), placed.parts().len())?;
         let fate = self.write(path, content)?;
         if let Fate::File(path) = &fate
-            && placed.is_moved
+            && placed.is_moved()
         {
             named.moved.push(source, path.as_str())?;
         }

@@ -1,9 +1,9 @@
 //! Texts of maps, led from one folder to another: the paths of sources change, and nothing else does.
-use crate::editing::{is_data_url, parts_in, refusal};
+use crate::editing::{is_data_url, refusal};
 use oxc_sourcemap_parts::SourceMapParts;
-use sourcemap_files::current_folder;
-use sourcemap_run::{Change, Piece, changed, maps_in, push_entries, push_value};
-use sourcemap_texts::relative_path;
+use sourcemap_files::{current_folder, parts_in};
+use sourcemap_run::{Change, changed, push_entries, push_value};
+use sourcemap_texts::{Piece, maps_in, relative_path};
 use sourcemap_words::Outcome;
 use std::alloc::Global;
 

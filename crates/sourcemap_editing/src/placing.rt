@@ -40,11 +40,5 @@ pub fn place_of_source(alloc: Global, source: &str) -> Outcome<Option<Placed>> {
         return Ok(place_below(alloc, source)?);
     }
     let placed = place_below(alloc, format!(in alloc; "{host}/{rest}")?.as_str())?;
-    let Some(Placed { parts, .. }) = placed else {
-        return Ok(None);
-    };
-    Ok(Some(Placed {
-        parts,
-        is_moved: true,
-    }))
+    Ok(placed.map(|placed| placed.moved()))
 }

@@ -8,6 +8,7 @@ use crate::compiled::{
 };
 use crate::input::{is_regular, read_bytes, tell, warn};
 use crate::paths::{folder_of, is_inside};
+use crate::sections::are_same;
 use oxc_sourcemap_parts::{SourceMapParts, owned_text};
 use sourcemap_words::{Failure, Outcome};
 use std::alloc::Global;
@@ -18,7 +19,7 @@ use std::mem;
 pub const CONTENTS_END: &str = ".contents.smc";
 
 /// Copies of texts.
-fn copies_of(alloc: Global, texts: &[CowStr<'static>]) -> Outcome<Vec<CowStr<'static>>>
+pub fn copies_of(alloc: Global, texts: &[CowStr<'static>]) -> Outcome<Vec<CowStr<'static>>>
     ensures { IfOk result (λ copies. texts_of copies ≡ cow_texts texts.now) }
 {
     let mut copies = Vec::with_capacity(alloc, texts.len())?;
@@ -70,14 +71,6 @@ fn lacks_contents(parts: &SourceMapParts<'_>) -> bool {
             .source_contents
             .iter()
             .all(|content| content.is_none())
-}
-
-/// Whether two lists have the same texts.
-fn are_same(a: &[CowStr<'_>], b: &[CowStr<'_>]) -> bool {
-    a.len() == b.len()
-        && a.iter()
-            .zip(b.iter())
-            .all(|(a, b)| a.as_str() == b.as_str())
 }
 
 /// The bytes of the file with the contents of a compiled map in the file `path`; None if there is none, or if it cannot be read or

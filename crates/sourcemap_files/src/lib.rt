@@ -11,6 +11,7 @@ mod limit;
 mod paths;
 mod progress;
 mod scopes;
+mod sections;
 mod writing;
 
 pub use asked::{Asked, Status};
@@ -33,4 +34,5 @@ pub use paths::{
 };
 pub use progress::Progress;
 pub use scopes::scopes_of_map;
+pub use sections::{parts_in, section_maps};
 pub use writing::{refuse_overwriting, write_files, write_text};

@@ -1,7 +1,7 @@
 //! Scopes of maps, which no map that is made of others has.
 use oxc_sourcemap_parts::SourceMapParts;
 use sourcemap_files::{MapText, Written, read_map, warn};
-use sourcemap_run::has_member;
+use sourcemap_texts::has_member;
 use sourcemap_words::Outcome;
 
 /// The key of scopes, as it is written.

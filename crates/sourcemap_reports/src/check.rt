@@ -7,7 +7,8 @@ use oxc_sourcemap_tokens::{Error, Token};
 use sourcemap_files::{
     Asked, COMPILED_END, CONTENTS_END, Decompiled, Lookup, MapText, Progress, Status, Written,
     decompile, error_text, found_error_text, is_file, is_made_of, is_map_file, is_regular,
-    is_stale, map_of_code, print, put_contents, read_text, read_written, shown_name, tell,
+    is_stale, map_of_code, parts_in, print, put_contents, read_text, read_written, shown_name,
+    tell,
 };
 use sourcemap_run::{push_object, push_text_member};
 use sourcemap_texts::{push_shown, push_visible};
@@ -411,13 +412,10 @@ fn tell_different(
     is_apart: bool,
 ) -> Outcome<()> {
     let alloc = report.alloc;
-    let parts = match read_found_parts(alloc, text) {
-        Ok(FoundParts { parts, mends: _ }) => parts,
-        Err(error) => {
-            let why = found_error_text(alloc, text, error)?;
-            let told = format!(in alloc; "{name}: {why}")?;
-            return report.tell(Kind::Wrong, told.as_str());
-        }
+    let parts = match parts_in(alloc, name, text) {
+        Ok(parts) => parts,
+        Err(Failure::Told(why)) => return report.tell(Kind::Wrong, why.as_str()),
+        Err(failure) => return Err(failure),
     };
     if is_made_of(alloc, name, parts, text, bytes, is_apart)? {
         return Ok(());

@@ -1,8 +1,8 @@
 //! The contents of sources, and other members, in the text of a map, changed where they stand.
-use crate::members::{Member, Piece, entries_of, maps_in, members_of};
 use crate::raw_lines::{Splice, push_spliced};
 use oxc_sourcemap_json::push_json_string;
 use oxc_sourcemap_tokens::Result;
+use sourcemap_texts::{Member, Piece, entries_of, maps_in, members_of};
 use std::alloc::Global;
 
 /// The key of contents, as it is written.

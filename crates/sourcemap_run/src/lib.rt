@@ -9,7 +9,6 @@ mod counting;
 mod covered;
 mod differing;
 mod frames;
-mod members;
 mod page;
 mod raw_lines;
 mod rebasing;
@@ -28,7 +27,6 @@ pub use covered::{
 };
 pub use differing::count_differences;
 pub use frames::{Cut, Frame, Paint, Target, answer_to, frame_position, push_frame, push_line};
-pub use members::{Piece, has_member, maps_in};
 pub use oxc_sourcemap_lookup::Bias;
 pub use oxc_sourcemap_queries::first_difference_of_parts;
 pub use page::{DATA_MARK, data_url, fill_template};

@@ -15,12 +15,13 @@ use Rattle.std.specs.Option.{unwrap_or}
 use Rattle.std.proofs.lemmas.List.Folds.{list_all-append, flat_map-map}
 use Rattle.std.proofs.lemmas.List.Splits.{slice_split-cons_yes, slice_split-cons_no}
 use Rattle.std.proofs.lemmas.Slice.Eq.{bytes_eq-Decides}
-use Rattle.sourcemap_texts.specs.Paths.{is_slash, parts_of, is_here, stepped, led, is_name}
+use Rattle.sourcemap_texts.specs.Paths.{is_slash, parts_of, is_here, stepped, led, is_name, joined}
 use Rattle.sourcemap_texts.specs.Paths.{begins_plainly, begins_with_slash}
 use Rattle.sourcemap_texts.specs.Paths.{stands_by_itself, is_in_folder}
 use Rattle.oxc_sourcemap_parts.specs.Roots.{is_of_scheme, ends_scheme, has_scheme}
 use Rattle.std.specs.Char.{is_ascii_alphabetic}
 use Rattle.sourcemap_texts.specs.Paths.{climbing, LeadsTo}
+use Rattle.std.proofs.Common.{String, string_bytes, Global}
 
 -- ---- parts of a path
 pub split_none : (xs : List ℕ) → list_any is_slash xs ≡ false → parts_of xs ≡ xs ∷ []
@@ -75,7 +76,7 @@ fold_names place (x ∷ xs) h =
     let both = and_parts (is_name x) (list_all is_name xs) h in
     ap (λ p. fold stepped p xs) (step_name place x both.0) ∙ fold_names (place ++ x ∷ []) xs both.1 ∙ append_assoc place (x ∷ []) xs
 
-names_take : (n : ℕ) (parts : List (List ℕ)) → list_all is_name parts ≡ true → list_all is_name (take n parts) ≡ true
+pub names_take : (n : ℕ) (parts : List (List ℕ)) → list_all is_name parts ≡ true → list_all is_name (take n parts) ≡ true
 names_take zero parts h = refl
 names_take (suc n) [] h = refl
 names_take (suc n) (x ∷ xs) h =
@@ -113,9 +114,6 @@ pub names_led : (place : List (List ℕ)) (path : List ℕ) → list_all is_name
 names_led place path h = names_fold place (parts_of path) h (parts_free path)
 
 -- ---- paths of parts
-abbrev joined : List (List ℕ) → List ℕ
-joined parts = join_by (λ part. part) (codes "/") parts
-
 split_join : (x : List ℕ) (xs : List (List ℕ)) → list_all is_name (x ∷ xs) ≡ true → parts_of (joined (x ∷ xs)) ≡ x ∷ xs
 split_join x [] h =
     let own = name_parts x (and_parts (is_name x) true h).0 in
@@ -234,6 +232,11 @@ same_front (x ∷ xs) (y ∷ ys) = same_step (bytes_eq x y) x y xs ys (common_pr
 pub join_lent : (parts : List (Bor (List ℕ))) → join_by (λ part. part.now) (codes "/") parts ≡ joined (map (λ part. part.now) parts)
 join_lent [] = refl
 join_lent (x ∷ xs) = ap (λ t. x.now ++ t) (sym (flat_map-map (λ y. codes "/" ++ y) (λ part. part.now) xs))
+
+-- texts, joined
+pub join_texts : (texts : List (String Global)) → join_by string_bytes (codes "/") texts ≡ joined (map string_bytes texts)
+join_texts [] = refl
+join_texts (x ∷ xs) = ap (λ t. string_bytes x ++ t) (sym (flat_map-map (λ y. codes "/" ++ y) string_bytes xs))
 
 goes_back : (n s a : ℕ) → s ≤ n → (0 < a → s ≡ 0) → n - (a + (n - s)) ≡ s
 goes_back n s zero inside none = omega arith

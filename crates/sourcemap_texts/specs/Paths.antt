@@ -99,9 +99,20 @@ is_name part = not (is_here part || bytes_eq part (codes "..") || list_any is_sl
 abbrev pub front_of : ℕ → List Text → Text
 front_of up parts = if up == 0 && not (begins_plainly parts) then codes "./" else []
 
+-- the path of parts, a slash between each two
+abbrev pub joined : List Text → Text
+joined parts = join_by (λ part. part) (codes "/") parts
+
 -- the path that goes up so many folders, and then has these parts
 abbrev pub climbing : ℕ → List Text → Text
-climbing up parts = repeat up (codes "../") ++ (front_of up parts ++ join_by (λ part. part) (codes "/") parts)
+climbing up parts = repeat up (codes "../") ++ (front_of up parts ++ joined parts)
+
+-- A path does not lead out of a folder, which is empty or ends in a slash: behind the folder it has names alone, each of which leads into
+-- the folder before it.
+pub record IsBelow (folder path : Text) : Type 0 where
+  pub names : List Text
+  pub are_names : list_all is_name names ≡ true
+  pub is_path : path ≡ folder ++ joined names
 
 -- A path goes up so many folders, and then down by names: not into a folder that it just left, and above the root only as far as the
 -- path was that it stands for.

@@ -11,6 +11,6 @@ pub use Rattle.sourcemap_texts.specs.Paths.{begins_with_slash, stands_by_itself}
 pub use Rattle.sourcemap_texts.specs.Paths.{is_url, is_in_folder}
 pub use Rattle.sourcemap_texts.specs.Paths.{IsMoved, IsRebased, IsDirect}
 pub use Rattle.sourcemap_texts.specs.Paths.{is_name, begins_plainly, front_of, climbing, LeadsTo}
-pub use Rattle.sourcemap_texts.specs.Paths.{is_here, way, written}
+pub use Rattle.sourcemap_texts.specs.Paths.{is_here, way, written, joined, IsBelow}
 pub use Rattle.sourcemap_texts.specs.Matching.{below_length, IsLongest, ends_in_folder, has_slash}
 pub use Rattle.sourcemap_texts.specs.Matching.{tells_apart, determines, chosen}

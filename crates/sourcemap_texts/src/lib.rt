@@ -1,13 +1,16 @@
-//! Texts of the program `sourcemap`, as functions over values: how they are shown, positions in words, and which code a path names.
+//! Texts of the program `sourcemap`, as functions over values: how they are shown, positions in words, which code a path names, and
+//! where the members of a JSON text stand.
 #![tactic(auto)]
 
 mod matching;
+mod members;
 mod paths;
 mod placing;
 mod positions;
 mod texts;
 
 pub use matching::{Candidate, Choice, Prefix, choose, longest_prefix};
+pub use members::{Member, Piece, entries_of, has_member, maps_in, members_of};
 pub use paths::{is_url, relative_path, stands_by_itself};
 pub use placing::{Placed, place_below};
 pub use positions::{position_of, source_position_of};

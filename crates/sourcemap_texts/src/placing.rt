@@ -1,25 +1,75 @@
 //! Where sources of maps are put, as files below a folder.
-ghost use Rattle.std.specs.Prelude.{◌≡◌, true, IfOk, IfSome, string_bytes};
+ghost use Rattle.std.specs.Prelude.{◌≡◌, ◌++◌, true, take, IfOk, string_bytes};
 ghost use Rattle.std.specs.List.{list_all};
-ghost use Rattle.sourcemap_texts.specs.Words.{is_name, written};
+ghost use Rattle.sourcemap_texts.specs.Words.{is_name, written, joined, IsBelow};
 
 use crate::matching::has_slash;
 use crate::paths::{begins_with_slash, is_here, is_url};
 use crate::texts::is_hidden;
 use oxc_sourcemap_tokens::Memory;
 use std::alloc::Global;
+use std::marker::Model;
 
 /// What stands for a folder above the one that files are put below, and for a hidden character.
 const MARK: &str = "_";
 
-/// Where a source is put below a folder.
+/// Where a source is put below a folder: the names of folders and, at the end, that of the file.
 #[derive(Drop)]
 pub struct Placed {
-    /// The names of folders and, at the end, of the file.
-    pub parts: Vec<String>,
+    parts: Vec<String>,
+    is_moved: bool,
+}
+
+impl Model for Placed {
+    ghost use Rattle.std.specs.Prelude.{◌≡◌, List, true};
+    ghost use Rattle.std.specs.List.{list_all};
+    ghost use Rattle.oxc_sourcemap_parts.specs.Record.{Text};
+    ghost use Rattle.sourcemap_texts.specs.Words.{is_name, written};
+
+    ghost Value = { List Text };
+
+    ghost view = { λ placed. written placed.parts.items };
+
+    ghost invariant = { λ placed. list_all is_name (written placed.parts.items) ≡ true };
+}
+
+impl Placed {
+    /// The names.
+    pub fn parts(&self) -> &[String]
+        ensures { written result.now ≡ self.now }
+    {
+        self.parts.as_slice()
+    }
+
     /// Whether its path leads elsewhere, or cannot be that of a file: it is from a root or a drive, goes above the folder, or has hidden
     /// characters.
-    pub is_moved: bool,
+    pub fn is_moved(&self) -> bool {
+        self.is_moved
+    }
+
+    /// The same place, of a source whose path leads elsewhere.
+    pub fn moved(self) -> Placed
+        ensures { result ≡ self }
+    {
+        Placed {
+            parts: self.parts,
+            is_moved: true,
+        }
+    }
+
+    /// The path of the first `count` names below a folder, which is empty or ends in a slash; of all, if there are no more. It does not
+    /// lead out of the folder.
+    pub fn path_below(&self, alloc: Global, folder: &str, count: usize) -> Memory<String>
+        ensures text { IfOk result (λ path. string_bytes path
+            ≡ folder.now ++ joined (take count self.now)) }
+        ensures below { IfOk result (λ path. IsBelow folder.now (string_bytes path)) }
+    {
+        let parts = self.parts.as_slice();
+        let parts = parts.get(..count).unwrap_or(parts);
+        let mut path = String::from_str(alloc, folder)?;
+        path.push_str(parts.join(alloc, "/")?.as_str())?;
+        Ok(path)
+    }
 }
 
 /// Whether a part leads from a folder into it.
@@ -132,10 +182,7 @@ fn names_of(alloc: Global, parts: &[&str]) -> Memory<Vec<String>>
 /// Where a source is put below a folder; None if it names no file, since it is empty or ends as a folder. The scheme of a URL is left
 /// out, and its host is kept; so is a drive left out, and slashes in front. Backslashes are slashes; `..` goes back to the folder before
 /// it, or else stands as `_`, as each hidden character does. So no source leads out of the folder.
-pub fn place_below(alloc: Global, source: &str) -> Memory<Option<Placed>>
-    ensures { IfOk result (λ placed. IfSome placed (λ placed.
-        list_all is_name (written placed.parts.items) ≡ true)) }
-{
+pub fn place_below(alloc: Global, source: &str) -> Memory<Option<Placed>> {
     let path = without_scheme(source);
     if !names_file(path) {
         return Ok(None);

@@ -6,6 +6,7 @@ use crate::input::{is_file, is_regular, read_text, shown_name, warn};
 use crate::paths::{
     file_name, folder_of, is_folder, is_inside, join_path, parts_of, path_of, path_of_url,
 };
+use crate::sections::root_sections;
 use oxc_sourcemap_found::{FoundParts, fault_reason, found_fault_at, read_found_parts};
 use oxc_sourcemap_json::{encode_parts_to_string_within, json_fault_at};
 use oxc_sourcemap_parts::{SourceMapParts, apply_root};
@@ -505,14 +506,17 @@ pub fn found_error_text(alloc: Global, text: &str, error: Error) -> Result<Strin
     placed_text(alloc, text, found_fault_at(alloc, text), error)
 }
 
-/// Reads the text of a map as it is found. What is mended is told as a warning.
+/// Reads the text of a map as it is found, the source roots of sections applied. What is mended is told as a warning.
 fn read_map_text(rt: &HostRuntime, name: &str, text: &str) -> Outcome<SourceMapParts<'static>> {
     let alloc = rt.alloc();
     match read_found_parts(alloc, text) {
-        Ok(FoundParts { parts, mends }) => {
+        Ok(FoundParts { mut parts, mends }) => {
             for mend in &mends {
                 let text = format!(in alloc; "mended: {mend}")?;
                 warn(rt, name, text.as_str());
+            }
+            if !root_sections(alloc, name, text, &mut parts)? {
+                warn(rt, name, "source roots of sections are left out");
             }
             Ok(parts)
         }

@@ -48,7 +48,7 @@ fn file_below(alloc: Global, from: &str, source: &str) -> Outcome<Option<String>
     let Some(placed) = place_of_source(alloc, source)? else {
         return Ok(None);
     };
-    Ok(Some(placed.path_below(alloc, from, placed.parts().len())?))
+    Ok(Some(placed.path_below(alloc, from)?))
 }
 
 /// The file of a source: below the folder of `--from`, if that is there, else by its path from the folder of the map; None if it names

@@ -135,12 +135,13 @@ impl<'a> Extract<'a> {
     }
 
     /// Makes the folders that a file is in, or says why one cannot be made.
-    fn make_folders(&self, placed: &Placed) -> Outcome<Option<String>> {
-        let alloc = self.alloc();
-        for count in 1..placed.parts().len() {
-            let path = placed.path_below(alloc, self.folder.as_str(), count)?;
-            if let Some(why) = make_folder(self.rt, path.as_str())? {
-                return Ok(Some(format!(in alloc; "{path} {why}")?));
+    fn make_folders(&self, file: &str) -> Outcome<Option<String>> {
+        for (at, _) in file.match_indices('/') {
+            let path = file.get(..at).unwrap_or("");
+            if at >= self.folder.len()
+                && let Some(why) = make_folder(self.rt, path)?
+            {
+                return Ok(Some(format!(in self.alloc(); "{path} {why}")?));
             }
         }
         Ok(None)
@@ -212,10 +213,10 @@ impl<'a> Extract<'a> {
                 "its path is too long: 255 bytes a name, and 4095 in all",
             );
         }
-        if let Some(why) = self.make_folders(&placed)? {
+        let path = placed.path_below(alloc, self.folder.as_str())?;
+        if let Some(why) = self.make_folders(path.as_str())? {
             return Ok(Fate::None(why));
         }
-        let path = placed.path_below(alloc, self.folder.as_str(), placed.parts().len())?;
         let fate = self.write(path, content)?;
         if let Fate::File(path) = &fate
             && placed.is_moved()

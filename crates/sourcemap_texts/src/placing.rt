@@ -1,5 +1,5 @@
 //! Where sources of maps are put, as files below a folder.
-ghost use Rattle.std.specs.Prelude.{◌≡◌, ◌++◌, true, take, IfOk, string_bytes};
+ghost use Rattle.std.specs.Prelude.{◌≡◌, ◌++◌, true, IfOk, string_bytes};
 ghost use Rattle.std.specs.List.{list_all};
 ghost use Rattle.sourcemap_texts.specs.Words.{is_name, written, joined, IsBelow};
 
@@ -57,17 +57,13 @@ impl Placed {
         }
     }
 
-    /// The path of the first `count` names below a folder, which is empty or ends in a slash; of all, if there are no more. It does not
-    /// lead out of the folder.
-    pub fn path_below(&self, alloc: Global, folder: &str, count: usize) -> Memory<String>
-        ensures text { IfOk result (λ path. string_bytes path
-            ≡ folder.now ++ joined (take count self.now)) }
+    /// The path of the file below a folder, which is empty or ends in a slash. It does not lead out of the folder.
+    pub fn path_below(&self, alloc: Global, folder: &str) -> Memory<String>
+        ensures text { IfOk result (λ path. string_bytes path ≡ folder.now ++ joined self.now) }
         ensures below { IfOk result (λ path. IsBelow folder.now (string_bytes path)) }
     {
-        let parts = self.parts.as_slice();
-        let parts = parts.get(..count).unwrap_or(parts);
         let mut path = String::from_str(alloc, folder)?;
-        path.push_str(parts.join(alloc, "/")?.as_str())?;
+        path.push_str(self.parts.as_slice().join(alloc, "/")?.as_str())?;
         Ok(path)
     }
 }

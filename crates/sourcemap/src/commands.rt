@@ -2,7 +2,7 @@
 use sourcemap_editing::{data_urls, embed, extract, strip};
 use sourcemap_files::{Asked, Status, print};
 use sourcemap_making::{bundle, compile, remap};
-use sourcemap_reports::{check, coverage, diff, page};
+use sourcemap_reports::{check, coverage, diff, page, size};
 use sourcemap_tracing::{resolve, trace};
 use sourcemap_words::{Outcome, VERSION, completions_of, manual_of, program};
 
@@ -39,6 +39,7 @@ pub fn run(name: &str, asked: &Asked<'_, '_>) -> Outcome<Status> {
         "diff" => diff::run(asked),
         "coverage" => coverage::run(asked),
         "page" => page::run(asked),
+        "size" => size::run(asked),
         "completions" => print_completions(asked),
         "man" => print_manual(asked),
         _ => Ok(Status::Nothing),

@@ -114,7 +114,7 @@ fn code_marks_of(
 
 /// The path of a source of a map in a folder, `..` taken together with the parts before it: from the current folder if it is in that,
 /// else from the root. An empty path, a URL but one of a file, and a path from a drive stay.
-fn path_from_here(
+pub(crate) fn path_from_here(
     alloc: Global,
     current: &str,
     folder: &str,
@@ -144,16 +144,20 @@ fn path_from_here(
     )
 }
 
+/// The current folder, with a slash at its end.
+pub(crate) fn folder_from_here(rt: &HostRuntime) -> Outcome<String> {
+    match env::current_dir(rt) {
+        Ok(folder) => Ok(format!(in rt.alloc(); "{}/", folder.as_path().as_str())?),
+        Err(error) => Err(failure_of(rt.alloc(), "the current folder", error)),
+    }
+}
+
 impl Coverage {
     fn new(asked: &Asked<'_, '_>) -> Outcome<Coverage> {
         let alloc = asked.alloc();
-        let folder = match env::current_dir(asked.rt) {
-            Ok(folder) => format!(in alloc; "{}/", folder.as_path().as_str())?,
-            Err(error) => return Err(failure_of(alloc, "the current folder", error)),
-        };
         Ok(Coverage {
             alloc,
-            folder,
+            folder: folder_from_here(asked.rt)?,
             input: asked.input_prefix()?,
             sources: Totals::new(alloc),
             left_out: BTreeMap::new(alloc),

@@ -1,4 +1,5 @@
-//! What is wrong in maps, what differs and what ran: the commands `check`, `coverage`, `diff` and `page` of the program `sourcemap`.
+//! What is wrong in maps, what differs, what ran and how long it is: the commands `check`, `coverage`, `diff`, `page` and `size` of the
+//! program `sourcemap`.
 #![tactic(auto)]
 
 pub mod check;
@@ -6,3 +7,4 @@ pub mod coverage;
 pub mod diff;
 pub mod page;
 mod scopes;
+pub mod size;

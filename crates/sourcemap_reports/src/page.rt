@@ -6,7 +6,7 @@ use sourcemap_files::{
     write_text,
 };
 use sourcemap_run::{DATA_MARK, fill_template, push_number_member, push_object, push_text_member};
-use sourcemap_words::{Failure, Outcome, failure_of};
+use sourcemap_words::{Outcome, failure_of};
 use std::alloc::{AllocError, Global};
 use std::env;
 
@@ -156,26 +156,15 @@ fn check_output(asked: &Asked<'_, '_>, map: &MapText) -> Outcome<()> {
     Ok(())
 }
 
-/// The failure of a code in whose place a map is named.
-fn no_code(asked: &Asked<'_, '_>, code: &str) -> Failure {
-    failure_of(
-        asked.alloc(),
-        shown_name(code),
-        "is a map: name its code, and the map behind it",
-    )
-}
-
-/// The text of the code. A map in its place is refused.
-fn read_code(asked: &Asked<'_, '_>) -> Outcome<String> {
-    let code = asked.word("CODE");
-    let text = match read_written(asked.rt, code)? {
-        Written::Text(text) => text,
-        Written::Compiled(_) => return Err(no_code(asked, code)),
-    };
-    if is_map(text.as_str()) {
-        return Err(no_code(asked, code));
+/// The text of a code. A map in its place is refused, with what is to be done.
+pub(crate) fn read_code(rt: &HostRuntime, code: &str, instead: &str) -> Outcome<String> {
+    match read_written(rt, code)? {
+        Written::Text(text) if !is_map(text.as_str()) => Ok(text),
+        _map => {
+            let text = format!(in rt.alloc(); "is a map: {instead}")?;
+            Err(failure_of(rt.alloc(), shown_name(code), text.as_str()))
+        }
     }
-    Ok(text)
 }
 
 /// Writes the page, and tells of it.
@@ -195,7 +184,7 @@ fn write(asked: &Asked<'_, '_>, text: &str, map: &MapText) -> Outcome<()> {
 pub fn run(asked: &Asked<'_, '_>) -> Outcome<Status> {
     check_words(asked)?;
     let code = asked.word("CODE");
-    let text = read_code(asked)?;
+    let text = read_code(asked.rt, code, "name its code, and the map behind it")?;
     let map = as_text(asked.rt, map_text(asked, code, text.as_str())?)?;
     read_map(asked.rt, &map)?;
     check_output(asked, &map)?;

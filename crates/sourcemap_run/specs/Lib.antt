@@ -12,4 +12,5 @@ pub mod Covered
 pub mod Contexts
 pub mod Page
 pub mod RawLines
+pub mod Sizes
 pub mod Words

@@ -43,5 +43,6 @@ pub use Rattle.sourcemap_run.specs.Contexts.{below_number}
 pub use Rattle.sourcemap_run.specs.Contexts.{context_line, lines_around, context_text}
 pub use Rattle.sourcemap_run.specs.Contexts.{LinesAreCounted}
 pub use Rattle.sourcemap_run.specs.RawLines.{spliced, are_in_row, IsMasked}
+pub use Rattle.sourcemap_run.specs.Sizes.{source_of, begin_of, lengths_of, slot_of, bytes_at}
 pub use Rattle.sourcemap_texts.specs.Paths.{IsMoved, IsRebased, written}
 pub use Rattle.oxc_sourcemap_parts.specs.Roots.{rooted}

@@ -345,6 +345,28 @@ const PAGE: Words = Words {
     ],
 };
 
+const SIZE: Words = Words {
+    about: "Tells how many bytes of codes come from each source",
+    json: "An object a line, the most bytes first: kind (source, folder, package, own or unmapped), name (but of own and unmapped), bytes, of (all bytes); of --diff old, new and change in place of bytes and of",
+    words: &[
+        Word(
+            "CODE",
+            Kind::Files,
+            "Codes, whose maps are found; of --diff the old one and the new one",
+        ),
+        Word(
+            "by",
+            Kind::Which("WHAT", &["source", "folder", "package"]),
+            "What the bytes are told of: sources, the folders that they are in, or packages, by the last node_modules/NAME or node_modules/@SCOPE/NAME of a path [default: source]",
+        ),
+        Word(
+            "diff",
+            Kind::Flag,
+            "Tells what has another number of bytes in the second code than in the first, the greatest change first",
+        ),
+    ],
+};
+
 /// Whether a value follows an option.
 pub fn takes_value(arg: &Arg<'_>) -> bool {
     !matches!(
@@ -448,7 +470,7 @@ fn printer<'a>(alloc: Global, name: &'a str, about: &'a str, words: &[Word]) -> 
 }
 
 /// The names of the commands, in the order in which help lists them.
-const COMMANDS: [&str; 16] = [
+const COMMANDS: [&str; 17] = [
     "trace",
     "resolve",
     "check",
@@ -463,6 +485,7 @@ const COMMANDS: [&str; 16] = [
     "diff",
     "coverage",
     "page",
+    "size",
     "completions",
     "man",
 ];
@@ -486,6 +509,7 @@ fn command_of<'a>(alloc: Global, name: &'a str) -> Built<'a> {
         "diff" => command(alloc, name, &DIFF),
         "coverage" => command(alloc, name, &COVERAGE),
         "page" => command(alloc, name, &PAGE),
+        "size" => command(alloc, name, &SIZE),
         "completions" => printer(alloc, name, "Prints the completions of a shell", &SHELL),
         _ => printer(alloc, name, "Prints the manual", &[]),
     }

@@ -99,6 +99,16 @@ Examples:
   sourcemap page dist/app.js -o app.html
   sourcemap page app.min.js app.min.js.map --template page.html -o app.html";
 
+const SIZE: &str =
+    "A character counts to the source that `trace` finds where it begins, and if there is none to [unmapped]: so do line feeds, and the codes add
+up. Sources are named by paths from the current folder, or, of --diff, as their maps name them. The bytes of a folder are those of all
+sources below it. Own code, which is of no package, is [own].
+
+Examples:
+  sourcemap size dist/*.js
+  sourcemap size --by package dist/app.js
+  sourcemap size --diff before/app.js dist/app.js";
+
 const COMPLETIONS: &str = "Examples:
   sourcemap completions bash > ~/.local/share/bash-completion/completions/sourcemap";
 
@@ -122,6 +132,7 @@ pub fn examples_of(command: &str) -> &'static str {
         "diff" => DIFF,
         "coverage" => COVERAGE,
         "page" => PAGE,
+        "size" => SIZE,
         "completions" => COMPLETIONS,
         "man" => MAN,
         _ => "",

@@ -1,0 +1,451 @@
+//! `size`: how many bytes of codes come from each source.
+use crate::coverage::{folder_from_here, path_from_here};
+use crate::page::read_code;
+use oxc_sourcemap_map::SourceMap;
+use sourcemap_files::{
+    Asked, Lookup, Progress, Status, map_of_code, plain_path, print, read_map_alone, shown_name,
+    tell, usage, warn,
+};
+use sourcemap_run::{percent, push_number_member, push_object, push_text_member, sizes_of_code};
+use sourcemap_texts::{push_shown, stands_by_itself};
+use sourcemap_words::{Failure, Outcome, failure_of};
+use std::alloc::{AllocError, Global};
+use std::cmp::Ordering;
+use std::collections::BTreeMap;
+
+/// What bytes are told of.
+#[derive(Clone, Copy)]
+enum Kind {
+    Source,
+    Folder,
+    Package,
+    /// Code of no package.
+    Own,
+    /// Code of no source.
+    Unmapped,
+}
+
+impl Kind {
+    /// That of `--by`.
+    fn of_word(word: &str) -> Kind {
+        match word {
+            "folder" => Kind::Folder,
+            "package" => Kind::Package,
+            _ => Kind::Source,
+        }
+    }
+
+    fn word(self) -> &'static str {
+        match self {
+            Kind::Source => "source",
+            Kind::Folder => "folder",
+            Kind::Package => "package",
+            Kind::Own => "own",
+            Kind::Unmapped => "unmapped",
+        }
+    }
+
+    /// Whether what it is has a name.
+    fn is_named(self) -> bool {
+        !matches!(self, Kind::Own | Kind::Unmapped)
+    }
+}
+
+/// The bytes of codes.
+#[derive(Drop)]
+struct Sizes {
+    alloc: Global,
+    /// What is named: sources, folders or packages.
+    kind: Kind,
+    /// Their bytes, by their names. Code of no package has an empty name.
+    named: BTreeMap<String, u64>,
+    unmapped: u64,
+    all: u64,
+    codes: u32,
+}
+
+/// The name of the package whose files have paths that begin so: up to the first slash, or, in a scope, up to the second one.
+fn package_in(path: &str) -> &str {
+    let mut end = path.find('/').unwrap_or(path.len());
+    if path.starts_with('@') {
+        let behind = end.saturating_add(1);
+        let name = path.get(behind..).unwrap_or("");
+        end = behind.saturating_add(name.find('/').unwrap_or(name.len()));
+    }
+    path.get(..end).unwrap_or(path)
+}
+
+/// The package of a source, by the last part `node_modules` of its path; empty if there is none.
+fn package_of(source: &str) -> &str {
+    let mut behind = "";
+    let mut at = 0usize;
+    for part in source.split('/') {
+        at = at.saturating_add(part.len()).saturating_add(1);
+        if part == "node_modules" {
+            behind = source.get(at..).unwrap_or("");
+        }
+    }
+    package_in(behind)
+}
+
+/// Whether a source is below the folder that its path begins in, or has no folder in its path.
+fn is_below(source: &str) -> bool {
+    let leads_away = stands_by_itself(source) || source.starts_with("../");
+    !leads_away || !source.contains('/')
+}
+
+/// Whether the front of a path, with a slash at its end, is a folder: where slashes stand in a row, as behind a scheme, up to the last one.
+fn is_folder(front: &str, rest: &str) -> bool {
+    !rest.starts_with('/') && !front.ends_with("/./")
+}
+
+impl Sizes {
+    fn new(alloc: Global, kind: Kind) -> Sizes {
+        Sizes {
+            alloc,
+            kind,
+            named: BTreeMap::new(alloc),
+            unmapped: 0,
+            all: 0,
+            codes: 0,
+        }
+    }
+
+    fn add_to(&mut self, name: &str, bytes: u64) -> Outcome<()> {
+        if let Some(sum) = self.named.get_mut(name) {
+            *sum = (*sum).saturating_add(bytes);
+            return Ok(());
+        }
+        let _ = self
+            .named
+            .insert(String::from_str(self.alloc, name)?, bytes)?;
+        Ok(())
+    }
+
+    /// Adds the bytes of a source to each folder that it is in.
+    fn add_to_folders(&mut self, source: &str, bytes: u64) -> Outcome<()> {
+        if is_below(source) {
+            self.add_to("./", bytes)?;
+        }
+        for (at, _) in source.match_indices('/') {
+            let end = at.saturating_add(1);
+            let front = source.get(..end).unwrap_or(source);
+            if is_folder(front, source.get(end..).unwrap_or("")) {
+                self.add_to(front, bytes)?;
+            }
+        }
+        Ok(())
+    }
+
+    fn add_source(&mut self, source: &str, bytes: u64) -> Outcome<()> {
+        match self.kind {
+            Kind::Folder => self.add_to_folders(source, bytes),
+            Kind::Package => self.add_to(package_of(source), bytes),
+            _kind => self.add_to(source, bytes),
+        }
+    }
+
+    /// Adds the bytes of a code: how many come from each of its sources, and, behind those, how many from none.
+    fn add_code(&mut self, sources: &[String], sizes: &[usize]) -> Outcome<()> {
+        for (source, bytes) in sources.iter().zip(sizes.iter()) {
+            if *bytes > 0 {
+                self.add_source(source.as_str(), *bytes as u64)?;
+            }
+        }
+        let unmapped = sizes.last().copied().unwrap_or(0);
+        self.unmapped = self.unmapped.saturating_add(unmapped as u64);
+        self.codes = self.codes.saturating_add(1);
+        Ok(())
+    }
+
+    fn bytes_of(&self, name: &str) -> u64 {
+        self.named.get(name).copied().unwrap_or(0)
+    }
+
+    /// What a name is that of.
+    fn kind_of(&self, name: &str) -> Kind {
+        match self.kind {
+            Kind::Package if name.is_empty() => Kind::Own,
+            kind => kind,
+        }
+    }
+}
+
+/// How many bytes something has in new codes, and had in old ones.
+#[derive(Clone, Copy)]
+struct Row<'s> {
+    kind: Kind,
+    name: &'s str,
+    old: u64,
+    new: u64,
+}
+
+/// The greatest change first, and those that are equal by their names.
+fn is_before(a: &Row<'_>, b: &Row<'_>) -> Ordering {
+    let (first, second) = (a.new.abs_diff(a.old), b.new.abs_diff(b.old));
+    second.cmp(&first).then(a.name.cmp(b.name))
+}
+
+/// What has another number of bytes in new codes than in old ones.
+fn rows_of<'s>(alloc: Global, old: &'s Sizes, new: &'s Sizes) -> Result<Vec<Row<'s>>, AllocError> {
+    let mut rows = Vec::new(alloc);
+    for (name, bytes) in &new.named {
+        rows.push(Row {
+            kind: new.kind_of(name.as_str()),
+            name: name.as_str(),
+            old: old.bytes_of(name.as_str()),
+            new: *bytes,
+        })?;
+    }
+    for (name, bytes) in &old.named {
+        if new.bytes_of(name.as_str()) == 0 {
+            rows.push(Row {
+                kind: old.kind_of(name.as_str()),
+                name: name.as_str(),
+                old: *bytes,
+                new: 0,
+            })?;
+        }
+    }
+    rows.push(Row {
+        kind: Kind::Unmapped,
+        name: "",
+        old: old.unmapped,
+        new: new.unmapped,
+    })?;
+    rows.retain(|row| row.old != row.new);
+    rows.sort_by(is_before)?;
+    Ok(rows)
+}
+
+/// The sign of a change, and how great it is.
+fn change_of(old: u64, new: u64) -> (&'static str, u64) {
+    let sign = match new.cmp(&old) {
+        Ordering::Less => "-",
+        Ordering::Equal => "",
+        Ordering::Greater => "+",
+    };
+    (sign, new.abs_diff(old))
+}
+
+/// Appends how many bytes there are, and how many percent, rounded down to a tenth.
+fn push_bytes(alloc: Global, bytes: u64, all: u64, out: &mut String) -> Result<(), AllocError> {
+    let tenths = percent(bytes.saturating_mul(10), all).unwrap_or(0);
+    let (whole, tenth) = (tenths / 10, tenths % 10);
+    out.push_str(format!(in alloc; "{bytes:>10}  {whole:>3}.{tenth} %  ")?.as_str())?;
+    Ok(())
+}
+
+/// Appends how many bytes more or less there are, and how many there were and are.
+fn push_change(alloc: Global, old: u64, new: u64, out: &mut String) -> Result<(), AllocError> {
+    let (sign, change) = change_of(old, new);
+    let change = format!(in alloc; "{sign}{change}")?;
+    let change = change.as_str();
+    out.push_str(format!(in alloc; "{change:>10}  {old:>10} to {new:>10}  ")?.as_str())?;
+    Ok(())
+}
+
+/// Appends what a row is of.
+fn push_name(row: &Row<'_>, out: &mut String) -> Outcome<()> {
+    if row.kind.is_named() {
+        push_shown(row.name, out)?;
+    } else {
+        out.push('[')?;
+        out.push_str(row.kind.word())?;
+        out.push(']')?;
+    }
+    Ok(out.push('\n')?)
+}
+
+/// The table: of a difference, or of the new codes alone.
+fn table(old: Option<&Sizes>, new: &Sizes, rows: &[Row<'_>]) -> Outcome<String> {
+    let alloc = new.alloc;
+    let mut out = String::new(alloc);
+    for row in rows {
+        match old {
+            Some(_) => push_change(alloc, row.old, row.new, &mut out)?,
+            None => push_bytes(alloc, row.new, new.all, &mut out)?,
+        }
+        push_name(row, &mut out)?;
+    }
+    match old {
+        Some(old) => push_change(alloc, old.all, new.all, &mut out)?,
+        None => push_bytes(alloc, new.all, new.all, &mut out)?,
+    }
+    out.push_str("total\n")?;
+    Ok(out)
+}
+
+/// Appends the members of a row of a difference.
+fn push_change_members(alloc: Global, row: &Row<'_>, members: &mut String) -> Outcome<()> {
+    push_number_member(alloc, "old", row.old, members)?;
+    push_number_member(alloc, "new", row.new, members)?;
+    let (sign, change) = change_of(row.old, row.new);
+    let sign = if sign == "-" { sign } else { "" };
+    members.push_str(format!(in alloc; ",\"change\":{sign}{change}")?.as_str())?;
+    Ok(())
+}
+
+/// The object of a row: of a difference, or of the new codes alone, which have so many bytes.
+fn push_row_object(
+    alloc: Global,
+    row: &Row<'_>,
+    all: Option<u64>,
+    out: &mut String,
+) -> Outcome<()> {
+    let mut members = String::new(alloc);
+    push_text_member("kind", row.kind.word(), &mut members)?;
+    if row.kind.is_named() {
+        push_text_member("name", row.name, &mut members)?;
+    }
+    match all {
+        Some(all) => {
+            push_number_member(alloc, "bytes", row.new, &mut members)?;
+            push_number_member(alloc, "of", all, &mut members)?;
+        }
+        None => push_change_members(alloc, row, &mut members)?,
+    }
+    push_object(members.as_str(), out)?;
+    Ok(out.push('\n')?)
+}
+
+fn objects(old: Option<&Sizes>, new: &Sizes, rows: &[Row<'_>]) -> Outcome<String> {
+    let all = if old.is_some() { None } else { Some(new.all) };
+    let mut out = String::new(new.alloc);
+    for row in rows {
+        push_row_object(new.alloc, row, all, &mut out)?;
+    }
+    Ok(out)
+}
+
+/// Prints rows.
+fn print_rows(
+    asked: &Asked<'_, '_>,
+    old: Option<&Sizes>,
+    new: &Sizes,
+    rows: &[Row<'_>],
+) -> Outcome<()> {
+    let text = if asked.has("json") {
+        objects(old, new, rows)?
+    } else {
+        table(old, new, rows)?
+    };
+    print(asked.rt, text.as_str())
+}
+
+/// The names of the sources of a map in a folder: their paths from the current folder, or, without that, as the map has them.
+fn names_of(
+    alloc: Global,
+    map: &SourceMap<'_>,
+    folder: &str,
+    current: Option<&str>,
+) -> Outcome<Vec<String>> {
+    let mut names = Vec::new(alloc);
+    for source in map.get_sources() {
+        names.push(match current {
+            Some(current) => path_from_here(alloc, current, folder, source)?,
+            None => plain_path(alloc, "", source)?,
+        })?;
+    }
+    Ok(names)
+}
+
+/// Adds the bytes of a code. If it has no map, that is not done, and why is returned.
+fn add_file(
+    asked: &Asked<'_, '_>,
+    code: &str,
+    current: Option<&str>,
+    sizes: &mut Sizes,
+) -> Outcome<Option<String>> {
+    let (rt, alloc) = (asked.rt, asked.alloc());
+    let text = read_code(rt, code, "name its code")?;
+    let held = match map_of_code(rt, code, text.as_str(), asked.places())? {
+        Lookup::Map(held) => held,
+        Lookup::None(why) => return Ok(Some(why)),
+    };
+    let mut map = SourceMap::from_parts(read_map_alone(rt, &held)?);
+    map.apply_source_root(alloc)?;
+    let names = names_of(alloc, &map, held.folder.as_str(), current)?;
+    let tokens = map.get_tokens();
+    let bytes = sizes_of_code(alloc, text.as_str(), tokens.as_slice(), names.len())?;
+    sizes.add_code(names.as_slice(), bytes.as_slice())?;
+    sizes.all = sizes.all.saturating_add(text.len() as u64);
+    Ok(None)
+}
+
+/// Adds the bytes of codes. What is wrong with a code or its map is told, and the last one of which something is wrong is returned.
+fn add_files<'c>(
+    asked: &Asked<'_, '_>,
+    codes: &[&'c str],
+    sizes: &mut Sizes,
+) -> Outcome<Option<&'c str>> {
+    let rt = asked.rt;
+    let current = folder_from_here(rt)?;
+    let mut progress = Progress::new(rt, codes.len());
+    let mut trouble = None;
+    for code in codes {
+        progress.begin(rt, code);
+        let added = add_file(asked, code, Some(current.as_str()), sizes);
+        progress.clear(rt);
+        match added {
+            Ok(None) => {}
+            Ok(Some(why)) => warn(rt, "left out", why.as_str()),
+            Err(Failure::Told(text)) => {
+                tell(rt, text.as_str());
+                trouble = Some(*code);
+            }
+            Err(failure) => return Err(failure),
+        }
+    }
+    Ok(trouble)
+}
+
+/// Tells what bytes come from.
+fn run_sizes(asked: &Asked<'_, '_>, codes: &[&str], kind: Kind) -> Outcome<Status> {
+    let alloc = asked.alloc();
+    let (none, mut sizes) = (Sizes::new(alloc, kind), Sizes::new(alloc, kind));
+    let trouble = add_files(asked, codes, &mut sizes)?;
+    if sizes.codes > 0 {
+        let rows = rows_of(alloc, &none, &sizes)?;
+        print_rows(asked, None, &sizes, rows.as_slice())?;
+    }
+    match trouble {
+        Some(code) => Err(failure_of(alloc, shown_name(code), "was not counted, see above")),
+        None => Ok(Status::of(sizes.codes > 0)),
+    }
+}
+
+/// The bytes of a code that has to have a map.
+fn sizes_of_build(asked: &Asked<'_, '_>, code: &str, kind: Kind) -> Outcome<Sizes> {
+    let mut sizes = Sizes::new(asked.alloc(), kind);
+    match add_file(asked, code, None, &mut sizes)? {
+        None => Ok(sizes),
+        Some(why) => Err(failure_of(asked.alloc(), shown_name(code), why.as_str())),
+    }
+}
+
+/// Tells what has another number of bytes in a code than in another one.
+fn run_diff(asked: &Asked<'_, '_>, codes: &[&str], kind: Kind) -> Outcome<Status> {
+    let (Some(old), Some(new), None) = (codes.first(), codes.get(1), codes.get(2)) else {
+        return Err(usage(
+            asked.rt,
+            "--diff compares two codes: name the old one and the new one",
+        ));
+    };
+    let old = sizes_of_build(asked, old, kind)?;
+    let new = sizes_of_build(asked, new, kind)?;
+    let rows = rows_of(asked.alloc(), &old, &new)?;
+    print_rows(asked, Some(&old), &new, rows.as_slice())?;
+    Ok(Status::of(rows.is_empty()))
+}
+
+/// Runs the command `size`.
+pub fn run(asked: &Asked<'_, '_>) -> Outcome<Status> {
+    let codes = asked.words("CODE")?;
+    let kind = Kind::of_word(asked.word("by"));
+    if asked.has("diff") {
+        run_diff(asked, codes.as_slice(), kind)
+    } else {
+        run_sizes(asked, codes.as_slice(), kind)
+    }
+}

@@ -19,5 +19,5 @@ def link(folder, links):
 
 
 def left(folder, names):
-    """What the files of these names hold in the end; None for one that is not there."""
-    return {name: Path(folder, name).read_text() if Path(folder, name).exists() else None for name in names}
+    """What the files of these names hold in the end, with their ends of lines; None for one that is not there."""
+    return {name: Path(folder, name).read_bytes().decode() if Path(folder, name).exists() else None for name in names}

@@ -1,5 +1,5 @@
 //! Running a command by its name.
-use sourcemap_editing::{data_urls, embed, extract, strip};
+use sourcemap_editing::{data_urls, debug_id, embed, extract, strip};
 use sourcemap_files::{Asked, Status, print};
 use sourcemap_making::{bundle, compile, remap};
 use sourcemap_reports::{check, coverage, diff, page, size};
@@ -36,6 +36,7 @@ pub fn run(name: &str, asked: &Asked<'_, '_>) -> Outcome<Status> {
         "strip" => strip::run(asked),
         "inline" => data_urls::inline(asked),
         "external" => data_urls::external(asked),
+        "debug-id" => debug_id::run(asked),
         "diff" => diff::run(asked),
         "coverage" => coverage::run(asked),
         "page" => page::run(asked),

@@ -42,7 +42,11 @@ impl Done {
 }
 
 /// The comment by which a code names its map.
-fn comment_of<'c>(alloc: Global, file: &str, code: &'c str) -> Outcome<SourceMappingComment<'c>> {
+pub fn comment_of<'c>(
+    alloc: Global,
+    file: &str,
+    code: &'c str,
+) -> Outcome<SourceMappingComment<'c>> {
     match source_mapping_comment(code, language_of(file)) {
         Some(found) => Ok(found),
         None => Err(failure_of(alloc, file, "has no comment that names its map")),
@@ -50,7 +54,7 @@ fn comment_of<'c>(alloc: Global, file: &str, code: &'c str) -> Outcome<SourceMap
 }
 
 /// A code with another URL in the comment that names its map.
-fn with_url(
+pub fn with_url(
     alloc: Global,
     found: SourceMappingComment<'_>,
     url: &str,

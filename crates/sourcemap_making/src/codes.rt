@@ -1,9 +1,7 @@
 //! Texts of codes, as they stand one after another in a bundle.
 use oxc_sourcemap_text::{Language, source_mapping_comment};
+use sourcemap_run::{LINE_ENDS, debug_id_in_line, tail_start};
 use std::alloc::{AllocError, Global};
-
-/// The characters that end a line.
-const LINE_ENDS: [char; 4] = ['\n', '\r', '\u{2028}', '\u{2029}'];
 
 /// What can go on with an expression that stands before it on another line.
 const GOES_ON: [char; 9] = ['(', '[', '`', '+', '-', '/', '*', ',', '.'];
@@ -31,32 +29,6 @@ fn without_comment(alloc: Global, code: &str, language: Language) -> Result<Stri
     Ok(kept)
 }
 
-/// Whether a line has white space or a comment `//` alone, which cannot end a string, a template or a comment of earlier lines.
-fn is_quiet(line: &str) -> bool {
-    let text = line.trim();
-    let is_comment = text.starts_with("//") && !text.contains("*/");
-    text.is_empty() || is_comment && !text.contains(['"', '\'', '`'].as_slice())
-}
-
-/// Where the lines at the end of a code begin that have white space and comments alone.
-fn tail_start(code: &str) -> usize {
-    let mut start = 0;
-    let mut at: usize = 0;
-    for line in code.split_inclusive(LINE_ENDS.as_slice()) {
-        at = at.saturating_add(line.len());
-        if !is_quiet(line) {
-            start = at;
-        }
-    }
-    start
-}
-
-/// Whether a line has the comment that gives a code the id of its map.
-fn is_debug_id(line: &str) -> bool {
-    let text = line.trim_start().strip_prefix("//#");
-    text.is_some_and(|text| text.trim_start().starts_with("debugId="))
-}
-
 /// A code without the comments at its end that give it the id of its map, since the map of the bundle has none of these. Their lines stay.
 fn without_debug_ids(alloc: Global, code: &str) -> Result<String, AllocError> {
     let (front, tail) = code
@@ -64,7 +36,7 @@ fn without_debug_ids(alloc: Global, code: &str) -> Result<String, AllocError> {
         .unwrap_or((code, ""));
     let mut kept = String::from_str(alloc, front)?;
     for line in tail.split_inclusive(LINE_ENDS.as_slice()) {
-        if is_debug_id(line) {
+        if debug_id_in_line(line).is_some() {
             push_behind(line.get(line.trim_end().len()..).unwrap_or(""), &mut kept)?;
         } else {
             kept.push_str(line)?;

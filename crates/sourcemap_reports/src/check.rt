@@ -10,7 +10,9 @@ use sourcemap_files::{
     is_stale, map_of_code, parts_in, print, put_contents, read_text, read_written, shown_name,
     tell,
 };
-use sourcemap_run::{push_object, push_text_member};
+use sourcemap_run::{
+    are_same_ids, debug_id_of_code, debug_id_of_map, push_object, push_text_member,
+};
 use sourcemap_texts::{push_shown, push_visible};
 use sourcemap_words::{Failure, Outcome, failure_of};
 use std::alloc::{AllocError, Global};
@@ -307,6 +309,20 @@ fn tell_unneeded(report: &mut Report, map: SourceMap<'static>, held: &MapScopes)
     report.tell(Kind::Note, text.as_str())
 }
 
+/// Tells that the debug id of a map is not that of its code, if both have one.
+fn tell_debug_ids(report: &mut Report, map: Option<&str>, code: Option<&str>) -> Outcome<()> {
+    let (Some(map), Some(code)) = (map, debug_id_of_code(code.unwrap_or(""))) else {
+        return Ok(());
+    };
+    if are_same_ids(map, code) {
+        return Ok(());
+    }
+    let text = format!(in report.alloc;
+        "the code has the debug id {code}, and the map {map}: see `sourcemap debug-id`"
+    )?;
+    report.tell(Kind::Wrong, text.as_str())
+}
+
 /// What is told of a map that was read, and of its code if there is one.
 fn tell_held(
     report: &mut Report,
@@ -335,6 +351,7 @@ fn check_text(report: &mut Report, text: &str, code: Option<&str>) -> Outcome<()
     let map = SourceMap::from_parts(parts);
     tell_summary(report, text.len(), &map)?;
     tell_faults(report, text, mends.as_slice())?;
+    tell_debug_ids(report, debug_id_of_map(alloc, text)?, code)?;
     tell_held(report, map, &scopes_in(alloc, text)?, code)
 }
 
@@ -356,6 +373,7 @@ fn check_compiled(
     }
     let mut parts = map.into_parts();
     put_contents(rt, report.file.as_str(), bytes, &mut parts)?;
+    tell_debug_ids(report, parts.debug_id.as_ref().map(|id| id.as_str()), code)?;
     let map = SourceMap::from_parts(parts);
     tell_held(report, map, &MapScopes::none(), code)
 }

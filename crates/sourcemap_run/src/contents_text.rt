@@ -34,12 +34,12 @@ pub fn changed(alloc: Global, text: &str, changes: &[Change]) -> Result<Option<S
 }
 
 /// What takes a member out of its object, and the comma before it; the one behind it, where no member is kept before it.
-fn cut_of(alloc: Global, member: &Member<'_>, has_kept: bool) -> Change {
-    let whole = member.whole;
-    let (start, end) = if has_kept {
-        (whole.at.saturating_sub(1), member.value.end())
-    } else {
-        (whole.at, whole.end().saturating_add(1))
+fn cut_of(alloc: Global, member: &Member<'_>, has_kept: bool, is_last: bool) -> Change {
+    let (whole, end) = (member.whole, member.value.end());
+    let (start, end) = match (has_kept, is_last) {
+        (true, _) => (whole.at.saturating_sub(1), end),
+        (false, false) => (whole.at, whole.end().saturating_add(1)),
+        (false, true) => (whole.at, end),
     };
     Change {
         start,
@@ -48,18 +48,31 @@ fn cut_of(alloc: Global, member: &Member<'_>, has_kept: bool) -> Change {
     }
 }
 
+/// Appends what takes the members with a key, which is written in its quotes, out of an object of a text.
+pub(crate) fn push_cuts(
+    alloc: Global,
+    object: Piece<'_>,
+    key: &str,
+    changes: &mut Vec<Change>,
+) -> Result<()> {
+    let members = members_of(alloc, object)?;
+    let mut has_kept = false;
+    for (k, member) in members.iter().enumerate() {
+        if member.key == key {
+            let is_last = k.saturating_add(1) == members.len();
+            changes.push(cut_of(alloc, member, has_kept, is_last))?;
+        } else {
+            has_kept = true;
+        }
+    }
+    Ok(())
+}
+
 /// The text of a map without the contents of its sources, as of each section of an indexed map; all else stays, to the byte.
 pub fn cut_contents(alloc: Global, text: &str) -> Result<Option<String>> {
     let mut changes = Vec::new(alloc);
     for map in &maps_in(alloc, text)? {
-        let mut has_kept = false;
-        for member in &members_of(alloc, *map)? {
-            if member.key == KEY {
-                changes.push(cut_of(alloc, member, has_kept))?;
-            } else {
-                has_kept = true;
-            }
-        }
+        push_cuts(alloc, *map, KEY, &mut changes)?;
     }
     changed(alloc, text, changes.as_slice())
 }
@@ -167,4 +180,27 @@ pub fn push_value(
         }
     }
     Ok(is_there)
+}
+
+/// Appends what puts a member with a key, which is written in its quotes, behind the last one of an object of a text.
+pub(crate) fn push_member(
+    alloc: Global,
+    object: Piece<'_>,
+    key: &str,
+    text: &str,
+    changes: &mut Vec<Change>,
+) -> Result<()> {
+    let members = members_of(alloc, object)?;
+    let (at, comma) = match members.as_slice().last() {
+        Some(member) => (member.value.end(), ","),
+        None => (object.at.saturating_add(1), ""),
+    };
+    let mut member = format!(in alloc; "{comma}{key}:")?;
+    push_json_string(text, &mut member)?;
+    changes.push(Change {
+        start: at,
+        end: at,
+        text: member,
+    })?;
+    Ok(())
 }

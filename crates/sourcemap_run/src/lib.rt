@@ -7,6 +7,7 @@ mod contents_text;
 mod contexts;
 mod counting;
 mod covered;
+mod debug_ids;
 mod differing;
 mod frames;
 mod page;
@@ -25,6 +26,11 @@ pub use counting::{Block, Mark, missed_ranges, push_marks};
 pub use covered::{
     counted_lines, covered_tells_apart, lcov_tells_apart, percent, push_covered, push_lcov,
     push_missed, ran,
+};
+pub use debug_ids::{
+    Agreement, LINE_ENDS, Origin, are_same_ids, code_with_debug_id, debug_id_in_line,
+    debug_id_member, debug_id_of_code, debug_id_of_map, made_debug_id, map_with_debug_id,
+    tail_start,
 };
 pub use differing::count_differences;
 pub use frames::{Cut, Frame, Paint, Target, answer_to, frame_position, push_frame, push_line};

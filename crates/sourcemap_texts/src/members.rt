@@ -153,7 +153,11 @@ pub fn members_of<'t>(alloc: Global, object: Piece<'t>) -> Memory<Vec<Member<'t>
 }
 
 /// The value of the last member with a key, which is written in its quotes.
-fn value_of<'t>(alloc: Global, object: Piece<'t>, key: &str) -> Memory<Option<Piece<'t>>> {
+pub(crate) fn value_of<'t>(
+    alloc: Global,
+    object: Piece<'t>,
+    key: &str,
+) -> Memory<Option<Piece<'t>>> {
     let mut value = None;
     for member in &members_of(alloc, object)? {
         if member.key == key {
@@ -163,12 +167,17 @@ fn value_of<'t>(alloc: Global, object: Piece<'t>, key: &str) -> Memory<Option<Pi
     Ok(value)
 }
 
+/// The object that the text of a map is. What stands in front of the first brace is passed over.
+pub(crate) fn top_of(text: &str) -> Piece<'_> {
+    let front = text.find('{').unwrap_or(text.len());
+    Piece { at: 0, text }.part(front, text.len())
+}
+
 /// The objects in the text of a map that have sources: itself, or, of an indexed map, the maps of its sections. What stands in front of
 /// the first brace is passed over.
 pub fn maps_in<'t>(alloc: Global, text: &'t str) -> Memory<Vec<Piece<'t>>> {
     let mut maps = Vec::new(alloc);
-    let front = text.find('{').unwrap_or(text.len());
-    let whole = Piece { at: 0, text }.part(front, text.len());
+    let whole = top_of(text);
     let sections = match value_of(alloc, whole, "\"sections\"")? {
         Some(sections) if sections.text.starts_with('[') => sections,
         _ => {

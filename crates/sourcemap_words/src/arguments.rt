@@ -304,6 +304,24 @@ const EXTERNAL: Words = Words {
     ],
 };
 
+const DEBUG_ID: Words = Words {
+    about: "Tells whether codes and their maps have the same debug ids, or gives them these",
+    json: "An object a line, for each code: code, map, codeId, mapId, ids (same, different, missing or no UUID), and without a map why; of --inject code, map, debugId, from (both, map, code or digest)",
+    words: &[
+        Word("CODE", Kind::Files, "Codes whose maps are found"),
+        Word(
+            "inject",
+            Kind::Flag,
+            "Gives each code and its map one debug id, where they lie",
+        ),
+        Word(
+            "force",
+            Kind::Flag,
+            "Of two debug ids that differ takes that of the map, and replaces what is no UUID",
+        ),
+    ],
+};
+
 /// Where a map is written that is changed.
 const EDITED: Word = Word(
     "output",
@@ -482,6 +500,7 @@ const COMMANDS: [&str; 17] = [
     "strip",
     "inline",
     "external",
+    "debug-id",
     "diff",
     "coverage",
     "page",
@@ -506,6 +525,7 @@ fn command_of<'a>(alloc: Global, name: &'a str) -> Built<'a> {
         "strip" => command(alloc, name, &STRIP),
         "inline" => command(alloc, name, &INLINE),
         "external" => command(alloc, name, &EXTERNAL),
+        "debug-id" => command(alloc, name, &DEBUG_ID),
         "diff" => command(alloc, name, &DIFF),
         "coverage" => command(alloc, name, &COVERAGE),
         "page" => command(alloc, name, &PAGE),

@@ -82,6 +82,15 @@ Examples:
   sourcemap external dist/app.js
   sourcemap external dist/*.js -o maps";
 
+const DEBUG_ID: &str =
+    "The debug id of a code is that of its last comment `//# debugId=UUID`, that of a map its member debugId, or else debug_id. With --inject what
+the map has counts, or else what the code has; without either it is a UUID of version 8, made of the SHA-256 of the map's text without its
+member debugId: the same map has the same one. Nothing else changes, and no code moves.
+
+Examples:
+  sourcemap debug-id dist/*.js
+  sourcemap debug-id --inject dist/*.js";
+
 const DIFF: &str = "Examples:
   sourcemap diff before.js.map after.js.map";
 
@@ -129,6 +138,7 @@ pub fn examples_of(command: &str) -> &'static str {
         "strip" => STRIP,
         "inline" => INLINE,
         "external" => EXTERNAL,
+        "debug-id" => DEBUG_ID,
         "diff" => DIFF,
         "coverage" => COVERAGE,
         "page" => PAGE,

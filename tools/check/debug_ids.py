@@ -1,0 +1,69 @@
+"""Debug ids that `sourcemap debug-id` gives random codes and their maps. For tools/check/sourcemap."""
+
+import hashlib
+import json
+import random
+import tempfile
+import uuid
+from pathlib import Path
+
+OTHER = str(uuid.UUID(int=7))
+# Lines before the last code, and what may follow that.
+LINES = ["f();", "", "  ", "// c", "/* c */", "`", '"\\', f"//# debugId={OTHER}", "//# debugId=7 ", "f(); //# sourceMappingURL=y.map", "/*"]
+LAST = ["", "END//# sourceMappingURL=NAME.map", "END /*# sourceMappingURL=NAME.map */ ", "//@ sourceMappingURL=NAME.map"]
+MEMBERS = {"version": 3, "sources": ['}\\"'], "names": [], "mappings": "AAAA", "x": {"debugId": [OTHER]}}
+
+
+def made_of(text):
+    """The debug id that is made for the text of a map."""
+    made = bytearray(hashlib.sha256(text.encode()).digest()[:16])
+    made[6], made[8] = made[6] & 15 | 128, made[8] & 63 | 128
+    return str(uuid.UUID(bytes=bytes(made)))
+
+
+def random_code(chance, name):
+    """A code, and how much of it is up to the end of its last code."""
+    end = chance.choice(["\n", "\r\n", "\r", "\u2028"])
+    code = end.join([*chance.choices(LINES, k=chance.randrange(5)), "f();"])
+    return code + chance.choice(LAST).replace("END", end).replace("NAME", name) + end * chance.randrange(3), len(code)
+
+
+def random_map(chance):
+    members = chance.sample([*MEMBERS.items()], len(MEMBERS))
+    text = json.dumps(dict(members), indent=chance.choice([None, 1]))
+    return chance.choice(["", ")]}'\n"]) + text + chance.choice(["", "\n"])
+
+
+def without(code, comment):
+    """What a code may have been before a comment came on a line of its own."""
+    front, _, back = code.rpartition(comment)
+    for end in ("\n", "\r\n"):
+        yield from (it + back.removeprefix(end) for it in (front, front.removesuffix(end)) if back.startswith(end))
+
+
+def tried(run, check):
+    """Gives 300 codes and maps debug ids: all that was there stays, no code moves, and a second time nothing changes."""
+    chance, names = random.Random(49), [f"c{k}.js" for k in range(300)]
+    codes = {name: random_code(chance, name) for name in names}
+    maps = {name: random_map(chance) for name in names}
+    with tempfile.TemporaryDirectory() as folder:
+
+        def held():
+            return {it.name: it.read_bytes().decode() for it in Path(folder).iterdir()}
+
+        for name in names:
+            Path(folder, name).write_bytes(codes[name][0].encode())
+            Path(folder, f"{name}.map").write_bytes(maps[name].encode())
+        status, out, err = run(["debug-id", "--inject", *names], folder)
+        check(status == 0 and out.count("\n") == len(names), f"debug ids of {len(names)} codes: {status}, {err[:300]}")
+        found = held()
+        for name in names:
+            (code, end), made, text = codes[name], made_of(maps[name]), found[f"{name}.map"]
+            was = code in without(found[name], f"//# debugId={made}") and found[name].startswith(code[:end])
+            check(was, f"a debug id in {code!r}: {found[name]!r}")
+            read = json.loads(text[text.index("{") :])
+            was = text.replace(f',"debugId":"{made}"', "") == maps[name] and read == {**MEMBERS, "debugId": made}
+            check(was, f"a debug id in {maps[name]!r}: {text!r}")
+        check(run(["debug-id", *names], folder)[0] == 0, "debug ids that were injected are the same")
+        status = run(["debug-id", "--inject", "--force", *names], folder)[0]
+        check((status, held()) == (0, found), f"debug ids a second time: {status}")

@@ -63,7 +63,8 @@ fn sources_of(alloc: Global, maps: &[SourceMapParts<'static>]) -> Outcome<Vec<Co
 
 /// Puts the source root of each map before its sources.
 fn root_all(alloc: Global, maps: &mut [SourceMapParts<'static>]) -> Memory<()>
-    ensures { OnOk result (map record_of_parts maps.new ≡ map (λ m. rooted (record_of_parts m)) maps.old) }
+    ensures { OnOk result (map record_of_parts maps.new
+        ≡ map rooted (map record_of_parts maps.old)) }
 {
     for map in maps {
         apply_root(alloc, map)?;

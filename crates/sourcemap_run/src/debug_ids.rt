@@ -1,9 +1,9 @@
 //! Debug ids: the UUID that a code and its map share, in a comment of the code and in a member of the map.
 use crate::contents_text::{changed, push_cuts, push_member, push_value};
-use crate::members::{Piece, top_of, value_of};
 use oxc_sourcemap_text::{Language, source_mapping_comment};
 use oxc_sourcemap_tokens::{Memory, Result};
 use sha2::{Digest, Sha256};
+use sourcemap_texts::{Piece, top_of, value_of};
 use std::alloc::Global;
 use uuid::Uuid;
 

@@ -10,7 +10,7 @@ mod positions;
 mod texts;
 
 pub use matching::{Candidate, Choice, Prefix, choose, longest_prefix};
-pub use members::{Member, Piece, entries_of, has_member, maps_in, members_of};
+pub use members::{Member, Piece, entries_of, has_member, maps_in, members_of, top_of, value_of};
 pub use paths::{is_url, relative_path, stands_by_itself};
 pub use placing::{Placed, place_below};
 pub use positions::{position_of, source_position_of};

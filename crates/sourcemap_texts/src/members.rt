@@ -153,11 +153,7 @@ pub fn members_of<'t>(alloc: Global, object: Piece<'t>) -> Memory<Vec<Member<'t>
 }
 
 /// The value of the last member with a key, which is written in its quotes.
-pub(crate) fn value_of<'t>(
-    alloc: Global,
-    object: Piece<'t>,
-    key: &str,
-) -> Memory<Option<Piece<'t>>> {
+pub fn value_of<'t>(alloc: Global, object: Piece<'t>, key: &str) -> Memory<Option<Piece<'t>>> {
     let mut value = None;
     for member in &members_of(alloc, object)? {
         if member.key == key {
@@ -168,7 +164,7 @@ pub(crate) fn value_of<'t>(
 }
 
 /// The object that the text of a map is. What stands in front of the first brace is passed over.
-pub(crate) fn top_of(text: &str) -> Piece<'_> {
+pub fn top_of(text: &str) -> Piece<'_> {
     let front = text.find('{').unwrap_or(text.len());
     Piece { at: 0, text }.part(front, text.len())
 }

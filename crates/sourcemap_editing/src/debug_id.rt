@@ -1,9 +1,9 @@
 //! `debug-id`: the debug ids of codes and of their maps, told or made the same.
 use crate::data_urls::{comment_of, with_url};
-use crate::editing::{is_data_url, is_done, parts_in, refusal};
+use crate::editing::{is_data_url, is_done, refusal};
 use oxc_sourcemap_text::Language;
 use sourcemap_files::{
-    Asked, Lookup, MapText, Progress, Status, Written, language_of, map_of_code, print,
+    Asked, Lookup, MapText, Progress, Status, Written, language_of, map_of_code, parts_in, print,
     read_map_alone, read_text, shown_name, usage, write_files,
 };
 use sourcemap_run::{

@@ -2,7 +2,7 @@
 use crate::editing::{is_data_url, is_done};
 use crate::extract::{entry_at, has_bytes};
 use crate::moving::moved_text;
-use oxc_sourcemap_text::{SourceMappingComment, decode_data_url, source_mapping_comment};
+use oxc_sourcemap_text::{Language, SourceMappingComment, decode_data_url, source_mapping_comment};
 use percent_encoding::utf8_percent_encode;
 use sourcemap_files::{
     Asked, Lookup, Progress, Status, bytes_to_escape, file_name, folder_of, language_of,
@@ -23,7 +23,8 @@ enum Way {
 /// What was done to codes.
 #[derive(Drop)]
 struct Done {
-    /// The maps that were written, by their names without links and dots.
+    /// The codes that were changed and the maps that were written out of them, by their names without links and dots.
+    codes: Vec<String>,
     places: Vec<String>,
     /// The objects of `--json`.
     out: String,
@@ -65,12 +66,25 @@ pub fn with_url(
     format!(in alloc; "{front}{key}={url}{behind}{back}")
 }
 
+/// A code that names no map with a comment at its end that names one by this URL.
+fn with_comment(alloc: Global, file: &str, code: &str, url: &str) -> Result<String, AllocError> {
+    let feed = if code.is_empty() || code.ends_with('\n') {
+        ""
+    } else {
+        "\n"
+    };
+    match language_of(file) {
+        Language::JavaScript => { format!(in alloc; "{code}{feed}//# sourceMappingURL={url}\n") }
+        Language::Css => format!(in alloc; "{code}{feed}/*# sourceMappingURL={url} */\n"),
+    }
+}
+
 /// Puts the map of a code into it, its sources then relative to the folder of the code.
 fn put_in(asked: &Asked<'_, '_>, file: &str, done: &mut Done) -> Outcome<()> {
     let (rt, alloc) = (asked.rt, asked.alloc());
     let code = read_text(rt, file)?;
-    let found = comment_of(alloc, file, code.as_str())?;
-    if is_data_url(found.url) {
+    let found = source_mapping_comment(code.as_str(), language_of(file));
+    if found.as_ref().is_some_and(|found| is_data_url(found.url)) {
         return Err(failure_of(alloc, file, "has its map in a data URL already"));
     }
     let map = match map_of_code(rt, file, code.as_str(), asked.places())? {
@@ -81,7 +95,10 @@ fn put_in(asked: &Asked<'_, '_>, file: &str, done: &mut Done) -> Outcome<()> {
     let text = text_of_map(rt, &map)?;
     let text = moved_text(rt, name, text.as_str(), folder, folder_of(file))?;
     let url = data_url(alloc, text.as_str())?;
-    let changed = with_url(alloc, found, url.as_str())?;
+    let changed = match found {
+        Some(found) => with_url(alloc, found, url.as_str())?,
+        None => with_comment(alloc, file, code.as_str(), url.as_str())?,
+    };
     write_text(rt, file, changed.as_str())?;
     done.push(alloc, file, name, text.len())
 }
@@ -122,22 +139,24 @@ fn why_kept(asked: &Asked<'_, '_>, path: &str, text: &str) -> Outcome<Option<&'s
     if asked.has("force") || has_bytes(rt, path, &metadata, text.as_bytes())? {
         return Ok(None);
     }
-    Ok(Some("is there with another content: --force overwrites it"))
+    Ok(Some(if asked.word("output").is_empty() {
+        "is there with another content: --force overwrites it"
+    } else {
+        "is there with another content: name another folder by -o (--force overwrites it)"
+    }))
 }
 
 /// Refuses to write a map over another file, or over that of an earlier code.
 fn refuse_losing(asked: &Asked<'_, '_>, path: &str, text: &str, done: &mut Done) -> Outcome<()> {
     let alloc = asked.alloc();
-    if let Some(why) = why_kept(asked, path, text)? {
-        return Err(failure_of(alloc, path, why));
-    }
     let place = place_of(asked.rt, path)?;
     if done.places.iter().any(|other| *other == place) {
-        return Err(failure_of(
-            alloc,
-            path,
-            "would be written twice: name each code once, and those of one name apart",
-        ));
+        let why =
+            "is that of an earlier code of this name: name another folder by -o, in a run of its own";
+        return Err(failure_of(alloc, path, why));
+    }
+    if let Some(why) = why_kept(asked, path, text)? {
+        return Err(failure_of(alloc, path, why));
     }
     Ok(done.places.push(place)?)
 }
@@ -180,7 +199,7 @@ fn take_out(asked: &Asked<'_, '_>, file: &str, done: &mut Done) -> Outcome<()> {
     done.push(alloc, file, map.as_str(), text.len())
 }
 
-/// Changes a code.
+/// Changes a code; not one that this run has changed already.
 fn change(asked: &Asked<'_, '_>, way: Way, file: &str, done: &mut Done) -> Outcome<()> {
     if file == "-" {
         return Err(usage(
@@ -188,10 +207,15 @@ fn change(asked: &Asked<'_, '_>, way: Way, file: &str, done: &mut Done) -> Outco
             "standard input is no file that can be changed: name a code",
         ));
     }
-    match way {
-        Way::Inline => put_in(asked, file, done),
-        Way::External => take_out(asked, file, done),
+    let place = place_of(asked.rt, file)?;
+    if done.codes.iter().any(|other| *other == place) {
+        return Ok(());
     }
+    match way {
+        Way::Inline => put_in(asked, file, done)?,
+        Way::External => take_out(asked, file, done)?,
+    }
+    Ok(done.codes.push(place)?)
 }
 
 /// Changes codes. One that cannot be changed is told, and the others are.
@@ -200,6 +224,7 @@ fn run(asked: &Asked<'_, '_>, way: Way) -> Outcome<Status> {
     let codes = asked.words("CODE")?;
     let mut progress = Progress::new(rt, codes.len());
     let mut done = Done {
+        codes: Vec::new(alloc),
         places: Vec::new(alloc),
         out: String::new(alloc),
     };

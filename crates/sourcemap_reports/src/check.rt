@@ -2,6 +2,7 @@
 use crate::scopes::{MapScopes, Needed, PastSources, calls_past, scopes_in, trees_past};
 use oxc_sourcemap_found::{FoundParts, Mend, read_found_parts};
 use oxc_sourcemap_map::SourceMap;
+use oxc_sourcemap_scopes::ScopesError;
 use oxc_sourcemap_text::TextPositions;
 use oxc_sourcemap_tokens::{Error, Token};
 use sourcemap_files::{
@@ -248,9 +249,17 @@ fn tell_past_sources(report: &mut Report, past: PastSources, what: &str) -> Outc
 
 /// What is wrong with the scopes of a map.
 fn tell_scopes(report: &mut Report, map: &SourceMap<'_>, held: &MapScopes) -> Outcome<()> {
-    if let Some(fault) = held.fault {
-        let text = format!(in report.alloc; "{fault}")?;
+    for (section, fault) in &held.faults {
+        let text = format!(in report.alloc; "section {section}: {fault}")?;
         report.tell(Kind::Wrong, text.as_str())?;
+    }
+    if let Some(fault) = held.fault {
+        let is_sound = matches!(fault, ScopesError::Indexed);
+        let text = format!(in report.alloc; "{fault}")?;
+        report.tell(
+            if is_sound { Kind::Note } else { Kind::Wrong },
+            text.as_str(),
+        )?;
     }
     let Some(scopes) = &held.scopes else {
         return Ok(());
@@ -375,7 +384,7 @@ fn check_compiled(
     put_contents(rt, report.file.as_str(), bytes, &mut parts)?;
     tell_debug_ids(report, parts.debug_id.as_ref().map(|id| id.as_str()), code)?;
     let map = SourceMap::from_parts(parts);
-    tell_held(report, map, &MapScopes::none(), code)
+    tell_held(report, map, &MapScopes::none(report.alloc), code)
 }
 
 /// What is told of a map, and of its code if there is one.

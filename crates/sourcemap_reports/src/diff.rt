@@ -1,7 +1,8 @@
 //! `diff`: where two maps say different things.
+use crate::scopes::are_scopes_equal;
 use oxc_sourcemap_tokens::{Position, Token};
-use sourcemap_files::{Asked, Status, print, rooted_map};
-use sourcemap_run::{Tracer, count_differences, first_difference_of_parts};
+use sourcemap_files::{Asked, Status, Written, map_of_file, print, read_map};
+use sourcemap_run::{Tracer, apply_root, count_differences, first_difference_of_parts};
 use sourcemap_words::Outcome;
 use std::alloc::{AllocError, Global};
 
@@ -25,10 +26,33 @@ fn places_of(alloc: Global, a: &Tracer, b: &Tracer) -> Result<Vec<(u32, u32)>, A
     Ok(places)
 }
 
-/// A map of an argument, with its source root applied.
-fn tracer_of(asked: &Asked<'_, '_>, name: &str) -> Outcome<Tracer> {
-    let parts = rooted_map(asked.rt, asked.word(name), asked.places(), true)?;
-    Ok(Tracer::new(asked.alloc(), parts)?)
+/// A map of an argument.
+#[derive(Drop)]
+struct Side {
+    /// With its source root applied.
+    tracer: Tracer,
+    written: Written,
+}
+
+impl Side {
+    fn read(asked: &Asked<'_, '_>, name: &str) -> Outcome<Side> {
+        let map = map_of_file(asked.rt, asked.word(name), asked.places())?;
+        let mut parts = read_map(asked.rt, &map)?;
+        apply_root(asked.alloc(), &mut parts)?;
+        let tracer = Tracer::new(asked.alloc(), parts)?;
+        Ok(Side {
+            tracer,
+            written: map.written,
+        })
+    }
+}
+
+/// Whether two maps have the same scopes. A compiled map has none of its own, and is not compared.
+fn have_same_scopes(alloc: Global, a: &Written, b: &Written) -> Outcome<bool> {
+    match (a, b) {
+        (Written::Text(a), Written::Text(b)) => are_scopes_equal(alloc, a.as_str(), b.as_str()),
+        _ => Ok(true),
+    }
 }
 
 /// The line that is printed of a first difference.
@@ -54,15 +78,25 @@ fn count_of(alloc: Global, a: &Tracer, b: &Tracer) -> Result<(usize, usize), All
     Ok((count_differences(a, b, places.as_slice()), places.len()))
 }
 
-/// Prints whether two maps say different things, and where first.
-fn tell(asked: &Asked<'_, '_>, a: &Tracer, b: &Tracer) -> Outcome<Status> {
-    let Some(first) = first_difference_of_parts(a.parts(), b.parts()) else {
-        if asked.has("json") {
-            print(asked.rt, "{\"different\":false}\n")?;
-        }
-        return Ok(Status::Found);
+/// Prints that two maps have other scopes, if they do, and that nothing else differs.
+fn tell_scopes(asked: &Asked<'_, '_>, a: &Written, b: &Written) -> Outcome<Status> {
+    let is_same = have_same_scopes(asked.alloc(), a, b)?;
+    let text = match (is_same, asked.has("json")) {
+        (true, true) => "{\"different\":false}\n",
+        (true, false) => "",
+        (false, true) => "{\"different\":true,\"member\":\"scopes\"}\n",
+        (false, false) => "the scopes differ, and nothing else\n",
     };
-    let (count, of) = count_of(asked.alloc(), a, b)?;
+    print(asked.rt, text)?;
+    Ok(Status::of(is_same))
+}
+
+/// Prints whether two maps say different things, and where first.
+fn tell(asked: &Asked<'_, '_>, a: &Side, b: &Side) -> Outcome<Status> {
+    let Some(first) = first_difference_of_parts(a.tracer.parts(), b.tracer.parts()) else {
+        return tell_scopes(asked, &a.written, &b.written);
+    };
+    let (count, of) = count_of(asked.alloc(), &a.tracer, &b.tracer)?;
     let text = difference_line(asked.alloc(), first, count, of, asked.has("json"))?;
     print(asked.rt, text.as_str())?;
     Ok(Status::Nothing)
@@ -71,7 +105,7 @@ fn tell(asked: &Asked<'_, '_>, a: &Tracer, b: &Tracer) -> Outcome<Status> {
 // What is proved of a function grows with what it owns times the places where it may end, so the rest of this is `tell`.
 /// Runs the command `diff`.
 pub fn run(asked: &Asked<'_, '_>) -> Outcome<Status> {
-    let a = tracer_of(asked, "A")?;
-    let b = tracer_of(asked, "B")?;
+    let a = Side::read(asked, "A")?;
+    let b = Side::read(asked, "B")?;
     tell(asked, &a, &b)
 }

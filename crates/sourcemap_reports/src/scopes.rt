@@ -12,6 +12,8 @@ pub struct MapScopes {
     pub scopes: Option<Scopes>,
     /// Why they are not read.
     pub fault: Option<ScopesError>,
+    /// Of an indexed map, which of its sections have faulty scopes, and why.
+    pub faults: Vec<(usize, ScopesError)>,
     /// Whether it is known which names they need. It is not of those that are not read, as those of sections, nor of those with pieces
     /// of values.
     are_names_known: bool,
@@ -159,19 +161,19 @@ fn sources_beside(
 
 impl MapScopes {
     /// Those of a map that has none.
-    pub fn none() -> MapScopes {
+    pub fn none(alloc: Global) -> MapScopes {
         MapScopes {
-            scopes: None,
-            fault: None,
             are_names_known: true,
+            ..MapScopes::unread(alloc, None)
         }
     }
 
     /// Those that are not read, for this reason if it is to be told.
-    fn unread(fault: Option<ScopesError>) -> MapScopes {
+    fn unread(alloc: Global, fault: Option<ScopesError>) -> MapScopes {
         MapScopes {
             scopes: None,
             fault,
+            faults: Vec::new(alloc),
             are_names_known: false,
         }
     }
@@ -252,25 +254,22 @@ fn scopes_of_text(alloc: Global, text: &str, names: usize) -> Outcome<MapScopes>
     match decode_scopes(alloc, text, names) {
         Ok(scopes) => Ok(MapScopes {
             scopes: Some(scopes),
-            fault: None,
             are_names_known: !may_have_pieces(text),
+            ..MapScopes::unread(alloc, None)
         }),
         Err(ScopesError::OutOfMemory) => Err(Failure::Memory),
-        Err(error) => Ok(MapScopes::unread(Some(error))),
+        Err(error) => Ok(MapScopes::unread(alloc, Some(error))),
     }
 }
 
-/// The scopes of a map, by its JSON value.
+/// The scopes of a map that has no sections, by its JSON value.
 fn scopes_of_value(alloc: Global, map: &Value) -> Outcome<MapScopes> {
-    if !matches!(map.get("sections"), None | Some(Value::Null)) {
-        return Ok(MapScopes::unread(None));
-    }
     let text = match map.get("scopes") {
-        None | Some(Value::Null) => return Ok(MapScopes::none()),
+        None | Some(Value::Null) => return Ok(MapScopes::none(alloc)),
         Some(value) => value.as_str(),
     };
     let Some(text) = text else {
-        return Ok(MapScopes::unread(Some(ScopesError::NotText)));
+        return Ok(MapScopes::unread(alloc, Some(ScopesError::NotText)));
     };
     let names = match map.get("names") {
         Some(names) => names.as_array().map_or(0, |names| names.len()),
@@ -279,15 +278,105 @@ fn scopes_of_value(alloc: Global, map: &Value) -> Outcome<MapScopes> {
     scopes_of_text(alloc, text, names)
 }
 
+/// The sections of an indexed map, by its JSON value; None of a map that is none.
+fn sections_of(map: &Value) -> Option<&[Value]> {
+    match map.get("sections") {
+        None | Some(Value::Null) => None,
+        Some(sections) => Some(match sections.as_array() {
+            Some(sections) => sections.as_slice(),
+            None => &[],
+        }),
+    }
+}
+
+/// What is wrong with the scopes of sections, and that they are not read if there are some.
+fn scopes_of_sections(alloc: Global, sections: &[Value]) -> Outcome<MapScopes> {
+    let mut held = MapScopes::unread(alloc, None);
+    for (index, section) in sections.iter().enumerate() {
+        let Some(map) = section.get("map") else {
+            continue;
+        };
+        if matches!(map.get("scopes"), None | Some(Value::Null)) {
+            continue;
+        }
+        held.fault = Some(ScopesError::Indexed);
+        if let Some(fault) = scopes_of_value(alloc, map)?.fault {
+            held.faults.push((index, fault))?;
+        }
+    }
+    Ok(held)
+}
+
+/// The JSON value in the text of a map, behind what stands in front of the first brace; None if it is no JSON.
+fn value_in(alloc: Global, text: &str) -> Outcome<Option<Value>> {
+    let front = text.find('{').unwrap_or(text.len());
+    match Value::from_str(alloc, text.get(front..).unwrap_or("")) {
+        Ok(map) => Ok(Some(map)),
+        Err(error) if error.is_memory() => Err(Failure::Memory),
+        Err(_) => Ok(None),
+    }
+}
+
 /// The scopes of a map, by its text. What stands in front of the first brace is passed over; what is no JSON is told elsewhere.
 pub fn scopes_in(alloc: Global, text: &str) -> Outcome<MapScopes> {
     if !text.contains("\"scopes\"") {
-        return Ok(MapScopes::none());
+        return Ok(MapScopes::none(alloc));
     }
-    let front = text.find('{').unwrap_or(text.len());
-    match Value::from_str(alloc, text.get(front..).unwrap_or("")) {
-        Ok(map) => scopes_of_value(alloc, &map),
-        Err(error) if error.is_memory() => Err(Failure::Memory),
-        Err(_) => Ok(MapScopes::unread(None)),
+    let Some(map) = value_in(alloc, text)? else {
+        return Ok(MapScopes::unread(alloc, None));
+    };
+    match sections_of(&map) {
+        Some(sections) => scopes_of_sections(alloc, sections),
+        None => scopes_of_value(alloc, &map),
     }
+}
+
+/// A member that is there, and not null.
+fn held(member: Option<&Value>) -> Option<&Value> {
+    match member {
+        Some(Value::Null) => None,
+        other => other,
+    }
+}
+
+/// Whether two members `scopes` are equal: texts with the same characters, or neither is a text, or neither is there.
+fn is_same_member(a: Option<&Value>, b: Option<&Value>) -> bool {
+    match (held(a), held(b)) {
+        (Some(a), Some(b)) => match (a.as_str(), b.as_str()) {
+            (Some(a), Some(b)) => a == b,
+            (a, b) => a.is_none() && b.is_none(),
+        },
+        (a, b) => a.is_none() && b.is_none(),
+    }
+}
+
+/// The member `scopes` of the map of a section.
+fn member_of(section: &Value) -> Option<&Value> {
+    section.get("map")?.get("scopes")
+}
+
+/// Whether sections have the same scopes, in their order; one that is not there has none.
+fn are_same_sections(a: &[Value], b: &[Value]) -> bool {
+    for index in 0..a.len().max(b.len()) {
+        let (a, b) = (a.get(index), b.get(index));
+        if !is_same_member(a.and_then(member_of), b.and_then(member_of)) {
+            return false;
+        }
+    }
+    true
+}
+
+/// Whether the maps in two texts have the same scopes: of indexed maps, their sections in their order. One that is no JSON has none.
+pub fn are_scopes_equal(alloc: Global, a: &str, b: &str) -> Outcome<bool> {
+    if !a.contains("\"scopes\"") && !b.contains("\"scopes\"") {
+        return Ok(true);
+    }
+    let a = value_in(alloc, a)?.unwrap_or(Value::Null);
+    let b = value_in(alloc, b)?.unwrap_or(Value::Null);
+    let own = is_same_member(a.get("scopes"), b.get("scopes"));
+    let sections = are_same_sections(
+        sections_of(&a).unwrap_or(&[]),
+        sections_of(&b).unwrap_or(&[]),
+    );
+    Ok(own && sections)
 }

@@ -35,6 +35,7 @@ pub use debug_ids::{
 pub use differing::count_differences;
 pub use frames::{Cut, Frame, Paint, Target, answer_to, frame_position, push_frame, push_line};
 pub use oxc_sourcemap_lookup::Bias;
+pub use oxc_sourcemap_parts::apply_root;
 pub use oxc_sourcemap_queries::first_difference_of_parts;
 pub use page::{DATA_MARK, data_url, fill_template};
 pub use raw_lines::{Splice, push_spliced, text_of};

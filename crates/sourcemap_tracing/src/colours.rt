@@ -1,8 +1,10 @@
 //! Codes of colours in lines: `ESC [ 36 m` begins one, `ESC [ 39 m` ends it.
+use sourcemap_words::Nesting;
 use std::alloc::AllocError;
 
-/// What codes for terminals begin with: as it is, and as JSON strings write it.
-const STARTS: [&str; 3] = ["\u{1b}[", "\\u001b[", "\\u001B["];
+/// What codes for terminals begin with: as it is, and as strings of JSON and of JavaScript write it. In a string of a string more
+/// backslashes are in front (`Nesting::slashes`).
+const STARTS: [&str; 5] = ["\u{1b}[", "\\u001b[", "\\u001B[", "\\x1b[", "\\x1B["];
 
 /// The numbers of the colour that a text goes on with behind the start of a code; None if it is another code.
 fn numbers_of(text: &str) -> Option<&str> {
@@ -32,10 +34,11 @@ pub enum Colours<'t> {
 }
 
 impl<'t> Colours<'t> {
-    fn has(&self, start: &str, numbers: &str) -> bool {
+    fn has(&self, slashes: &str, start: &str, numbers: &str) -> bool {
         match self {
             Colours::All => true,
             Colours::Ends(behind) => {
+                let behind = behind.strip_prefix(slashes).unwrap_or(behind);
                 let next = match behind.strip_prefix(start) {
                     Some(rest) => numbers_of(rest),
                     None => None,
@@ -46,14 +49,21 @@ impl<'t> Colours<'t> {
     }
 
     /// Appends those of a text whose codes have this start.
-    fn push_with(&self, text: &str, start: &str, out: &mut String) -> Result<(), AllocError> {
+    fn push_with(
+        &self,
+        text: &str,
+        slashes: &str,
+        start: &str,
+        out: &mut String,
+    ) -> Result<(), AllocError> {
         let Some((_, codes)) = text.split_once(start) else {
             return Ok(());
         };
         for code in codes.split(start) {
             if let Some(numbers) = numbers_of(code)
-                && self.has(start, numbers)
+                && self.has(slashes, start, numbers)
             {
+                out.push_str(slashes)?;
                 out.push_str(start)?;
                 out.push_str(numbers)?;
                 out.push('m')?;
@@ -62,10 +72,15 @@ impl<'t> Colours<'t> {
         Ok(())
     }
 
-    /// Appends those of a text.
-    pub fn push(&self, text: &str, out: &mut String) -> Result<(), AllocError> {
+    /// Appends those of a text of a line, which is in these strings.
+    pub fn push(&self, text: &str, nesting: Nesting, out: &mut String) -> Result<(), AllocError> {
         for start in STARTS {
-            self.push_with(text, start, out)?;
+            let slashes = if start.starts_with('\\') {
+                nesting.slashes()
+            } else {
+                ""
+            };
+            self.push_with(text, slashes, start, out)?;
         }
         Ok(())
     }

@@ -60,9 +60,7 @@ struct Resolver<'a, 'm, 'r> {
 impl LineRead {
     /// Whether the line is left out, since the source has no such frame.
     fn is_left_out(&self) -> bool {
-        self.frames
-            .iter()
-            .any(|frame| frame.is_left_out() && !frame.named.is_in_json)
+        self.frames.iter().any(|frame| frame.is_left_out() && !frame.named.nesting.is_in_string())
     }
 }
 
@@ -239,7 +237,7 @@ fn push_bytes(
 fn is_plain(line: &str, frame: &LedFrame) -> bool {
     let named = &frame.named;
     let place = line.get(named.start..named.end).unwrap_or("");
-    !named.is_in_json && !has_codes(place) && frame.shown().is_none()
+    !named.nesting.is_in_string() && !has_codes(place) && frame.shown().is_none()
 }
 
 /// Appends a line, led back, without a line feed.

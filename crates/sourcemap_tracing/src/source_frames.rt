@@ -12,7 +12,7 @@ use sourcemap_run::{
     push_text_member,
 };
 use sourcemap_texts::push_shown;
-use sourcemap_words::{Calling, FrameForm, Named, Outcome};
+use sourcemap_words::{Calling, FrameForm, Named, Nesting, Outcome};
 use std::alloc::Global;
 
 /// No colour.
@@ -53,7 +53,7 @@ fn is_alone(line: &str, calling: &Calling) -> bool {
         return false;
     };
     let front = line.get(row.start..calling.lead).unwrap_or("");
-    let behind = line.get(calling.close..row.end).unwrap_or("");
+    let behind = line.get(calling.close..row.stop).unwrap_or("");
     is_nothing_else(front, behind)
 }
 
@@ -107,35 +107,63 @@ fn function_of<'m>(maps: &'m Maps, map: usize, frame: &ScopeFrame) -> Function<'
     }
 }
 
-/// The place of a call; None if the map has no such source.
-fn spot_of(maps: &Maps, map: usize, call: CallSite) -> Option<Spot<'_>> {
+/// What stands for the path of a source that is not known, as `<anonymous>` does in V8: no file is named so.
+const UNKNOWN: &str = "<unknown>";
+
+/// The path of the source of a call; None if the map has no such source, or null, which is read as an empty path behind the root.
+fn source_of(maps: &Maps, map: usize, call: CallSite) -> Option<&str> {
     let sources = maps.tracers.get(map)?.parts().sources.as_slice();
-    Some(Spot {
-        source: sources.get(call.source as usize)?.as_str(),
+    let source = sources.get(call.source as usize)?.as_str();
+    if source.is_empty() || source.ends_with('/') {
+        None
+    } else {
+        Some(source)
+    }
+}
+
+/// The place of a call.
+fn spot_of(maps: &Maps, map: usize, call: CallSite) -> Spot<'_> {
+    Spot {
+        source: source_of(maps, map, call).unwrap_or(UNKNOWN),
         line: call.line,
         column: call.column,
         name: None,
         content: None,
-    })
+    }
 }
 
-/// A text as it stands in a line: as it is, or inside a JSON string.
-pub fn text_in_line(alloc: Global, text: String, is_in_json: bool) -> Outcome<String> {
-    if !is_in_json {
-        return Ok(text);
-    }
+/// A text as it stands inside a string.
+fn inside_string(alloc: Global, text: &str, is_single: bool) -> Outcome<String> {
     let mut string = String::new(alloc);
-    push_json_string(text.as_str(), &mut string)?;
+    push_json_string(text, &mut string)?;
     let inside = string.as_str().strip_prefix('"').unwrap_or("");
     let inside = inside.strip_suffix('"').unwrap_or(inside);
+    if is_single {
+        return Ok(inside.replace(alloc, '\'', "\\'")?);
+    }
     Ok(String::from_str(alloc, inside)?)
+}
+
+/// A text as it stands in a line: as it is, or inside the strings there, the innermost of which escapes it first.
+pub fn text_in_line(alloc: Global, text: String, nesting: Nesting) -> Outcome<String> {
+    let mut text = text;
+    for above in 1..nesting.depth.saturating_add(1) {
+        let index = nesting.depth.saturating_sub(above);
+        text = inside_string(alloc, text.as_str(), nesting.is_single(index))?;
+    }
+    Ok(text)
 }
 
 /// Appends to what stands for a place the codes in it that end a colour from in front of it.
 pub fn push_ends(line: &str, named: &Named, out: &mut String) -> Outcome<()> {
     let behind = line.get(named.end..).unwrap_or("");
     let inside = line.get(named.start..named.end).unwrap_or("");
-    Ok(Colours::Ends(behind).push(inside, out)?)
+    Ok(Colours::Ends(behind).push(inside, named.nesting, out)?)
+}
+
+/// The colour of a place; inside a string it has none.
+fn paint_in(paint: Paint<'_>, nesting: Nesting) -> Paint<'_> {
+    if nesting.is_in_string() { PLAIN } else { paint }
 }
 
 /// Where the mappings lead, as it stands in a line.
@@ -145,29 +173,29 @@ pub fn first_place(
     frame: &LedFrame,
     paint: Paint<'_>,
 ) -> Outcome<String> {
-    let is_in_json = frame.named.is_in_json;
+    let nesting = frame.named.nesting;
     let place = Frame {
         target: frame.led.target,
         ..Frame::plain("")
     };
     let mut text = String::new(alloc);
-    let paint = if is_in_json { PLAIN } else { paint };
+    let paint = paint_in(paint, nesting);
     push_frame(alloc, maps.tracers.as_slice(), &place, paint, &mut text)?;
-    text_in_line(alloc, text, is_in_json)
+    text_in_line(alloc, text, nesting)
 }
 
 /// The place of a call, as it stands in a line.
 fn call_place(
     alloc: Global,
     spot: &Spot<'_>,
-    is_in_json: bool,
+    nesting: Nesting,
     paint: Paint<'_>,
 ) -> Outcome<String> {
-    let paint = if is_in_json { PLAIN } else { paint };
+    let paint = paint_in(paint, nesting);
     let mut text = String::from_str(alloc, paint.before)?;
     push_original(alloc, spot, 1, &mut text)?;
     text.push_str(paint.after)?;
-    text_in_line(alloc, text, is_in_json)
+    text_in_line(alloc, text, nesting)
 }
 
 /// The frames of the source, written as the frame of a line is.
@@ -191,7 +219,7 @@ impl<'a> Rows<'a> {
     fn push_named(&self, alloc: Global, name: &str, place: &str, out: &mut String) -> Outcome<()> {
         let mut shown = String::new(alloc);
         push_shown(name, &mut shown)?;
-        out.push_str(text_in_line(alloc, shown, self.named.is_in_json)?.as_str())?;
+        out.push_str(text_in_line(alloc, shown, self.named.nesting)?.as_str())?;
         let gap = self.part(self.calling.end, self.named.start);
         if !gap.is_empty() {
             out.push_str(gap)?;
@@ -213,10 +241,13 @@ impl<'a> Rows<'a> {
         let gap = self.part(self.calling.end, self.named.start);
         match self.calling.form {
             FrameForm::AtSign => out.push_str(gap)?,
-            FrameForm::Call | FrameForm::Arrow => Colours::All.push(gap, out)?,
+            FrameForm::Call | FrameForm::Arrow => {
+                Colours::All.push(gap, self.named.nesting, out)?
+            }
         }
         out.push_str(place)?;
-        Ok(Colours::All.push(self.part(self.named.end, self.calling.close), out)?)
+        let behind = self.part(self.named.end, self.calling.close);
+        Ok(Colours::All.push(behind, self.named.nesting, out)?)
     }
 
     /// Appends a frame; `is_outermost` if it is the one that the code called.
@@ -256,20 +287,18 @@ impl<'a> Rows<'a> {
     }
 
     /// Ends a row, with the colours that began in it, and begins one with what is in front of the frame in the line.
-    fn push_row(&self, out: &mut String) -> Outcome<()> {
+    fn push_row(&self, alloc: Global, out: &mut String) -> Outcome<()> {
         let Some(row) = self.calling.row else {
             return Ok(());
         };
+        let nesting = self.named.nesting;
         if has_codes(self.part(row.start, self.calling.close)) {
-            Colours::Ends("").push(self.part(self.calling.close, row.end), out)?;
+            let behind = self.part(self.calling.close, row.end);
+            Colours::Ends("").push(behind, nesting, out)?;
         }
-        let text = self.part(row.start, row.end);
-        out.push_str(match (self.named.is_in_json, text) {
-            (true, text) if text.ends_with("\\r") => "\\r\\n",
-            (true, _) => "\\n",
-            (false, text) if text.ends_with('\r') => "\r\n",
-            (false, _) => "\n",
-        })?;
+        let feed = if row.stop < row.end { "\r\n" } else { "\n" };
+        let feed = text_in_line(alloc, String::from_str(alloc, feed)?, nesting)?;
+        out.push_str(feed.as_str())?;
         Ok(out.push_str(self.part(row.start, self.calling.lead))?)
     }
 }
@@ -283,7 +312,6 @@ pub fn source_text(
     (frame, source, calling): (&LedFrame, &Frames, &Calling),
     paint: Paint<'_>,
 ) -> Outcome<String> {
-    let is_in_json = frame.named.is_in_json;
     let map = frame.led.target.map_or(0, |target| target.map);
     let rows = Rows {
         maps,
@@ -303,14 +331,14 @@ pub fn source_text(
         let is_outermost = i.saturating_add(1) == count;
         let mut place = match at.call_site {
             None => first_place(alloc, maps, frame, paint)?,
-            Some(call) => match spot_of(maps, map, call) {
-                Some(spot) => call_place(alloc, &spot, is_in_json, paint)?,
-                None => continue,
-            },
+            Some(call) => {
+                let spot = spot_of(maps, map, call);
+                call_place(alloc, &spot, frame.named.nesting, paint)?
+            }
         };
         push_ends(line, &frame.named, &mut place)?;
         if i > 0 {
-            rows.push_row(&mut out)?;
+            rows.push_row(alloc, &mut out)?;
         }
         rows.push_lead(i == 0, is_outermost, &mut out)?;
         let function = function_of(maps, map, at);
@@ -319,18 +347,21 @@ pub fn source_text(
     Ok(out)
 }
 
-/// The members of a frame of the source that is the place of a call.
+/// The members of a frame of the source that is the place of a call; of a source that is not known none.
 fn push_caller(
     alloc: Global,
-    spot: &Spot<'_>,
+    source: Option<&str>,
+    call: CallSite,
     function: Option<&str>,
     out: &mut String,
 ) -> Outcome<()> {
     let mut members = String::new(alloc);
-    push_text_member("source", spot.source, &mut members)?;
-    let line = from_base(spot.line, 1);
+    if let Some(source) = source {
+        push_text_member("source", source, &mut members)?;
+    }
+    let line = from_base(call.line, 1);
     push_number_member(alloc, "sourceLine", line, &mut members)?;
-    let column = from_base(spot.column, 1);
+    let column = from_base(call.column, 1);
     push_number_member(alloc, "sourceColumn", column, &mut members)?;
     if let Some(function) = function {
         push_text_member("function", function, &mut members)?;
@@ -355,12 +386,11 @@ pub fn push_source_members(
             }
             continue;
         };
-        if let Some(spot) = spot_of(maps, map, call) {
-            if !callers.is_empty() {
-                callers.push(',')?;
-            }
-            push_caller(alloc, &spot, name, &mut callers)?;
+        if !callers.is_empty() {
+            callers.push(',')?;
         }
+        let path = source_of(maps, map, call);
+        push_caller(alloc, path, call, name, &mut callers)?;
     }
     if !callers.is_empty() {
         write!(out, ",\"callers\":[{callers}]")?;

@@ -331,7 +331,7 @@ const EDITED: Word = Word(
 
 const DIFF: Words = Words {
     about: "Tells where two maps say different things",
-    json: "An object: different, and if it is true line and column of the first place, places (how many differ) and of (of how many)",
+    json: "An object: different, and if it is true line and column of the first place, places (how many differ) and of (of how many), or member (scopes) if that alone differs",
     words: &[
         Word("A", Kind::File, "A map, or a code whose map is found"),
         Word("B", Kind::File, "Another one"),

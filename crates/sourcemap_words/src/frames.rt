@@ -1,7 +1,9 @@
 //! The positions that the frames of stack traces name, as V8, Firefox and Safari print them, and what logs make of these.
 use crate::calling::{Calling, calling_of};
 use crate::failure::{Outcome, failure_of};
-use crate::views::{View, json_strings, may_be_json};
+use crate::views::{
+    Nesting, View, is_whole, json_strings, may_be_json, single_strings, without_strings,
+};
 use regex::{Captures, Matcher, Regex};
 use std::alloc::{AllocError, Global};
 
@@ -58,8 +60,8 @@ pub struct Named {
     pub column: u32,
     /// Whether it is a place of bytecode.
     pub is_bytecode: bool,
-    /// Whether it stands in a JSON string.
-    pub is_in_json: bool,
+    /// The strings that it stands in.
+    pub nesting: Nesting,
     /// How it names its function; None if it is of no form that names the function of the place.
     pub calling: Option<Calling>,
 }
@@ -204,6 +206,144 @@ fn body_of(text: &str) -> &str {
     }
 }
 
+/// What is to be done with a part of a text. A number is how many frames were found before.
+#[derive(Clone, Copy)]
+enum Step {
+    /// To search the rows of a string.
+    Open { is_single: bool },
+    /// To search the strings in double quotes of a row.
+    Double,
+    /// To search those in single quotes, if no frame was found in the others.
+    Single(usize),
+    /// To search the row itself, if no frame was found in its strings.
+    Itself(usize),
+}
+
+/// Bytes `start` to `end` of the text at a depth, which are the inside of a string or a row.
+#[derive(Clone, Copy)]
+struct Part {
+    depth: usize,
+    start: usize,
+    end: usize,
+    step: Step,
+}
+
+/// The search for the frames of a line. A string is searched whole before what is behind it, so one text at each depth is enough.
+#[derive(Drop)]
+struct Search {
+    /// The line, a string of it, a string of that, and so on.
+    views: Vec<View>,
+    /// What is to be searched, the next part at the end.
+    parts: Vec<Part>,
+    frames: Vec<Named>,
+}
+
+impl Search {
+    fn new(alloc: Global, view: View) -> Result<Search, AllocError> {
+        let mut parts = Vec::new(alloc);
+        parts.push(Part {
+            depth: 0,
+            start: 0,
+            end: view.text.len(),
+            step: Step::Double,
+        })?;
+        let mut views = Vec::new(alloc);
+        views.push(view)?;
+        Ok(Search {
+            views,
+            parts,
+            frames: Vec::new(alloc),
+        })
+    }
+
+    /// The text of a part.
+    fn text(&self, part: Part) -> &str {
+        let Some(view) = self.views.get(part.depth) else {
+            return "";
+        };
+        view.text.as_str().get(part.start..part.end).unwrap_or("")
+    }
+
+    /// Has a row searched, but not if it has no colon, and so no frame.
+    fn add_row(&mut self, row: &str, depth: usize, start: usize) -> Result<(), AllocError> {
+        if !row.contains(':') {
+            return Ok(());
+        }
+        self.parts.push(Part {
+            depth,
+            start,
+            end: start.saturating_add(row.len()),
+            step: Step::Double,
+        })?;
+        Ok(())
+    }
+
+    /// Opens a string: its rows are searched next, the first one first. One that is too deep stays closed.
+    fn open(&mut self, alloc: Global, part: Part, is_single: bool) -> Result<(), AllocError> {
+        let Some(view) = self.views.get(part.depth) else {
+            return Ok(());
+        };
+        let Some(inner) = View::of_string(alloc, view, (part.start, part.end), is_single)? else {
+            return Ok(());
+        };
+        let inner = inner.without_codes(alloc)?;
+        let depth = part.depth.saturating_add(1);
+        let mut end = inner.text.len();
+        for row in inner.text.as_str().rsplit('\n') {
+            let start = end.saturating_sub(row.len());
+            self.add_row(row, depth, start)?;
+            end = start.saturating_sub(1);
+        }
+        self.views.truncate(depth);
+        self.views.push(inner)?;
+        Ok(())
+    }
+
+    /// Has the strings of a row opened, the first one first.
+    fn add_strings(
+        &mut self,
+        row: Part,
+        strings: Vec<(usize, usize)>,
+        is_single: bool,
+    ) -> Result<(), AllocError> {
+        let mut strings = strings;
+        for _ in 0..strings.len() {
+            if let Some((start, end)) = strings.pop() {
+                self.parts.push(Part {
+                    depth: row.depth,
+                    start: row.start.saturating_add(start),
+                    end: row.start.saturating_add(end),
+                    step: Step::Open { is_single },
+                })?;
+            }
+        }
+        Ok(())
+    }
+}
+
+/// The strings of a row that may have frames: none if none of them has a colon.
+fn strings_of(
+    alloc: Global,
+    row: &str,
+    is_single: bool,
+) -> Result<Vec<(usize, usize)>, AllocError> {
+    let strings = if is_single {
+        single_strings(alloc, row)?
+    } else {
+        json_strings(alloc, row)?
+    };
+    let has_colon = strings.iter().any(|(start, end)| row
+        .get(*start..*end)
+        .unwrap_or("")
+        .contains(':'));
+    Ok(if has_colon { strings } else { Vec::new(alloc) })
+}
+
+/// Whether a place is one of a row that can be told from what is around it.
+fn is_in_row(text: &str, spot: &Spot<'_>) -> bool {
+    is_whole(text.get(..spot.start).unwrap_or("")) && is_whole(text.get(spot.end..).unwrap_or(""))
+}
+
 /// The places of a text, from left to right.
 #[derive(Drop)]
 struct Spots<'t> {
@@ -288,20 +428,18 @@ impl<'r> Finder<'r> {
         Ok(spots.all)
     }
 
-    /// Adds the frames of a part of a view, which begins at `from`.
+    /// Adds the frames of a row of a view, which begins at `from`.
     fn add_frames(
         &mut self,
         alloc: Global,
         view: &View,
         (from, part): (usize, &str),
-        is_in_json: bool,
         frames: &mut Vec<Named>,
     ) -> Result<(), AllocError> {
         let spots = self.spots(alloc, part)?;
-        let row = if spots.len() == 1 {
-            Some((from, from.saturating_add(part.len())))
-        } else {
-            None
+        let row = match spots.as_slice() {
+            [spot] if is_in_row(part, spot) => Some((from, from.saturating_add(part.len()))),
+            _ => None,
         };
         let mut behind = 0usize;
         for spot in &spots {
@@ -320,71 +458,83 @@ impl<'r> Finder<'r> {
                 line,
                 column,
                 is_bytecode: front.1.ends_with("(address at "),
-                is_in_json,
+                nesting: view.nesting,
                 calling: calling_of(view, front, from.saturating_add(spot.end), row),
             })?;
         }
         Ok(())
     }
 
-    /// Adds the frames in a JSON string of a line.
-    fn add_string(
+    /// Has the strings of a row searched, if it may be JSON, or names no frame without them; then `next`.
+    fn search_strings(
         &mut self,
         alloc: Global,
-        line: &str,
-        (start, end): (usize, usize),
-        frames: &mut Vec<Named>,
+        search: &mut Search,
+        (row, next): (Part, Step),
+        is_single: bool,
     ) -> Result<(), AllocError> {
-        if !line.get(start..end).unwrap_or("").contains(':') {
+        search.parts.push(Part { step: next, ..row })?;
+        let text = search.text(row);
+        let strings = strings_of(alloc, text, is_single)?;
+        if strings.is_empty() {
             return Ok(());
         }
-        let view = View::of_json_string(alloc, line, start, end)?.without_codes(alloc)?;
-        let mut from = 0usize;
-        for part in view.text.as_str().split('\n') {
-            self.add_frames(alloc, &view, (from, part), true, frames)?;
-            from = from.saturating_add(part.len()).saturating_add(1);
+        if is_single || !may_be_json(text) {
+            let around = without_strings(alloc, text, strings.as_slice())?;
+            if !self.spots(alloc, around.as_str())?.is_empty() {
+                return Ok(());
+            }
         }
-        Ok(())
+        search.add_strings(row, strings, is_single)
     }
 
-    /// Adds the frames in the JSON strings of a line.
-    fn add_strings(
+    /// Adds the frames of a row.
+    fn search_row(
         &mut self,
         alloc: Global,
-        line: &str,
-        frames: &mut Vec<Named>,
+        search: &mut Search,
+        row: Part,
     ) -> Result<(), AllocError> {
-        for string in &json_strings(alloc, line)? {
-            self.add_string(alloc, line, *string, frames)?;
+        let Some(view) = search.views.get(row.depth) else {
+            return Ok(());
+        };
+        let text = view.text.as_str().get(row.start..row.end).unwrap_or("");
+        self.add_frames(alloc, view, (row.start, text), &mut search.frames)
+    }
+
+    /// Does what is to be done with a part. Of a row with frames in its strings nothing else is.
+    fn search(&mut self, alloc: Global, search: &mut Search, part: Part) -> Result<(), AllocError> {
+        let count = search.frames.len();
+        match part.step {
+            Step::Open { is_single } => search.open(alloc, part, is_single),
+            Step::Double => self.search_strings(alloc, search, (part, Step::Single(count)), false),
+            Step::Single(found) if count == found => {
+                self.search_strings(alloc, search, (part, Step::Itself(found)), true)
+            }
+            Step::Itself(found) if count == found => self.search_row(alloc, search, part),
+            Step::Single(_) | Step::Itself(_) => Ok(()),
         }
-        Ok(())
     }
 
     /// What a line names. A byte that is no text stands in it as `NO_TEXT`.
     pub fn read(&mut self, alloc: Global, line: &str) -> Result<Line, AllocError> {
-        let mut frames = Vec::new(alloc);
-        let is_json = may_be_json(line);
-        if is_json {
-            self.add_strings(alloc, line, &mut frames)?;
-        }
-        if !frames.is_empty() {
-            return Ok(Line {
-                frames,
-                elsewhere: None,
-            });
-        }
         let view = View::of_line(alloc, line)?.without_codes(alloc)?;
-        let text = view.text.as_str();
-        self.add_frames(alloc, &view, (0, text), false, &mut frames)?;
-        // A frame right behind a quote, as in `error="at f (app.js:1:2)"`, begins no line, and no space is in front of it.
-        if frames.is_empty() && !is_json {
-            self.add_strings(alloc, line, &mut frames)?;
+        let mut search = Search::new(alloc, view)?;
+        for _ in 0..u64::MAX {
+            let Some(part) = search.parts.pop() else {
+                break;
+            };
+            self.search(alloc, &mut search, part)?;
         }
-        let elsewhere = if frames.is_empty() {
-            self.elsewhere(body_of(text))
-        } else {
-            None
+        let elsewhere = match search.views.first() {
+            Some(view) if search.frames.is_empty() => {
+                self.elsewhere(body_of(view.text.as_str()))
+            }
+            _ => None,
         };
-        Ok(Line { frames, elsewhere })
+        Ok(Line {
+            frames: search.frames,
+            elsewhere,
+        })
     }
 }

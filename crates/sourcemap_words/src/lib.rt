@@ -17,4 +17,4 @@ pub use failure::{Failure, Outcome, failure_of, file_failure};
 pub use frames::{Finder, Line, NO_TEXT, Named, Patterns};
 pub use manual::manual_of;
 pub use v8::{Report, Run, Script, runs_of};
-pub use views::Row;
+pub use views::{Nesting, Row};

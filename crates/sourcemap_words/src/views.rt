@@ -1,11 +1,61 @@
-//! Lines as they are meant: without the codes of colours, and the strings of a JSON text without their escapes. Each byte of a view knows
-//! where in the line it comes from.
+//! Lines as they are meant: without the codes of colours, and strings without their escapes, also strings in the text of a string. Each
+//! byte of a view knows where in the line it comes from.
 use std::alloc::{AllocError, Global};
+
+/// How many strings may be in one another.
+const DEEPEST: usize = 4;
+
+/// The strings that a text of a line is in, from the outermost on.
+#[derive(Clone, Copy)]
+pub struct Nesting {
+    /// How many there are; the line itself is in none.
+    pub depth: usize,
+    /// Which of them are in single quotes.
+    singles: [bool; DEEPEST],
+}
+
+impl Nesting {
+    /// That of a line.
+    const LINE: Nesting = Nesting {
+        depth: 0,
+        singles: [false; DEEPEST],
+    };
+
+    /// That of a string in a text with this one; None if it is too deep.
+    fn inside(self, is_single: bool) -> Option<Nesting> {
+        let mut nesting = self;
+        let slot = nesting.singles.get_mut(self.depth)?;
+        *slot = is_single;
+        nesting.depth = self.depth.saturating_add(1);
+        Some(nesting)
+    }
+
+    /// Whether the text is in a string.
+    pub fn is_in_string(self) -> bool {
+        self.depth > 0
+    }
+
+    /// Whether the string at an index is in single quotes.
+    pub fn is_single(self, index: usize) -> bool {
+        self.singles.get(index).copied().unwrap_or(false)
+    }
+
+    /// The backslashes that stand in front of an escape of the innermost string, since the strings around it escape its own one.
+    pub fn slashes(self) -> &'static str {
+        match self.depth {
+            0 | 1 => "",
+            2 => "\\",
+            3 => "\\\\\\",
+            _ => "\\\\\\\\\\\\\\",
+        }
+    }
+}
 
 /// A text made of a part of a line.
 #[derive(Drop)]
 pub struct View {
     pub text: String,
+    pub nesting: Nesting,
     /// For each byte of the text, where in the line that which stands for it begins and ends.
     starts: Vec<usize>,
     ends: Vec<usize>,
@@ -13,11 +63,13 @@ pub struct View {
     bounds: (usize, usize),
 }
 
-/// Where in a line a row of it is: the line itself, or one of the rows that the text of a JSON string has.
+/// Where in a line a row of it is: the line itself, or one of the rows that the text of a string has.
 #[derive(Clone, Copy)]
 pub struct Row {
     pub start: usize,
     pub end: usize,
+    /// Where the carriage return at its end begins; `end` if there is none.
+    pub stop: usize,
     /// Where the line feed in front of it begins; `start` if there is none.
     pub before: usize,
     /// Where the line feed behind it ends; `end` if there is none.
@@ -33,9 +85,10 @@ enum Terminal {
 }
 
 impl View {
-    fn new(alloc: Global, bounds: (usize, usize)) -> View {
+    fn new(alloc: Global, bounds: (usize, usize), nesting: Nesting) -> View {
         View {
             text: String::new(alloc),
+            nesting,
             starts: Vec::new(alloc),
             ends: Vec::new(alloc),
             bounds,
@@ -53,32 +106,37 @@ impl View {
 
     /// A line as it is.
     pub fn of_line(alloc: Global, line: &str) -> Result<View, AllocError> {
-        let mut view = View::new(alloc, (0, line.len()));
+        let mut view = View::new(alloc, (0, line.len()), Nesting::LINE);
         for (at, ch) in line.char_indices() {
             view.push(ch, at, at.saturating_add(ch.len_utf8()))?;
         }
         Ok(view)
     }
 
-    /// The inside of a JSON string, bytes `start` to `end` of a line, without its escapes.
-    pub fn of_json_string(
+    /// The inside of a string, bytes `start` to `end` of the text of a view, without its escapes. None if it is too deep.
+    pub fn of_string(
         alloc: Global,
-        line: &str,
-        start: usize,
-        end: usize,
-    ) -> Result<View, AllocError> {
-        let mut view = View::new(alloc, (start, end));
+        outer: &View,
+        (start, end): (usize, usize),
+        is_single: bool,
+    ) -> Result<Option<View>, AllocError> {
+        let Some(nesting) = outer.nesting.inside(is_single) else {
+            return Ok(None);
+        };
+        let bounds = (outer.end_of(start.saturating_sub(1)), outer.start_of(end));
+        let mut view = View::new(alloc, bounds, nesting);
         let mut at = start;
         for _ in start..end {
-            let rest = line.get(at..end).unwrap_or("");
-            let Some((ch, len)) = first_of_json(rest) else {
+            let rest = outer.text.as_str().get(at..end).unwrap_or("");
+            let Some((ch, len)) = first_of_string(rest) else {
                 break;
             };
             let next = at.saturating_add(len);
-            view.push(ch, at, next)?;
+            let (first, last) = outer.place(at, next);
+            view.push(ch, first, last)?;
             at = next;
         }
-        Ok(view)
+        Ok(Some(view))
     }
 
     /// The same without the codes that terminals obey, as those of colours.
@@ -86,7 +144,7 @@ impl View {
         if !self.text.contains('\u{1b}') {
             return Ok(self);
         }
-        let mut view = View::new(alloc, self.bounds);
+        let mut view = View::new(alloc, self.bounds, self.nesting);
         let mut state = Terminal::Text;
         for (at, ch) in self.text.char_indices() {
             state = match (state, ch) {
@@ -134,26 +192,41 @@ impl View {
         } else {
             (last, last)
         };
+        let row = self.text.as_str().get(start..end).unwrap_or("");
         Row {
             start: begin,
             end: stop,
+            stop: if row.ends_with('\r') {
+                self.start_of(end.saturating_sub(1))
+            } else {
+                stop
+            },
             before,
             after,
         }
     }
 }
 
-/// The number of four hexadecimal digits behind `\u` at the start of a text.
-fn unicode_escape(text: &str) -> Option<u32> {
-    let digits = text.strip_prefix("\\u")?.get(..4)?;
+/// The number of so many hexadecimal digits behind `lead` at the start of a text.
+fn number_behind(text: &str, lead: &str, count: usize) -> Option<u32> {
+    let digits = text.strip_prefix(lead)?.get(..count)?;
     if !digits.bytes().all(|byte| byte.is_ascii_hexdigit()) {
         return None;
     }
     u32::from_str_radix(digits, 16).ok()
 }
 
-/// The character of a Unicode escape at the start of a text, or of two that are one character, and how many bytes that takes.
-fn unicode_of_json(text: &str) -> Option<(char, usize)> {
+/// The number of four hexadecimal digits behind `\u` at the start of a text.
+fn unicode_escape(text: &str) -> Option<u32> {
+    number_behind(text, "\\u", 4)
+}
+
+/// The character of a Unicode escape at the start of a text, or of two that are one character, or of `\x` and two digits, as JavaScript
+/// writes them, and how many bytes that takes.
+fn character_escape(text: &str) -> Option<(char, usize)> {
+    if let Some(number) = number_behind(text, "\\x", 2) {
+        return Some((char::from_u32(number)?, 4));
+    }
     let first = unicode_escape(text)?;
     if (0xd800..0xdc00).contains(&first)
         && let Some(second) = unicode_escape(text.get(6..)?)
@@ -167,13 +240,13 @@ fn unicode_of_json(text: &str) -> Option<(char, usize)> {
     Some((char::from_u32(first).unwrap_or('\u{fffd}'), 6))
 }
 
-/// The first character of the inside of a JSON string, and how many bytes it takes there. None at its end.
-fn first_of_json(text: &str) -> Option<(char, usize)> {
+/// The first character of the inside of a string, and how many bytes it takes there. None at its end.
+fn first_of_string(text: &str) -> Option<(char, usize)> {
     let first = text.chars().next()?;
     if first != '\\' {
         return Some((first, first.len_utf8()));
     }
-    if let Some(found) = unicode_of_json(text) {
+    if let Some(found) = character_escape(text) {
         return Some(found);
     }
     let Some(second) = text.get(1..)?.chars().next() else {
@@ -218,4 +291,81 @@ pub fn json_strings(alloc: Global, line: &str) -> Result<Vec<(usize, usize)>, Al
         }
     }
     Ok(strings)
+}
+
+/// What may stand in front of a string in single quotes, and behind it.
+const FRONTS: &[u8] = b" \t([{,:=+";
+
+const BACKS: &[u8] = b" \t\r)]},;:+";
+
+/// The byte in front of one of a text.
+fn byte_before(text: &str, at: usize) -> Option<u8> {
+    text.as_bytes().get(at.checked_sub(1)?).copied()
+}
+
+/// The byte behind one of a text.
+fn byte_behind(text: &str, at: usize) -> Option<u8> {
+    text.as_bytes().get(at.saturating_add(1)).copied()
+}
+
+/// The insides of the strings of a row in single quotes, as JavaScript and Python print them: where each begins and ends. Only where no
+/// word is right in front of one and behind it, since the mark is an apostrophe too.
+pub fn single_strings(alloc: Global, text: &str) -> Result<Vec<(usize, usize)>, AllocError> {
+    let mut strings = Vec::new(alloc);
+    let mut open = None;
+    let mut is_escaped = false;
+    for (at, byte) in text.bytes().enumerate() {
+        if is_escaped || byte != b'\'' {
+            is_escaped = !is_escaped && byte == b'\\';
+            continue;
+        }
+        let opens = byte_before(text, at).is_none_or(|byte| FRONTS.contains(&byte));
+        let closes = byte_behind(text, at).is_none_or(|byte| BACKS.contains(&byte));
+        match open {
+            Some(start) if closes => {
+                strings.push((start, at))?;
+                open = None;
+            }
+            _ if opens => open = Some(at.saturating_add(1)),
+            _ => {}
+        }
+    }
+    Ok(strings)
+}
+
+/// A row without the insides of these strings of it.
+pub fn without_strings(
+    alloc: Global,
+    text: &str,
+    strings: &[(usize, usize)],
+) -> Result<String, AllocError> {
+    let mut out = String::new(alloc);
+    let mut from = 0usize;
+    for (start, end) in strings {
+        out.push_str(text.get(from..*start).unwrap_or(""))?;
+        from = *end;
+    }
+    out.push_str(text.get(from..).unwrap_or(""))?;
+    Ok(out)
+}
+
+/// Whether the mark at a byte of a text is an apostrophe in a word.
+fn is_apostrophe(text: &str, at: usize) -> bool {
+    let is_word = |byte: u8| byte.is_ascii_alphanumeric() || !byte.is_ascii();
+    byte_before(text, at).is_some_and(is_word) && byte_behind(text, at).is_some_and(is_word)
+}
+
+/// Whether a text in front of a frame or behind it has each of its strings whole, and no escaped line feed: else the frame stands in a
+/// string that is cut off or unknown, and how a row ends there cannot be told.
+pub fn is_whole(text: &str) -> bool {
+    let (mut doubles, mut singles, mut ticks) = (false, false, false);
+    for (at, byte) in text.bytes().enumerate() {
+        match byte {
+            b'"' => doubles = !doubles,
+            b'`' => ticks = !ticks,
+            b'\'' if !is_apostrophe(text, at) => singles = !singles,
+            _ => {}
+        }
+    }
+    !doubles && !singles && !ticks && !text.contains("\\n")
 }

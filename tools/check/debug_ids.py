@@ -41,22 +41,40 @@ def without(code, comment):
         yield from (it + back.removeprefix(end) for it in (front, front.removesuffix(end)) if back.startswith(end))
 
 
-def tried(run, check):
+def held(folder):
+    """The text of each file of a folder."""
+    return {it.name: it.read_bytes().decode() for it in Path(folder).iterdir()}
+
+
+def written(run, check, full):
+    """Where the code cannot be written, its map stays; and `check` compares the debug ids of a code and of its compiled map."""
+    with tempfile.TemporaryDirectory() as folder:
+        Path(folder, "a.js").write_text("x" * 5000 + f"\n//# debugId={OTHER}")
+        Path(folder, "a.js.map").write_text(json.dumps({**MEMBERS, "debugId": str(uuid.UUID(int=8))}))
+        run(["compile", "a.js.map"], folder)
+        found = run(["check", "a.js.map.smc"], folder)
+        check(found[0] == 1 and f"the code has the debug id {OTHER}, and the map " in found[1], f"debug ids of a compiled map: {found}")
+        Path(folder, "a.js.map.smc").unlink()
+        Path(folder, "a.js.map").write_text(json.dumps(MEMBERS))
+        Path(folder, "a.js").write_text("x" * 5000)
+        was = held(folder)
+        found = run(["debug-id", "--inject", "a.js"], folder, preexec_fn=full)
+        check(found[0] == 2 and held(folder) == was, f"a full disk: {found}, {[*held(folder)]}")
+
+
+def tried(run, check, full):
     """Gives 300 codes and maps debug ids: all that was there stays, no code moves, and a second time nothing changes."""
+    written(run, check, full)
     chance, names = random.Random(49), [f"c{k}.js" for k in range(300)]
     codes = {name: random_code(chance, name) for name in names}
     maps = {name: random_map(chance) for name in names}
     with tempfile.TemporaryDirectory() as folder:
-
-        def held():
-            return {it.name: it.read_bytes().decode() for it in Path(folder).iterdir()}
-
         for name in names:
             Path(folder, name).write_bytes(codes[name][0].encode())
             Path(folder, f"{name}.map").write_bytes(maps[name].encode())
         status, out, err = run(["debug-id", "--inject", *names], folder)
         check(status == 0 and out.count("\n") == len(names), f"debug ids of {len(names)} codes: {status}, {err[:300]}")
-        found = held()
+        found = held(folder)
         for name in names:
             (code, end), made, text = codes[name], made_of(maps[name]), found[f"{name}.map"]
             was = code in without(found[name], f"//# debugId={made}") and found[name].startswith(code[:end])
@@ -66,4 +84,4 @@ def tried(run, check):
             check(was, f"a debug id in {maps[name]!r}: {text!r}")
         check(run(["debug-id", *names], folder)[0] == 0, "debug ids that were injected are the same")
         status = run(["debug-id", "--inject", "--force", *names], folder)[0]
-        check((status, held()) == (0, found), f"debug ids a second time: {status}")
+        check((status, held(folder)) == (0, found), f"debug ids a second time: {status}")

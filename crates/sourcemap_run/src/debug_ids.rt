@@ -70,7 +70,7 @@ fn id_in_tail(text: &str) -> Option<(usize, usize)> {
     found
 }
 
-/// The debug id of a code: that of the last comment with one, behind the comment that names the map or, if there is none, before it.
+/// The debug id of a code: that of the last comment with one behind the comment that names the map, or else before it.
 fn code_id(code: &str) -> Option<CodeId<'_>> {
     let (front, back) = match source_mapping_comment(code, Language::JavaScript) {
         Some(found) => (found.front, found.back),
@@ -164,7 +164,9 @@ pub fn map_with_debug_id(alloc: Global, text: &str, id: &str) -> Result<Option<S
     changed(alloc, text, changes.as_slice())
 }
 
-/// The text of a map without its member `debugId`: that which `map_with_debug_id` made one of. None if the text is no JSON object.
+/// The text of a map without its member `debugId` at the top: what is from the comma before it to the end of its value is cut, or, where
+/// no other member is before it, what is from its beginning to the comma behind it. So what `map_with_debug_id` adds is what is cut. None
+/// if the text is no JSON object.
 fn map_without_debug_id(alloc: Global, text: &str) -> Result<Option<String>> {
     let mut changes = Vec::new(alloc);
     push_cuts(alloc, top_of(text), KEY, &mut changes)?;
@@ -178,8 +180,9 @@ fn uuid_of_digest(digest: &[u8; 32]) -> Uuid {
     Uuid::new_v8(bytes)
 }
 
-/// A debug id for the map in a text, the same for the same text: a UUID of version 8, in lowercase, of the SHA-256 of the text without its
-/// member `debugId`. None if the text is no JSON object.
+/// A debug id for the map in a text, the same for the same text: a UUID of version 8, in lowercase with hyphens, of the SHA-256 of the
+/// bytes of the text without its member `debugId`. It is the same before and after `map_with_debug_id`. None if the text is no JSON
+/// object.
 pub fn made_debug_id(alloc: Global, text: &str) -> Result<Option<String>> {
     let Some(hashed) = map_without_debug_id(alloc, text)? else {
         return Ok(None);

@@ -77,6 +77,8 @@ SPLIT, SPLIT_NAMES = "BAAA,DAC,DC,CJA,EDCFA,GEAG,HAAEFBCAADG,HCAAA,HBBAE,FCJ", [
 RECURSIVE = "BFAAA,DC,CJA,EGAA,GD,ECKA,GE,IABB,FK,FU"
 OF_NONE = "BFAAA,DC,CJA,EGAA,GD,EAK,FK,FU"
 TURNED = "BFAAA,DC,BABA,DC,CBC,CJA,ECAC,GC,ECKD,GD,FK,FU"
+# A block with b in f, whose code is in that of f; in it f was inlined, and there a block in the block has code, and the block itself none.
+DROPPED = "BFAAA,BABA,DC,BABA,CBA,CFA,CBA,EGAA,ECBC,GD,ECJD,IABB,ECBE,FE,FF,FT,FB"
 NESTED = "BFAAA,CJA,EGAA," + ",".join(["ECAA,IABC"] * 9) + ",FK" * 10
 
 
@@ -185,6 +187,10 @@ class OfScopes(Case):
         it = Scopes.decode(TURNED, 3)
         self.assertEqual(told(it.scope_chain_at(0, 5)), [(1, 0, [(2, 1)]), (0, None, [(1, None)])])
         self.assertEqual(told(it.scope_chain_at(0, 15)), [(0, 1, [(1, 2)])])
+        # (a block without code in its own activation has that of the outer one)
+        it = Scopes.decode(DROPPED, 4)
+        self.assertEqual(told(it.scope_chain_at(0, 12)), [(2, 3, []), (1, 1, [(1, 2)]), (0, 2, [])])
+        self.assertEqual(told(it.scope_chain(1, 0, 12)), [(1, 1, [(1, 2)]), (0, 0, [])])
         it = Scopes.decode(SPLIT, 6)
         for place, values in [((2, 8), [3, None, None]), ((2, 9), [4, None, None]), ((3, 0), [4, 3, None]), ((3, 2), [None, 3, None]), ((4, 8), [5, 3, None])]:
             self.assertEqual(told(it.scope_chain_at(*place)), [(0, 0, list(zip([0, 1, 2], values)))], place)

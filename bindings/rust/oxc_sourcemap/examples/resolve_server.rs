@@ -83,7 +83,7 @@ struct Head {
     length: Option<String>,
 }
 
-/// The head in these bytes; None if they are none. Several lengths are none, and so is one of a body that comes in pieces.
+/// The head in these bytes; None if they are none, or have several lengths. A body that comes in chunks has no length.
 fn head_of(bytes: &[u8]) -> Option<Head> {
     let mut lines = std::str::from_utf8(bytes).ok()?.split("\r\n");
     let [method, path, version] = lines.next()?.split(' ').collect::<Vec<_>>().try_into().ok()?;

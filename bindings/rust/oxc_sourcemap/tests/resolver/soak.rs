@@ -9,6 +9,8 @@
 use super::*;
 
 const MAPS: usize = 60;
+/// Of how many maps the frames are that each resolver is asked for: more than it holds, and fewer, which it lets go of by their time.
+const ASKED: [usize; 2] = [MAPS, 20];
 const LINES: usize = 40;
 const THREADS: u64 = 6;
 const HELD: Duration = Duration::from_millis(200);
@@ -167,9 +169,10 @@ impl Soak {
             && is_young
     }
 
-    fn trace(&self, resolver: &Resolver, chosen: &mut Chosen) {
+    fn trace(&self, which: usize, chosen: &mut Chosen) {
+        let resolver = &self.resolvers[which];
         let count = [1, 5, 30, 250, 2000][chosen.below(5)];
-        let frame = |_| (chosen.below(MAPS), 1 + chosen.below(LINES), 1 + chosen.below(3 * LINES));
+        let frame = |_| (chosen.below(ASKED[which]), 1 + chosen.below(LINES), 1 + chosen.below(3 * LINES));
         let frames: Vec<_> = (0..count).map(frame).collect();
         let line = |(map, line, column): &(usize, usize, usize)| format!("    at f ({H}{map}.js:{line}:{column})\n");
         let text: String = frames.iter().map(line).collect();
@@ -246,7 +249,7 @@ fn soak() {
         };
         for seed in 0..THREADS {
             let (soak, mut chosen) = (&soak, Chosen(seed));
-            scope.spawn(move || repeat(Box::new(move || soak.trace(&soak.resolvers[seed as usize % 2], &mut chosen))));
+            scope.spawn(move || repeat(Box::new(move || soak.trace(seed as usize % 2, &mut chosen))));
         }
         let (writer, mut chosen) = (&soak, Chosen(99));
         scope.spawn(move || {

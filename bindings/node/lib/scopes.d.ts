@@ -176,9 +176,9 @@ export class Scopes {
   /**
    * Reads the scopes of a map from what `new SourceMap` takes, but for a SourceMap, which keeps none: that is a TypeError. Nothing else of
    * the map is checked: a value with `version` or `scopes` needs no mappings. One without the member `scopes`, or with null, has the scopes
-   * of no source. Throws SourceMapError of SMAP_NOT_UTF8,
-   * SMAP_JSON_READING (without a place), SMAP_SCOPES_INDEXED, SMAP_SCOPES_NOT_TEXT or SMAP_BAD_SCOPES. Of an indexed map read the map of
-   * each section, whose ranges count from the section's offset. A byte order mark is not mended.
+   * of no source. Throws SourceMapError of SMAP_NOT_UTF8, SMAP_JSON_READING (without a place), SMAP_SCOPES_INDEXED, SMAP_SCOPES_NOT_TEXT
+   * or SMAP_BAD_SCOPES. Of an indexed map read the map of each section, whose ranges count from the section's offset. A byte order mark is
+   * not mended.
    *
    * Of a value the text of the scopes alone is looked at. Over WebAssembly the scopes of a large JSON text take as much memory as that,
    * until they are freed.

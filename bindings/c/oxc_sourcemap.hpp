@@ -719,7 +719,7 @@ class Scopes {
         return detail::entry<std::uint32_t>([&](std::uint32_t *out) { return smap_range_at(get(), line, column, out); });
     }
 
-    /* The frames at a position of the generated code. The first is where the map's `trace` leads. */
+    /* The frames at a position of the generated code: none where no range contains it. The first is where the map's `trace` leads. */
     Frames frames_at(std::uint32_t line, std::uint32_t column) const {
         std::uint32_t is_hidden = 0;
         auto frames = detail::list<Frame>([&](Frame *out, std::size_t len, std::size_t *count) {
@@ -744,7 +744,8 @@ class Scopes {
     }
 
     /* The scopes that a position of the generated code is in, from the inside out, each with the range that has its values; and those of
-     * a frame there, by its index. */
+     * a frame there, by its index in `frames_at`: nullopt past the last one. Where no range contains the position, the list is empty, and
+     * frame 0 is nullopt, as there is none. */
     std::vector<ChainEntry> scope_chain_at(std::uint32_t line, std::uint32_t column) const {
         return detail::list<ChainEntry>([&](ChainEntry *out, std::size_t len, std::size_t *count) {
             return smap_scope_chain_at(get(), line, column, out, len, count);

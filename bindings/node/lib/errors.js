@@ -108,4 +108,4 @@ function madeOrNull(answer) {
   return answer === Code.NO_ENTRY ? null : made(answer);
 }
 
-module.exports = { SourceMapError, errorOf, refusal, damaged, check, made, madeOrNull, long, longOrNull };
+module.exports = { SourceMapError, errorOf, errorOfMap, refusal, damaged, check, made, madeOrNull, long, longOrNull };

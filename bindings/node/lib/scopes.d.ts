@@ -117,8 +117,9 @@ export interface ScopeChainEntry {
   readonly variables: readonly ScopeVariable[];
 }
 
-/** A frame of the source with its place. A name that the function has not, or that is not known, is null; so is a place that the map does
- *  not know, as of a call in a source that it lacks. */
+/** A frame of the source with its place. `name` is null if the function has none, or its text is not known. The first frame is where
+ *  `SourceMap.trace` leads: `source`, `line` and `column` are null if the map has none there. Any other frame is where it was called: `line`
+ *  and `column` are numbers, and `source` is null if the map lacks it. */
 export interface SourceFrame {
   readonly name: string | null;
   readonly source: string | null;
@@ -134,10 +135,37 @@ export interface SourceFrames {
   readonly isHidden: boolean;
 }
 
+/** A scope of a frame as a debugger shows it: what it is, its name, and its variables with their values. */
+export interface ScopeView extends ScopeChainEntry {
+  /** As "function"; null if it has none, or its text is not known. */
+  readonly kind: string | null;
+  readonly name: string | null;
+}
+
+/** A frame of the source with its scopes, from the inside out. */
+export interface FrameView extends SourceFrame {
+  readonly scopes: readonly ScopeView[];
+}
+
+/** The frames of the source with their scopes, from the inside out. */
+export interface SourceView {
+  /** None where `isHidden`, and where neither ranges nor the map know the position. */
+  readonly frames: readonly FrameView[];
+  /** Whether the frame is that of a helper which the source does not have. */
+  readonly isHidden: boolean;
+}
+
+/** The value of a map of which the scopes alone are read: it may lack all else, as its mappings. */
+export type ScopesValue = { readonly names?: readonly string[] | null | undefined } & (
+  | { readonly version: number | string; readonly scopes?: string | null | undefined }
+  | { readonly scopes: string | null }
+);
+
 /**
  * The scopes of a map, its member `scopes`: for each source a tree of its functions and blocks, and for the generated code a tree of
  * ranges, each with the scope that it is the code of. They have the names of functions in the source, the frames of calls that were
- * inlined, and the values of variables. What its calls answer is frozen.
+ * inlined, and the values of variables. What its calls answer is frozen. Those of scopes that were freed throw SourceMapError of
+ * SMAP_NULL_HANDLE.
  *
  * @example
  * const [map, scopes] = [new SourceMap(json), Scopes.read(json)];
@@ -147,16 +175,17 @@ export class Scopes {
   private constructor(made: never);
   /**
    * Reads the scopes of a map from what `new SourceMap` takes, but for a SourceMap, which keeps none: that is a TypeError. Nothing else of
-   * the map is checked. One without the member, or with null, has the scopes of no source. Throws SourceMapError of SMAP_NOT_UTF8,
-   * SMAP_JSON_READING (without a place), SMAP_SCOPES_INDEXED, SMAP_SCOPES_NOT_TEXT or SMAP_BAD_SCOPES. Of an indexed map read the map of
-   * each section, whose ranges count from the section's offset. A byte order mark is not mended.
+   * the map is checked: a value with `version` or `scopes` needs no mappings. One without the member `scopes`, or with null, has the scopes
+   * of no source. Throws SourceMapError of SMAP_NOT_UTF8, SMAP_JSON_READING (without a place), SMAP_SCOPES_INDEXED, SMAP_SCOPES_NOT_TEXT
+   * or SMAP_BAD_SCOPES. Of an indexed map read the map of each section, whose ranges count from the section's offset. A byte order mark is
+   * not mended.
    *
    * Of a value the text of the scopes alone is looked at. Over WebAssembly the scopes of a large JSON text take as much memory as that,
    * until they are freed.
    */
-  static read(json: MapInput): Scopes;
-  /** The same from the text of the member, of a map with these names, or with so many, whose texts are then not known. Throws
-   *  SourceMapError of SMAP_NOT_UTF8 or SMAP_BAD_SCOPES. */
+  static read(json: MapInput | ScopesValue): Scopes;
+  /** Reads the text of the member alone, of a map with these names, or with so many, whose texts are then not known. Names that are no
+   *  list of strings are a TypeError. Throws SourceMapError of SMAP_NOT_UTF8 or SMAP_BAD_SCOPES. */
   static decode(scopes: Text, names: number | Iterable<string>): Scopes;
   free(): void;
   [Symbol.dispose](): void;
@@ -179,8 +208,8 @@ export class Scopes {
   /** The innermost range at a generated position. */
   rangeAt(line: number, column: number): GeneratedRange | null;
   rangeAt(position: Position): GeneratedRange | null;
-  /** The frames of the source that a frame of a stack trace at this generated position stands for: none where no range contains the
-   *  position. */
+  /** The frames of the source that a frame of a stack trace at this generated position stands for, frame 0 first: none, and so no frame 0,
+   *  where no range contains the position. */
   framesAt(line: number, column: number): ScopeFrames;
   framesAt(position: Position): ScopeFrames;
   /** The variables of a scope, by its index; null past the last one. */
@@ -190,15 +219,29 @@ export class Scopes {
   valueAt(range: number, variable: number, line: number, column: number): VariableValue | null;
   valueAt(range: number, variable: number, position: Position): VariableValue | null;
   /** The scopes that a generated position is in, from the inside out, with their variables and the values there: the scope that the
-   *  innermost range is the code of, and those around it. Empty where no range contains the position, or that one is the code of none. */
+   *  innermost range is the code of, and those around it. Empty where no range contains the position (there `scopeChain` answers null, as
+   *  there is no frame), or that one is the code of none. */
   scopeChainAt(line: number, column: number): readonly ScopeChainEntry[];
   scopeChainAt(position: Position): readonly ScopeChainEntry[];
-  /** The same of a frame of the source, by its index in `framesAt`; null past the last one: for frame 0 the scopes of `scopeChainAt`, for an
-   *  inlined call those at its place, with the ranges around the inlined body. */
+  /** The scopes that a frame of the source is in, by its index in `framesAt`: of frame 0 those of `scopeChainAt`, of an inlined call those at
+   *  its place, with the ranges around the inlined body. Null past the last frame, so for frame 0 too where no range contains the position. */
   scopeChain(frame: number, line: number, column: number): readonly ScopeChainEntry[] | null;
   scopeChain(frame: number, position: Position): readonly ScopeChainEntry[] | null;
-  /** The same with the sources of the map that has these scopes, which says where the first frame is. Where no range contains the position,
-   *  the frame is that which the map alone knows, without a name. */
+  /** The frames of `framesAt` with the texts of their sources, by the map that has these scopes, which says where the first frame is. Where
+   *  no range contains the position, the frame is that which the map alone knows, without a name. A `map` of another type is a TypeError. */
   trace(map: SourceMap | CompiledMap, line: number, column: number, bias?: Bias): SourceFrames;
   trace(map: SourceMap | CompiledMap, position: Position & { bias?: Bias | undefined }): SourceFrames;
+  /**
+   * What a debugger shows that is paused at a generated position: the frames of `trace`, each with the scopes of `scopeChain`, and so with
+   * the values of variables in it. A frame that the map alone knows has no scopes.
+   *
+   * @example
+   * const json = { version: 3, sources: ["a.ts"], names: ["f", "a", "x"], mappings: "AAAA", scopes: "BFAAA,DC,CJA,EGAA,GD,FU" };
+   * for (const { name, line, scopes } of Scopes.read(json).view(new SourceMap(json), 0, 4).frames) {
+   *   console.log(name, line); // f 0
+   *   for (const { variables } of scopes) for (const { name, value } of variables) console.log(name, value); // a x
+   * }
+   */
+  view(map: SourceMap | CompiledMap, line: number, column: number, bias?: Bias): SourceView;
+  view(map: SourceMap | CompiledMap, position: Position & { bias?: Bias | undefined }): SourceView;
 }

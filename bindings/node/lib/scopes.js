@@ -3,8 +3,8 @@
 
 const native = require('./native.js');
 const { NO_ID, Code, Words } = require('./constants.js');
-const { check, made, refusal, long } = require('./errors.js');
-const { text, word, idOf, isPlace, list } = require('./arguments.js');
+const { check: checkCode, errorOfMap, made, refusal, long } = require('./errors.js');
+const { text, shown, word, idOf, isPlace, list } = require('./arguments.js');
 const { sourceText, sourceValue } = require('./inputs.js');
 const { SourceMap } = require('./map.js');
 const { valueOf } = require('./members.js');
@@ -42,7 +42,7 @@ class Scopes {
 
   static read(json) {
     if (json instanceof SourceMap) throw new TypeError('A SourceMap keeps no scopes: read them from what it was read from');
-    const value = sourceValue(json);
+    const value = sourceValue(json) ?? (isScopesValue(json) ? json : null);
     if (value !== null) return scopesOfValue(value);
     const given = sourceText(json, 'The JSON text');
     const scopes = new Scopes(new Made(made(native.readScopes(given)), null));
@@ -54,8 +54,7 @@ class Scopes {
   static decode(scopes, names) {
     const given = text(scopes, 'The scopes');
     if (typeof names === 'number') return new Scopes(new Made(made(native.decodeScopes(given, word(names, 'The number of names'))), null));
-    const known = list(names, 'names');
-    return new Scopes(new Made(made(native.decodeScopes(given, known.length)), known));
+    return scopesOf(given, stringsOf(names));
   }
 
   free() {
@@ -206,6 +205,8 @@ class Scopes {
     return id === null ? null : idOf(id);
   }
 
+  // ---- the texts of frames ----
+
   trace(map, line, column, bias) {
     if (!(map instanceof SourceMap || map instanceof CompiledMap)) throw new TypeError('The map is neither a SourceMap nor a CompiledMap');
     if (isPlace(line)) return this.trace(map, line.line, line.column, line.bias);
@@ -214,10 +215,32 @@ class Scopes {
     return Object.freeze({ frames: Object.freeze(isHidden ? [] : tracedFrames(map, frames, first)), isHidden });
   }
 
+  view(map, line, column, bias) {
+    if (isPlace(line)) return this.view(map, line.line, line.column, line.bias);
+    const { frames, isHidden } = this.trace(map, line, column, bias);
+    const views = frames.map((frame, i) => Object.freeze({ ...frame, scopes: this.#views(this.scopeChain(i, line, column) ?? []) }));
+    return Object.freeze({ frames: Object.freeze(views), isHidden });
+  }
+
+  /** The entries of a chain, with what their scopes are. */
+  #views(chain) {
+    const views = chain.map((entry) => {
+      const { kind, name } = this.scope(entry.scope);
+      return Object.freeze({ kind, name, ...entry });
+    });
+    return Object.freeze(views);
+  }
+
   #frame(at) {
     const nameId = idOf(room[at]);
     return Object.freeze({ nameId, name: this.#name(nameId), scope: idOf(room[at + 1]), call: callIn(room, at + 2) });
   }
+}
+
+/** Throws what a call has refused that asks scopes. */
+function check(code) {
+  if (code === Code.NULL_HANDLE) throw errorOfMap('SMAP_NULL_HANDLE', 'The scopes were freed');
+  checkCode(code);
 }
 
 /** The code of a call that lists entries of so many words in the room, which grows for all of them. */
@@ -233,13 +256,31 @@ function namesOf({ names }) {
   return Array.isArray(names) ? names : [];
 }
 
+/** Names as an argument: a list of strings. */
+function stringsOf(names) {
+  const all = list(names, 'names');
+  const at = all.findIndex((name) => typeof name !== 'string');
+  if (at >= 0) throw new TypeError(`names[${at}] is ${shown(all[at])}, and not a string`);
+  return all;
+}
+
+/** The scopes of their text, in a map with these names. */
+function scopesOf(given, names) {
+  return new Scopes(new Made(made(native.decodeScopes(given, names.length)), names));
+}
+
+/** Whether an object is the value of a map that may lack its mappings. */
+function isScopesValue(it) {
+  return it !== null && typeof it === 'object' && !(it instanceof Scopes) && ('scopes' in it || 'version' in it);
+}
+
 /** The scopes of the value of a map. */
 function scopesOfValue(value) {
   const { scopes, sections } = value;
   if (sections !== undefined && sections !== null) throw refusal(Code.SCOPES_INDEXED);
-  if (scopes === undefined || scopes === null) return Scopes.decode('', []);
+  if (scopes === undefined || scopes === null) return scopesOf('', []);
   if (typeof scopes !== 'string') throw refusal(Code.SCOPES_NOT_TEXT);
-  return Scopes.decode(scopes, namesOf(value));
+  return scopesOf(text(scopes, 'The text of scopes'), [...namesOf(value)]);
 }
 
 /** The place of an answer of a map; nulls if there is none. */

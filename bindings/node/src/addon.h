@@ -253,6 +253,9 @@ uint32_t at_most(size_t number);
 napi_value map_or_code(Call *call, uint32_t code, smap_map *map);
 napi_value string(Call *call, const char *at, size_t len);
 
+/* The code of a call that has listed entries in the output, as many as fit, and how many there are. */
+napi_value listed(Call *call, uint32_t code, const Output *out, size_t count);
+
 /* A text that a handle lends, and one that the library made, which is freed, as a string or as bytes. */
 napi_value text_or_code(Call *call, uint32_t code, smap_text it);
 napi_value string_or_code(Call *call, uint32_t code, smap_string *made);

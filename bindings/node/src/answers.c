@@ -52,6 +52,14 @@ napi_value string_or_code(Call *call, uint32_t code, smap_string *made)
     return out;
 }
 
+/* (of what did not fit, the number alone is told) */
+napi_value listed(Call *call, uint32_t code, const Output *out, size_t count)
+{
+    show(out);
+    call->words[0] = at_most(count);
+    return coded_alone(call, code);
+}
+
 /* Bytes that a handle lends. They are copied: what frees a buffer over other memory waits for a turn of the event loop. */
 napi_value lent_bytes_or_code(Call *call, uint32_t code, smap_text it)
 {

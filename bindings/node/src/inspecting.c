@@ -93,9 +93,7 @@ static napi_value get_tokens(Call *call)
     Output out = output(call, 1, NO_WORDS);
     if (call->failed) return NULL;
     uint32_t code = smap_get_tokens(from, (smap_token *)out.at, out.len / 6, &count);
-    show(&out);
-    call->words[0] = at_most(count);
-    return coded_alone(call, code);
+    return listed(call, code, &out, count);
 }
 
 static napi_value get_ignore_list(Call *call)
@@ -105,9 +103,7 @@ static napi_value get_ignore_list(Call *call)
     Output out = output(call, 1, NO_WORDS);
     if (call->failed) return NULL;
     uint32_t code = smap_get_ignore_list(from, out.at, out.len, &count);
-    show(&out);
-    call->words[0] = at_most(count);
-    return coded_alone(call, code);
+    return listed(call, code, &out, count);
 }
 
 const Entry INSPECTING_CALLS[] = {

@@ -117,9 +117,7 @@ static napi_value pieces(Call *call)
     Output out = output(call, 5, NO_WORDS);
     if (call->failed) return NULL;
     uint32_t code = smap_pieces(from, start, finish, (smap_piece *)out.at, out.len / 5, &count);
-    show(&out);
-    call->words[0] = at_most(count);
-    return coded_alone(call, code);
+    return listed(call, code, &out, count);
 }
 
 static napi_value first_difference(Call *call)
@@ -158,9 +156,7 @@ static napi_value all_generated(Call *call)
     Output out = output(call, 5, NO_WORDS);
     if (call->failed) return NULL;
     uint32_t code = smap_all_generated(from, source, line, column, direction, out.at, out.len, &count);
-    show(&out);
-    call->words[0] = at_most(count);
-    return coded_alone(call, code);
+    return listed(call, code, &out, count);
 }
 
 const Entry LOOKUP_CALLS[] = {

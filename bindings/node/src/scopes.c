@@ -111,10 +111,8 @@ static napi_value frames_at(Call *call)
     Output out = output(call, 3, NO_WORDS);
     if (call->failed) return NULL;
     uint32_t code = smap_frames_at(from, line, column, (smap_frame *)out.at, out.len / FRAME_WORDS, &count, &is_hidden);
-    show(&out);
-    call->words[0] = at_most(count);
     call->words[1] = is_hidden;
-    return coded_alone(call, code);
+    return listed(call, code, &out, count);
 }
 
 static napi_value get_variables(Call *call)
@@ -125,9 +123,7 @@ static napi_value get_variables(Call *call)
     Output out = output(call, 2, NO_WORDS);
     if (call->failed) return NULL;
     uint32_t code = smap_get_variables(from, scope, out.at, out.len, &count);
-    show(&out);
-    call->words[0] = at_most(count);
-    return coded_alone(call, code);
+    return listed(call, code, &out, count);
 }
 
 static napi_value value_at(Call *call)
@@ -150,9 +146,7 @@ static napi_value scope_chain_at(Call *call)
     Output out = output(call, 3, NO_WORDS);
     if (call->failed) return NULL;
     uint32_t code = smap_scope_chain_at(from, line, column, (smap_chain_entry *)out.at, out.len / CHAIN_ENTRY_WORDS, &count);
-    show(&out);
-    call->words[0] = at_most(count);
-    return coded_alone(call, code);
+    return listed(call, code, &out, count);
 }
 
 static napi_value scope_chain(Call *call)
@@ -165,9 +159,7 @@ static napi_value scope_chain(Call *call)
     Output out = output(call, 4, NO_WORDS);
     if (call->failed) return NULL;
     uint32_t code = smap_scope_chain(from, frame, line, column, (smap_chain_entry *)out.at, out.len / CHAIN_ENTRY_WORDS, &count);
-    show(&out);
-    call->words[0] = at_most(count);
-    return coded_alone(call, code);
+    return listed(call, code, &out, count);
 }
 
 const Entry SCOPES_CALLS[] = {

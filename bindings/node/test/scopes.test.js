@@ -262,9 +262,12 @@ test('names: their texts where they are known, and their ids', () => {
   const scopes = Scopes.decode(INLINED, later);
   later[5] = 'another';
   assert.deepEqual(told(scopes), known);
-  assert.deepEqual(told(Scopes.decode(INLINED, NAMES.map((it) => (it === 'outer' ? null : it)))), [[5, 'inner'], [2, null]]);
   assert.equal(Scopes.decode(INLINED, 7).scope(1).kind, null);
   assert.deepEqual(told(Scopes.read({ ...VALUE, names: [0, 1, { a: 1 }, 3, 4, 5, 6] })), unknown);
+  const value = { ...VALUE, names: [...NAMES] };
+  const ofValue = Scopes.read(value);
+  value.names[5] = 'another';
+  assert.deepEqual(told(ofValue), known);
   const odd = ['größe 😀', ''];
   assert.deepEqual(Scopes.decode('BFAAA,CBA,BFAAC,CBA', odd).scopes.map((it) => it.name), odd);
 });
@@ -303,15 +306,68 @@ test('frames with their places', () => {
   assert.equal(scopes.scopeAt({ source: 0, line: 3, column: 0 }).name, 'inner');
 });
 
+// ---- what a debugger shows ----
+
+const GLOBAL_VIEW = { kind: 'global', name: null, ...WHOLE };
+const INNER_VIEW = { kind: 'function', name: 'inner', ...OF_INNER };
+const OUTER_VIEW = { kind: 'function', name: 'outer', ...OF_OUTER };
+
+test('frames with their scopes, and the values of variables', () => {
+  const [map, scopes] = [new SourceMap(VALUE), Scopes.read(VALUE)];
+  const place = (name, line, column, source = 's.ts') => ({ name, source, line, column });
+  // Columns 0, 10 and 20 are lines 0, 2 and 6 of the source, and inner was called at 3:4.
+  const rows = [
+    [0, 5, [{ ...place(null, 0, 0), scopes: [GLOBAL_VIEW] }]],
+    [0, 15, [{ ...place('outer', 2, 4), scopes: [OUTER_VIEW, GLOBAL_VIEW] }]],
+    [0, 25, [{ ...place('inner', 6, 4), scopes: [INNER_VIEW, GLOBAL_VIEW] }, { ...place('outer', 3, 4), scopes: [OUTER_VIEW, GLOBAL_VIEW] }]],
+    // (behind all ranges and mappings)
+    [1, 0, []],
+  ];
+  for (const it of [map, new CompiledMap(map.compile())]) {
+    for (const [line, column, frames] of rows) {
+      assert.deepEqual(scopes.view(it, line, column), { frames, isHidden: false }, `${line}:${column}`);
+      assert.deepEqual(scopes.view(it, { line, column }), { frames, isHidden: false });
+    }
+  }
+  const found = scopes.view(map, 0, 25);
+  for (const it of [found, found.frames, found.frames[1], found.frames[1].scopes, found.frames[1].scopes[0], found.frames[1].scopes[0].variables[0]]) assert.ok(Object.isFrozen(it));
+});
+
+test('what a debugger shows of a recursion, of a helper, and where scopes, names or mappings say nothing', () => {
+  // f with a, inlined into itself at columns 10 to 20, where a is y, and called from 1:1 where a is x.
+  const json = { version: 3, sources: ['a.js'], names: ['f', 'a', 'x', 'y'], mappings: 'AAAA,UAEI', scopes: 'BFAAA,DC,CJA,EGAA,GD,ECKA,GE,IABB,FK,FU' };
+  const map = new SourceMap(json);
+  const told = ({ frames }) => frames.map((it) => [it.name, it.source, it.line, it.column, it.scopes.map(({ variables }) => variables.map(({ name, value }) => `${name}=${value}`).join())]);
+  const [here, call] = [['f', 'a.js', 2, 4], ['f', 'a.js', 1, 1]];
+  assert.deepEqual(told(Scopes.read(json).view(map, 0, 15)), [[...here, ['a=y']], [...call, ['a=x']]]);
+  assert.deepEqual(told(Scopes.read(json).view(map, 0, 25)), [[...here, ['a=x']]]);
+  assert.deepEqual(told(Scopes.decode(json.scopes, 4).view(map, 0, 15)), [[null, 'a.js', 2, 4, ['null=null']], [null, 'a.js', 1, 1, ['null=null']]]);
+  const [{ scopes }] = Scopes.decode(json.scopes, 4).view(map, 0, 15).frames;
+  assert.deepEqual(scopes, [{ kind: null, name: null, scope: 0, range: 1, variables: [{ nameId: 1, name: null, valueId: 3, value: null }] }]);
+  // a helper; no range, with and without a mapping; a range that is the code of no scope
+  assert.deepEqual(Scopes.decode('EMA,FK', 0).view(map, 0, 3), { frames: [], isHidden: true });
+  assert.deepEqual(told(Scopes.decode('', 0).view(map, 0, 12)), [[null, 'a.js', 2, 4, []]]);
+  assert.deepEqual(told(Scopes.decode('EAA,FK', 0).view(map, 0, 3)), [[null, 'a.js', 0, 0, []]]);
+  const unmapped = new SourceMap({ ...json, mappings: 'AAAA,U' });
+  assert.deepEqual(told(Scopes.read(json).view(unmapped, 0, 25)), [['f', null, null, null, ['a=x']]]);
+  const late = new SourceMap({ ...json, mappings: 'KAEI' });
+  assert.deepEqual(told(Scopes.read(json).view(late, 0, 1)), [['f', null, null, null, ['a=x']]]);
+  assert.deepEqual(told(Scopes.read(json).view(late, 0, 1, Bias.CLAMPED)), [[...here, ['a=x']]]);
+  assert.deepEqual(told(Scopes.read(json).view(late, { line: 0, column: 1, bias: Bias.CLAMPED })), [[...here, ['a=x']]]);
+  for (const it of [null, undefined, {}, Scopes.read(json), json]) assert.throws(() => Scopes.read(json).view(it, 0, 0), { name: 'TypeError', message: 'The map is neither a SourceMap nor a CompiledMap' });
+  assert.throws(() => Scopes.read(json).view(map, 0), { name: 'TypeError', message: 'The column is undefined, and not an integer from 0 to 4294967295' });
+});
+
 test('maps without scopes, and what is not looked at', () => {
   const none = { sources: 0, scopes: 0, ranges: 0 };
-  const values = [{ mappings: '' }, { mappings: 1, scopes: null }, { sections: null }, { toJSON: () => null }, { toJSON: () => 'a' }, { mappings: '', scopes: '' }];
+  const values = [{ mappings: '' }, { mappings: 1, scopes: null }, { sections: null }, { toJSON: () => null }, { toJSON: () => 'a' }, { mappings: '', scopes: '' }, { version: 3, scopes: null }, { scopes: null }, { version: 3 }, Object.assign(Object.create(null), { scopes: '' })];
   for (const value of values) {
     assert.deepEqual(Scopes.read(value).counts, none);
     assert.deepEqual(Scopes.read(JSON.stringify(value)).counts, none);
     assert.deepEqual(Scopes.read(value).scopes, []);
   }
   assert.deepEqual(Scopes.read({ mappings: '', scopes: 'BEAAA,CBA', names: 'f' }).counts.scopes, 1);
+  for (const it of [{ version: 3, names: NAMES, scopes: INLINED }, { names: NAMES, scopes: INLINED }]) assert.deepEqual(Scopes.read(it).framesAt(0, 25).frames, INNER);
   for (const names of [undefined, 'abc', { length: 9 }, []]) {
     for (const it of [{ mappings: '', names, scopes: 'BBAAA,CBA' }, JSON.stringify({ names, scopes: 'BBAAA,CBA' })]) fails({ code: 'SMAP_BAD_SCOPES', reason: 'BAD_INDEX' }, () => Scopes.read(it));
   }
@@ -370,11 +426,16 @@ test('other errors', () => {
 
 test('arguments of other types', () => {
   const scopes = Scopes.decode(INLINED, NAMES);
-  for (const it of [undefined, null, 1, true, {}, [], { toJSON: () => undefined }, () => 1, Symbol('a'), new Uint16Array(2), new Map(), scopes]) assert.throws(() => Scopes.read(it), TypeError);
+  for (const it of [undefined, null, 1, true, {}, [], { toJSON: () => undefined }, () => 1, Symbol('a'), new Uint16Array(2), new Map(), scopes, { names: [] }]) assert.throws(() => Scopes.read(it), TypeError);
   const map = new SourceMap(TEXT);
+  assert.throws(() => Scopes.read(new CompiledMap(map.compile())), TypeError);
   assert.throws(() => Scopes.read(map), { name: 'TypeError', message: 'A SourceMap keeps no scopes: read them from what it was read from' });
   for (const it of [undefined, null, 1, {}, ['A'], new Uint16Array(2), '\ud800']) assert.throws(() => Scopes.decode(it, 0), TypeError);
   for (const it of [undefined, null, '7', true, 1n, {}, Symbol('a')]) assert.throws(() => Scopes.decode('', it), TypeError);
+  assert.throws(() => Scopes.decode('', 'f'), { name: 'TypeError', message: 'names is not a list' });
+  for (const [names, words] of [[[1, null], 'names[0] is 1'], [['f', null], 'names[1] is null'], [new Set(['f', 'g', {}]), 'names[2] is of the type object'], [['f', , 'g'], 'names[1] is undefined'], [[Buffer.from('f')], 'names[0] is of the type object']]) {
+    assert.throws(() => Scopes.decode('', names), { name: 'TypeError', message: `${words}, and not a string` });
+  }
   for (const it of [-1, 0.5, NaN, 2 ** 32]) assert.throws(() => Scopes.decode('', it), { name: 'RangeError', message: `The number of names is ${it}, and not an integer from 0 to 4294967295` });
   assert.throws(() => scopes.framesAt(0), { name: 'TypeError', message: 'The column is undefined, and not an integer from 0 to 4294967295' });
   assert.throws(() => scopes.framesAt({ column: 0 }), { message: 'The line is undefined, and not an integer from 0 to 4294967295' });
@@ -416,15 +477,20 @@ const ASKS = [
   (it) => it.valueAt(1, 0, 0, 10),
   (it) => it.scopeChainAt(0, 25),
   (it) => it.scopeChain(1, 0, 25),
+  (it) => it.trace(new SourceMap(VALUE), 0, 25),
+  (it) => it.view(new SourceMap(VALUE), 0, 25),
 ];
 
 test('scopes that were freed', () => {
   const [scopes, other] = [Scopes.decode(INLINED, NAMES), Scopes.decode(INLINED, NAMES)];
   scopes.free();
   for (const ask of ASKS) {
-    fails({ code: 'SMAP_NULL_HANDLE', reason: null }, () => ask(scopes));
+    fails({ code: 'SMAP_NULL_HANDLE', message: 'The scopes were freed', detail: 0, field: null, reason: null, place: null }, () => ask(scopes));
     ask(other);
   }
+  const map = new SourceMap(VALUE);
+  map.free();
+  for (const name of ['trace', 'view']) fails({ code: 'SMAP_NULL_HANDLE', message: 'It was freed, or its buffer was transferred' }, () => other[name](map, 0, 25));
   scopes.free();
   assert.equal(inspect(scopes), 'Scopes (freed)');
   assert.deepEqual(other.framesAt(0, 25).frames, INNER);

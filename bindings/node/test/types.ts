@@ -8,6 +8,7 @@ import junketscarp, {
   Direction,
   FaultPlace,
   FoundToken,
+  FrameView,
   GeneratedRange,
   Language,
   Mapping,
@@ -20,6 +21,7 @@ import junketscarp, {
   ScopeChainEntry,
   ScopeFrame,
   ScopeVariable,
+  ScopeView,
   Scopes,
   ScopesCounts,
   ScopesFault,
@@ -27,6 +29,7 @@ import junketscarp, {
   SourceMap,
   SourceMapBuilder,
   SourceMapError,
+  SourceView,
   decodeDataURL,
   decodeMappings,
   encodeMappings,
@@ -79,8 +82,13 @@ async function uses(bytes: Uint8Array): Promise<void> {
   const chain: readonly ScopeChainEntry[] | null = scopes.scopeChain(0, 1, 2) ?? scopes.scopeChain(0, { line: 0, column: 1 });
   const variable: ScopeVariable | undefined = chain?.[0]?.variables[0] ?? scopes.scopeChainAt({ line: 0, column: 1 })[0]?.variables[0];
   const texts: (string | null | undefined)[] = [variable?.value, scopes.variables(0)?.[0]?.name, scopes.valueAt(0, 0, 1, 2)?.value, scopes.valueAt(0, 0, { line: 1, column: 2 })?.value];
+  const view: SourceView = scopes.view(map, 0, 1, Bias.AFTER) ?? scopes.view(compiled, { line: 0, column: 1, bias: Bias.BEFORE });
+  const [shown]: readonly FrameView[] = view.frames;
+  const inner: ScopeView | undefined = shown?.scopes[0];
+  const seen: (string | number | null | undefined)[] = [shown?.name, shown?.source, shown?.line, inner?.kind, inner?.name, inner?.scope, inner?.range, inner?.variables[0]?.value];
+  const valued: Scopes = Scopes.read({ version: 3, scopes: null }) ?? Scopes.read({ scopes: "", names: ["f"] }) ?? Scopes.read({ version: 3 });
   scopes[Symbol.dispose]();
-  void [all_, one, caller, hidden, scopes.scopeChainAt(0, 1).length, texts];
+  void [seen, valued, all_, one, caller, hidden, scopes.scopeChainAt(0, 1).length, texts];
   void [found, name, token, answers, indices, pieces, back, all, raw, concat, url, NO_ID];
 }
 
@@ -142,6 +150,10 @@ function refused(map: SourceMap): void {
   new Scopes();
   // @ts-expect-error: names, or how many there are
   Scopes.decode("");
+  // @ts-expect-error: names are strings
+  Scopes.decode("", [1, null]);
+  // @ts-expect-error: no value of a map
+  Scopes.read({});
   // @ts-expect-error: frames are only read
   Scopes.decode("", 0).framesAt(0, 0).frames.pop();
   // @ts-expect-error: so are variables

@@ -15,6 +15,7 @@ from oxc_sourcemap import (
     Code,
     CompiledMap,
     Frames,
+    FrameView,
     Position,
     Range,
     Scope,
@@ -24,6 +25,7 @@ from oxc_sourcemap import (
     ScopesCounts,
     ScopesFault,
     ScopeVariable,
+    ScopeView,
     SourceFrame,
     SourceMap,
     _library,
@@ -75,6 +77,8 @@ SPLIT, SPLIT_NAMES = "BAAA,DAC,DC,CJA,EDCFA,GEAG,HAAEFBCAADG,HCAAA,HBBAE,FCJ", [
 RECURSIVE = "BFAAA,DC,CJA,EGAA,GD,ECKA,GE,IABB,FK,FU"
 OF_NONE = "BFAAA,DC,CJA,EGAA,GD,EAK,FK,FU"
 TURNED = "BFAAA,DC,BABA,DC,CBC,CJA,ECAC,GC,ECKD,GD,FK,FU"
+# A block with b in f, whose code is in that of f; in it f was inlined, and there a block in the block has code, and the block itself none.
+DROPPED = "BFAAA,BABA,DC,BABA,CBA,CFA,CBA,EGAA,ECBC,GD,ECJD,IABB,ECBE,FE,FF,FT,FB"
 NESTED = "BFAAA,CJA,EGAA," + ",".join(["ECAA,IABC"] * 9) + ",FK" * 10
 
 
@@ -183,6 +187,10 @@ class OfScopes(Case):
         it = Scopes.decode(TURNED, 3)
         self.assertEqual(told(it.scope_chain_at(0, 5)), [(1, 0, [(2, 1)]), (0, None, [(1, None)])])
         self.assertEqual(told(it.scope_chain_at(0, 15)), [(0, 1, [(1, 2)])])
+        # (a block without code in its own activation has that of the outer one)
+        it = Scopes.decode(DROPPED, 4)
+        self.assertEqual(told(it.scope_chain_at(0, 12)), [(2, 3, []), (1, 1, [(1, 2)]), (0, 2, [])])
+        self.assertEqual(told(it.scope_chain(1, 0, 12)), [(1, 1, [(1, 2)]), (0, 0, [])])
         it = Scopes.decode(SPLIT, 6)
         for place, values in [((2, 8), [3, None, None]), ((2, 9), [4, None, None]), ((3, 0), [4, 3, None]), ((3, 2), [None, 3, None]), ((4, 8), [5, 3, None])]:
             self.assertEqual(told(it.scope_chain_at(*place)), [(0, 0, list(zip([0, 1, 2], values)))], place)
@@ -201,6 +209,46 @@ class OfScopes(Case):
             for call in (lambda: it.scope_chain_at(0, 0, wrong), lambda: it.scope_chain(0, 0, 0, wrong)):
                 with self.assertRaisesRegex(TypeError, "map is no SourceMap or CompiledMap, but "):
                     call()
+
+    def test_views(self):
+        it, map = Scopes.read(JSON), SourceMap.from_json(JSON)
+        whole = ScopeView(0, 0, [], "global", None)
+        of_inner = ScopeView(2, 2, [], "function", "inner")
+        of_outer = ScopeView(1, 1, [ScopeVariable(4, 6, "a", "x")], "function", "outer")
+        inner = [FrameView("a.js", 5, 2, "inner", [of_inner, whole]), FrameView("a.js", 3, 4, "outer", [of_outer, whole])]
+        with CompiledMap(map.compile()) as compiled:
+            for of in (map, compiled):
+                self.assertEqual(it.view(of, 0, 25), inner)
+                self.assertEqual(it.view(of, 0, 15), [FrameView("a.js", 1, 0, "outer", [of_outer, whole])])
+                self.assertEqual(it.view(of, 0, 5), [FrameView("a.js", 1, 0, None, [whole])])
+                # (no range, and no mapping)
+                self.assertEqual((it.view(of, 1, 0), it.view(of, 2, 0)), ([], []))
+        # A helper; no range; a range that is the code of no scope.
+        self.assertEqual(Scopes.decode("ENAA,FJA", 0).view(map, 0, 4), [])
+        self.assertEqual(Scopes.decode("EAU,FU", 0).view(map, 0, 4), [FrameView("a.js", 1, 0, None, [])])
+        self.assertEqual(Scopes.decode("EAA,FU", 0).view(map, 0, 4), [FrameView("a.js", 1, 0, None, [])])
+        for value in (it.view(map, 0, 25)[1], of_outer):
+            self.assertEqual(pickle.loads(pickle.dumps(value)), value)
+        for wrong in (None, 7, "map", it):
+            with self.assertRaisesRegex(TypeError, "map is no SourceMap or CompiledMap, but "):
+                it.view(wrong, 0, 0)
+
+    def test_views_of_a_recursion(self):
+        value = {"version": 3, "sources": ["a.js"], "names": ["f", "a", "x", "y"], "mappings": "AAAA,UAEI", "scopes": RECURSIVE}
+        it, map = Scopes.read(json.dumps(value)), SourceMap.from_json(json.dumps(value))
+
+        def told(*place):
+            return [(*frame[:4], [(v.name, v.value) for scope in frame.scopes for v in scope.variables]) for frame in it.view(map, *place)]
+
+        # The body is at 2:4, and was called from 1:1.
+        self.assertEqual(told(0, 15), [("a.js", 2, 4, "f", [("a", "y")]), ("a.js", 1, 1, "f", [("a", "x")])])
+        self.assertEqual(told(0, 25), [("a.js", 2, 4, "f", [("a", "x")])])
+        late = SourceMap.from_json(json.dumps(value | {"mappings": "KAEI"}))
+        self.assertEqual([frame[:3] for frame in it.view(late, 0, 1)], [(None, None, None)])
+        self.assertEqual([frame[:3] for frame in it.view(late, 0, 1, Bias.CLAMPED)], [("a.js", 2, 4)])
+        # (names that the map lacks)
+        few = SourceMap.from_json(json.dumps(value | {"names": ["f"]}))
+        self.assertEqual(it.view(few, 0, 25)[0].scopes, [ScopeView(0, 0, [ScopeVariable(1, 2, None, None)], None, "f")])
 
     def test_faults(self):
         rows = [
@@ -265,6 +313,9 @@ class OfScopes(Case):
 
     def test_codes_that_are_not_none(self):
         it = Scopes.read(JSON)
+        for call in ("smap_get_scope", "smap_scope_chain"):
+            with mock.patch.object(_library.lib, call, lambda *_: Code.BAD_OPTION):
+                self.fails(Code.BAD_OPTION, it.view, SourceMap.from_json(JSON), 0, 15)
         rows = [("get_scope", 0), ("get_range", 0), ("scope_at", 0, 0, 0), ("function_at", 0, 1, 0), ("range_at", 0, 0)]
         for name, *given in [*rows, ("get_variables", 0), ("value_at", 0, 0, 0, 0), ("scope_chain_at", 0, 0), ("scope_chain", 0, 0, 0)]:
             call = f"smap_{name}"
@@ -281,10 +332,14 @@ class OfScopes(Case):
         self.assertTrue(it.closed)
         self.assertEqual(repr(it), "<Scopes: closed>")
         it.close()
+        closed = read()
+        closed.close()
+        for call in (Scopes.read(JSON).trace, Scopes.read(JSON).view):
+            self.assertRaisesRegex(ValueError, "^The map is closed$", call, closed, 0, 0)
         for call in (it.counts, lambda: it.scopes, lambda: it.ranges, lambda: it.get_scope(0), lambda: it.get_range(0), lambda: it.scope_at(0, 0, 0),
                      lambda: it.function_at(0, 0, 0), lambda: it.range_at(0, 0), lambda: it.frames_at(0, 0), lambda: it.trace(read(), 0, 0),
-                     lambda: it.get_variables(0), lambda: it.value_at(0, 0, 0, 0), lambda: it.scope_chain_at(0, 0), lambda: it.scope_chain(0, 0, 0)):  # fmt: skip
-            self.is_closed(call)
+                     lambda: it.get_variables(0), lambda: it.value_at(0, 0, 0, 0), lambda: it.scope_chain_at(0, 0), lambda: it.scope_chain(0, 0, 0), lambda: it.view(read(), 0, 0)):  # fmt: skip
+            self.assertRaisesRegex(ValueError, "^The scopes are closed$", call)
         it = Scopes.read(JSON)
         for call in (pickle.dumps, copy.copy, copy.deepcopy):
             self.assertRaisesRegex(TypeError, "cannot be pickled", call, it)

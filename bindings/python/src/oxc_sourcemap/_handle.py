@@ -9,7 +9,7 @@ from collections.abc import Callable, Sequence
 from contextlib import suppress
 from ctypes import byref
 from threading import get_ident
-from typing import Any, Optional, TypeVar
+from typing import Any, ClassVar, Optional, TypeVar
 
 from . import _library
 from ._errors import check
@@ -41,6 +41,8 @@ class Handle:
     _held: dict[int, weakref.ref[Lease]]
     _lock: threading.RLock
     _is_changed = False
+    # How errors begin that say what it is.
+    _it_is: ClassVar[str] = "The map is"
 
     @classmethod
     def _made(cls: type[Self], call: Callable[..., int]) -> Self:
@@ -102,7 +104,7 @@ class Handle:
             return mine
         with self._lock:
             if self._is_changed:
-                raise RuntimeError("The map is being changed by a call that this one interrupts")
+                raise RuntimeError(f"{self._it_is} being changed by a call that this one interrupts")
             return self._lend(thread)
 
     def _lend(self, thread: int) -> tuple[int, Lease]:
@@ -125,7 +127,7 @@ class Handle:
         """The address of a map that is open."""
         if address := self._at.value:
             return address
-        raise ValueError("The map is closed")
+        raise ValueError(f"{self._it_is} closed")
 
     def _exclusively(self, call: Callable[[int], T], closes: bool = False) -> T:
         """What a call says that gets the address of the map while nobody else has it."""
@@ -134,10 +136,10 @@ class Handle:
         self._leases.pop(thread, None)
         held = self._held.get(thread)
         if held is not None and held() is not None:
-            raise RuntimeError("The map is being read by a call that this one interrupts")
+            raise RuntimeError(f"{self._it_is} being read by a call that this one interrupts")
         with self._lock:
             if self._is_changed:
-                raise RuntimeError("The map is being changed by a call that this one interrupts")
+                raise RuntimeError(f"{self._it_is} being changed by a call that this one interrupts")
             self._is_changed = True
             try:
                 self._wait_for_readers()

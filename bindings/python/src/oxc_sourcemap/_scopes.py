@@ -19,14 +19,16 @@ from ._values import (
     Bias,
     Call,
     Code,
+    FrameView,
     Frames,
     Position,
     Range,
     Scope,
     ScopeChainEntry,
     ScopeFrame,
-    ScopeVariable,
     ScopesCounts,
+    ScopeVariable,
+    ScopeView,
     SourceFrame,
     Text,
     id_of,
@@ -37,7 +39,8 @@ from ._values import (
 class Scopes(Handle):
     """The scopes of a map, its member `scopes`: for each source a tree of its functions and blocks, and for the generated code a tree
     of ranges, each with the scope that it is the code of. Names and kinds are ids of names of the map. Lines, columns, ids and indices
-    count from 0; columns are in UTF-16 code units. `close`, or the end of a `with`, frees them. Threads may share them, as a `SourceMap`.
+    count from 0; columns are in UTF-16 code units. `close`, or the end of a `with`, frees them: other calls then raise ValueError.
+    Threads may share them, as a `SourceMap`.
 
     >>> json = '{"version":3,"sources":["a.js"],"names":["f","g"],"mappings":"AAAA","scopes":"BFAAA,BFCAC,CCA,CFA,EGAA,ECKC,IAFC,FK,FU"}'
     >>> map, scopes = SourceMap.from_json(json), Scopes.read(json)
@@ -46,6 +49,8 @@ class Scopes(Handle):
     a.js 0 0 g
     a.js 5 2 f
     """
+
+    _it_is = "The scopes are"
 
     def __init__(self) -> None:
         raise TypeError("Scopes are made by read or decode")
@@ -211,8 +216,9 @@ class Scopes(Handle):
         return out.value if _is_there(code) else None
 
     def frames_at(self, line: int, column: int) -> Frames:
-        """The frames of the source that a frame of a stack trace at this position of the generated code stands for: none where no range
-        contains the position.
+        """The frames of the source that a frame of a stack trace at this position of the generated code stands for, frame 0 first: none,
+        and so no frame 0, where no range contains the position. `get_name(frame.name_id)` and `get_source(frame.call.source_id)` of the
+        map have the texts of those ids; `trace` and `view` list frames by their texts.
 
         >>> Scopes.decode("BFAAA,BFCAC,CCA,CFA,EGAA,ECKC,IAFC,FK,FU", names=2).frames_at(0, 12).frames[1]
         ScopeFrame(name_id=0, scope=0, call=Call(source_id=0, line=5, column=2))
@@ -246,8 +252,9 @@ class Scopes(Handle):
         self, line: int, column: int, map: Union[SourceMap, CompiledMap, None] = None
     ) -> list[ScopeChainEntry]:
         """The scopes that a position of the generated code is in, from the inside out, with their variables, whose texts are those of the
-        map: the scope that the innermost range is the code of, and those around it. An empty list where no range contains the position,
-        or that one is the code of no scope.
+        map: the scope that the innermost range is the code of, and those around it. An empty list where no range contains the position
+        (there `scope_chain` answers None, as there is no frame), or that one is the code of no scope. A `map` of another type raises
+        TypeError.
 
         >>> json = '{"version":3,"sources":["a.js"],"names":["f","a","x"],"mappings":"AAAA","scopes":"BFAAA,DC,CJA,EGAA,GD,FU"}'
         >>> Scopes.read(json).scope_chain_at(0, 4, SourceMap.from_json(json))[0].variables
@@ -259,8 +266,9 @@ class Scopes(Handle):
     def scope_chain(
         self, frame: int, line: int, column: int, map: Union[SourceMap, CompiledMap, None] = None
     ) -> Optional[list[ScopeChainEntry]]:
-        """The same of a frame of the source, by its index in `frames_at`, or None past the last one: for frame 0 the scopes of
-        `scope_chain_at`, for an inlined call those at its place, with the ranges around the inlined body.
+        """The scopes that a frame of the source is in, by its index in `frames_at`, from the inside out, with their variables: of frame 0
+        those of `scope_chain_at`, of an inlined call those at its place, with the ranges around the inlined body. None past the last
+        frame, so for frame 0 too where no range contains the position. A `map` of another type raises TypeError.
 
         >>> scopes = Scopes.decode("BFAAA,BFCAC,CCA,CFA,EGAA,ECKC,IAFC,FK,FU", names=2)
         >>> scopes.scope_chain(1, 0, 12)
@@ -293,9 +301,10 @@ class Scopes(Handle):
     def trace(
         self, map: Union[SourceMap, CompiledMap], line: int, column: int, bias: int = Bias.BEFORE
     ) -> list[SourceFrame]:
-        """The same with the sources and names of the map that has these scopes, which says where the first frame is. An empty list where
-        the frame is that of a helper (`is_hidden` of `frames_at`), and where neither ranges nor the map know the position; where no range
-        contains it, the place that the map alone knows, without a name.
+        """The frames of `frames_at`, from the inside out, with the texts of the map that has these scopes, which says where the first
+        frame is. An empty list where the frame is that of a helper (`is_hidden` of `frames_at`), and where neither ranges nor the map know
+        the position; where no range contains it, the place that the map alone knows, without a name. A `map` of another type raises
+        TypeError.
 
         >>> json = '{"version":3,"sources":["a.js"],"names":["f"],"mappings":"AAAA","scopes":"BFAAA,CJA,EGAA,FK"}'
         >>> Scopes.read(json).trace(SourceMap.from_json(json), 0, 4)
@@ -311,10 +320,33 @@ class Scopes(Handle):
             return [] if first[0] is None else [SourceFrame(*first, None)]
         traced: list[SourceFrame] = []
         for frame in frames:
-            name = None if frame.name_id is None else map.get_name(frame.name_id)
             place = first if frame.call is None else (map.get_source(frame.call.source_id), *frame.call[1:])
-            traced.append(SourceFrame(*place, name))
+            traced.append(SourceFrame(*place, _name_in(map, frame.name_id)))
         return traced
+
+    def view(
+        self, map: Union[SourceMap, CompiledMap], line: int, column: int, bias: int = Bias.BEFORE
+    ) -> list[FrameView]:
+        """What a debugger shows that is paused at a position of the generated code: the frames of `trace`, each with the scopes of
+        `scope_chain`, and so with the values of variables in it. A frame that the map alone knows has no scopes. A `map` of another
+        type raises TypeError.
+
+        >>> json = '{"version":3,"sources":["a.js"],"names":["f","a","x"],"mappings":"AAAA","scopes":"BFAAA,DC,CJA,EGAA,GD,FU"}'
+        >>> for frame in Scopes.read(json).view(SourceMap.from_json(json), 0, 4):
+        ...     print(*frame[:4])
+        ...     for scope in frame.scopes:
+        ...         print([(it.name, it.value) for it in scope.variables])
+        a.js 0 0 f
+        [('a', 'x')]
+        """
+        frames = enumerate(self.trace(map, line, column, bias))
+        chains = [(frame, self.scope_chain(index, line, column, map) or []) for index, frame in frames]
+        return [FrameView(*frame, [self._view_of(map, entry) for entry in chain]) for frame, chain in chains]
+
+    def _view_of(self, map: Union[SourceMap, CompiledMap], entry: ScopeChainEntry) -> ScopeView:
+        out = _library.Scope()
+        self._read(lambda at: check_code(lib.smap_get_scope(at, entry.scope, byref(out))))
+        return ScopeView(*entry, _name_in(map, id_of(out.kind)), _name_in(map, id_of(out.name)))
 
 
 def _is_there(code: int) -> bool:
@@ -375,5 +407,9 @@ def _value_in(at: int, range: int, variable: int, place: tuple[int, int]) -> Opt
 
 
 def _variable_of(map: Union[SourceMap, CompiledMap, None], name: int, value: Optional[int]) -> ScopeVariable:
-    texts = [None if map is None or it is None else map.get_name(it) for it in (name, value)]
+    texts = [_name_in(map, it) for it in (name, value)]
     return ScopeVariable(name, value, *texts)
+
+
+def _name_in(map: Union[SourceMap, CompiledMap, None], name: Optional[int]) -> Optional[str]:
+    return None if map is None or name is None else map.get_name(name)

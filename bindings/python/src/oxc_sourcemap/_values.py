@@ -363,12 +363,35 @@ class ScopeChainEntry(NamedTuple):
 
 
 class SourceFrame(NamedTuple):
-    """A frame of a stack trace in the source, with the texts of its map. What the map does not say is None."""
+    """A frame of a stack trace in the source, with the texts of its map: of the first frame the place to which `SourceMap.trace` leads,
+    or None three times if it leads to none; of any other that of the call, whose source is None if the map lacks it. `name` is None if
+    the function has none, or the map lacks it."""
 
     source: Optional[str]
     line: Optional[int]
     column: Optional[int]
     name: Optional[str]
+
+
+class ScopeView(NamedTuple):
+    """A `ScopeChainEntry` as a debugger shows it, with the texts of the scope's kind, as "function", and of its name; None if it has
+    none, or the map lacks it."""
+
+    scope: int
+    range: Optional[int]
+    variables: list[ScopeVariable]
+    kind: Optional[str]
+    name: Optional[str]
+
+
+class FrameView(NamedTuple):
+    """A `SourceFrame` with the scopes that it is in, from the inside out."""
+
+    source: Optional[str]
+    line: Optional[int]
+    column: Optional[int]
+    name: Optional[str]
+    scopes: list[ScopeView]
 
 
 class Mend(NamedTuple):

@@ -256,8 +256,8 @@ impl Scopes {
         (code == sys::SMAP_OK).then_some(index)
     }
 
-    /// The frames of the source that a frame of a stack trace at this position of the generated code stands for: none where no range
-    /// contains the position. Fails with `OutOfMemory`.
+    /// The frames of the source that a frame of a stack trace at this position of the generated code stands for: none, and so no frame
+    /// 0, where no range contains the position. Fails with `OutOfMemory`.
     ///
     /// ```
     /// use oxc_sourcemap::Scopes;
@@ -297,7 +297,8 @@ impl Scopes {
     }
 
     /// The scopes that a position of the generated code is in, from the inside out: that which the innermost range is the code of, and
-    /// those around it. None where no range contains the position, or that one is the code of none. Fails with `OutOfMemory`.
+    /// those around it. The list is empty where no range contains the position (there [`scope_chain`](Scopes::scope_chain) is None, as
+    /// there is no frame), or that one is the code of none. Fails with `OutOfMemory`.
     ///
     /// ```
     /// use oxc_sourcemap::Scopes;
@@ -318,9 +319,25 @@ impl Scopes {
         }))
     }
 
-    /// The same of a frame of the source, by its index in [`frames_at`](Scopes::frames_at): for frame 0 the scopes of
-    /// [`scope_chain_at`](Scopes::scope_chain_at), for an inlined call those at its place, with the ranges around the inlined body. None
-    /// past the last frame. Fails with `OutOfMemory`.
+    /// The scopes that a frame of the source is in, by its index in [`frames_at`](Scopes::frames_at): of frame 0 those of
+    /// [`scope_chain_at`](Scopes::scope_chain_at), of an inlined call those at its place, with the ranges around the inlined body. None
+    /// past the last frame, so for frame 0 too where no range contains the position. Fails with `OutOfMemory`.
+    ///
+    /// ```
+    /// use oxc_sourcemap::Scopes;
+    /// // a function f with a variable a, inlined into itself at columns 10 to 20: there a is y, and where that was called x
+    /// let names = ["f", "a", "x", "y"];
+    /// let scopes = Scopes::decode("BFAAA,DC,CJA,EGAA,GD,ECKA,GE,IABB,FK,FU", names.len())?;
+    /// let mut values = Vec::new();
+    /// for frame in 0..scopes.frames_at(0, 15)?.frames.len() as u32 {
+    ///     let entry = scopes.scope_chain(frame, 0, 15)?.unwrap()[0];
+    ///     values.push(names[scopes.value_at(entry.range.unwrap(), 0, 0, 15).unwrap() as usize]);
+    /// }
+    /// assert_eq!(values, ["y", "x"]);
+    /// // no range contains this position, so that there is no frame 0
+    /// assert_eq!((scopes.scope_chain(0, 9, 0)?, scopes.scope_chain_at(9, 0)?), (None, vec![]));
+    /// # Ok::<(), oxc_sourcemap::Error>(())
+    /// ```
     pub fn scope_chain(&self, frame: u32, line: u32, column: u32) -> Result<Option<Vec<ScopeChainEntry>>> {
         let entries = listed(|out, len, count| {
             // SAFETY: the scopes are live, there is room for so many entries, and the outputs are ours.

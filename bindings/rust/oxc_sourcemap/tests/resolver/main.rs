@@ -5,10 +5,13 @@ mod compiling;
 mod finding;
 mod forms;
 mod held;
+mod server;
+mod soak;
 mod threads;
 
 use oxc_sourcemap::resolver::{
-    Bases, Cache, Error, FolderStore, Frame, Limits, MOST_URL, Options, Reason, Resolved, Resolver, Store, frames_in,
+    Bases, Cache, Counts, Error, FolderStore, Frame, Limits, MOST_URL, Options, Reason, Resolved, Resolver, Store,
+    frames_in,
 };
 use oxc_sourcemap::{CompiledMap, SourceMap};
 use std::collections::HashMap;

@@ -488,7 +488,7 @@ fn printer<'a>(alloc: Global, name: &'a str, about: &'a str, words: &[Word]) -> 
 }
 
 /// The names of the commands, in the order in which help lists them.
-const COMMANDS: [&str; 17] = [
+const COMMANDS: [&str; 18] = [
     "trace",
     "resolve",
     "check",

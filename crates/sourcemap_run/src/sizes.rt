@@ -58,19 +58,19 @@ fn go_on(code: &str, reached: Reached, units: u32) -> Reached {
     reached
 }
 
-/// The pieces of a code, for the tokens of its sorted map: the source of a character is that of the token which the exact lookup finds where
-/// the character begins.
+/// The pieces of a code up to a line and column of this number, for the tokens of its sorted map: the source of a character is that of the
+/// token which the exact lookup finds where the character begins.
 ///
 /// Fails with `TooLarge` if the code has more than 4294967295 UTF-16 units, and with `OutOfMemory`.
-fn starts_of(alloc: Global, code: &str, tokens: &[Token]) -> Result<Vec<Start>>
+fn starts_of(alloc: Global, code: &str, tokens: &[Token], last: u32) -> Result<Vec<Start>>
     ensures { are_tokens_sorted tokens.now ≡ true → IfOk result (λ starts.
         map (λ s. s.source) starts.items
-        ≡ map source_of (pieces_of tokens.now 0 0 4294967295 4294967295)) }
+        ≡ map source_of (pieces_of tokens.now 0 0 last last)) }
 {
     let positions = TextPositions::new(alloc, code)?;
     let mut starts = Vec::new(alloc);
     let mut reached = Reached { units: 0, bytes: 0 };
-    for piece in pieces_in(tokens, 0, 0, u32::MAX, u32::MAX) {
+    for piece in pieces_in(tokens, 0, 0, last, last) {
         let units = units_before(&positions, piece.line, piece.col);
         reached = go_on(code, reached, units);
         starts.push(Start {
@@ -131,14 +131,14 @@ pub fn sizes_of(alloc: Global, len: usize, count: usize, starts: &[Start]) -> Me
 {
     let mut sizes = no_bytes(alloc, count)?;
     let mut from = 0usize;
-    let mut slot = count;
+    let mut source = None;
     for start in starts {
         let next = begin_of(len, from, start.offset);
-        add_bytes(&mut sizes, slot, next - from);
+        add_bytes(&mut sizes, slot_of(count, source), next - from);
         from = next;
-        slot = slot_of(count, start.source);
+        source = start.source;
     }
-    add_bytes(&mut sizes, slot, len - from);
+    add_bytes(&mut sizes, slot_of(count, source), len - from);
     Ok(sizes)
 }
 
@@ -155,6 +155,6 @@ pub fn sizes_of_code(
     ensures slots { IfOk result (λ sizes. length sizes.items ≡ count + 1) }
     ensures all { IfOk result (λ sizes. sum sizes.items ≡ length code.now) }
 {
-    let starts = starts_of(alloc, code, tokens)?;
+    let starts = starts_of(alloc, code, tokens, u32::MAX)?;
     Ok(sizes_of(alloc, code.len(), count, starts.as_slice())?)
 }

@@ -1,5 +1,5 @@
 //! The names of functions in frames, and the rows that frames are in.
-use crate::views::{Row, View};
+use crate::views::{Row, View, is_whole};
 
 /// The words that begin names of two words in Firefox and Safari, as `get x` and `global code`.
 const NAMES_OF_TWO: [&str; 5] = ["get", "set", "global", "module", "eval"];
@@ -153,6 +153,9 @@ pub fn calling_of(
     row: Option<(usize, usize)>,
 ) -> Option<Calling> {
     let name = name_in(front)?;
+    if !is_whole(name.text) {
+        return None; // (what is taken for a name goes over the end of a string or of a row of an unknown one)
+    }
     let lead = from.saturating_add(name.lead);
     let start = from.saturating_add(name.start);
     let (name_start, name_end) = view.place(start, start.saturating_add(name.text.len()));

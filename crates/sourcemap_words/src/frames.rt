@@ -2,7 +2,8 @@
 use crate::calling::{Calling, calling_of};
 use crate::failure::{Outcome, failure_of};
 use crate::views::{
-    Nesting, View, is_whole, json_strings, may_be_json, single_strings, without_strings,
+    Nesting, View, are_singles_outside, is_whole, json_strings, may_be_json, single_strings,
+    without_strings,
 };
 use regex::{Captures, Matcher, Regex};
 use std::alloc::{AllocError, Global};
@@ -476,7 +477,7 @@ impl<'r> Finder<'r> {
         search.parts.push(Part { step: next, ..row })?;
         let text = search.text(row);
         let strings = strings_of(alloc, text, is_single)?;
-        if strings.is_empty() {
+        if strings.is_empty() || !is_single && are_singles_outside(alloc, text)? {
             return Ok(());
         }
         if is_single || !may_be_json(text) {

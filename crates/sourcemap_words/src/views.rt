@@ -349,10 +349,24 @@ pub fn without_strings(
     Ok(out)
 }
 
+/// Whether a byte is one of a word.
+fn is_of_word(byte: u8) -> bool {
+    byte.is_ascii_alphanumeric() || !byte.is_ascii()
+}
+
 /// Whether the mark at a byte of a text is an apostrophe in a word.
 fn is_apostrophe(text: &str, at: usize) -> bool {
-    let is_word = |byte: u8| byte.is_ascii_alphanumeric() || !byte.is_ascii();
-    byte_before(text, at).is_some_and(is_word) && byte_behind(text, at).is_some_and(is_word)
+    byte_before(text, at).is_some_and(is_of_word) && byte_behind(text, at).is_some_and(is_of_word)
+}
+
+/// Whether all double quotes of a row are in strings in single quotes: then these are the outer ones.
+pub fn are_singles_outside(alloc: Global, text: &str) -> Result<bool, AllocError> {
+    if !text.contains('\'') {
+        return Ok(false);
+    }
+    let strings = single_strings(alloc, text)?;
+    let around = without_strings(alloc, text, strings.as_slice())?;
+    Ok(!around.contains('"'))
 }
 
 /// Whether a text in front of a frame or behind it has each of its strings whole, and no escaped line feed: else the frame stands in a

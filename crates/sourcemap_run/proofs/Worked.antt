@@ -17,6 +17,7 @@ use Rattle.sourcemap_run.specs.declared.counting.Mark.{Mark}
 use Rattle.sourcemap_run.specs.declared.frames.Cut.{Cut}
 use Rattle.sourcemap_run.specs.declared.frames.Target.{Target}
 use Rattle.sourcemap_run.specs.declared.raw_lines.Splice.{Splice}
+use Rattle.sourcemap_run.specs.declared.sizes.Start.{Start}
 use Rattle.sourcemap_run.specs.Counts.{original_count, missed_ranges}
 use Rattle.sourcemap_run.specs.Frames.{frame_position, answer_to, location_text, line_led_back}
 use Rattle.sourcemap_run.specs.Differences.{is_same_answer}
@@ -30,6 +31,7 @@ use Rattle.std.specs.Fmt.{digits}
 use Rattle.oxc_sourcemap_json.specs.JsonString.{json_string, escaped}
 use Rattle.sourcemap_run.specs.Bundled.{StandsAt, HasLineEnds, IsEnded}
 use Rattle.sourcemap_run.specs.RawLines.{spliced, are_in_row, IsMasked}
+use Rattle.sourcemap_run.specs.Sizes.{lengths_of, bytes_at}
 
 abbrev lent : Text → Bor Text
 lent text = record { ref_ptr = (0, 0); now = text }
@@ -239,3 +241,24 @@ has-one_line_end = (1, refl)
 
 is-ended : IsEnded (codes "a\n") (codes "a\n")
 is-ended = inl ((codes "a", refl), refl)
+
+-- ---- bytes of a code
+abbrev piece_start : ℕ → Option ℕ → Start
+piece_start offset source = record { offset = offset; source = source }
+
+-- of nine bytes; the third piece would begin ahead of the second one, and the fourth behind the code
+abbrev four_pieces : List Start
+four_pieces = piece_start 2 (Some 0) ∷ piece_start 5 None ∷ piece_start 4 (Some 1) ∷ piece_start 12 (Some 0) ∷ []
+
+sizes-of_pieces : lengths_of 9 four_pieces ≡ (None, 2) ∷ (Some 0, 3) ∷ (None, 0) ∷ (Some 1, 4) ∷ (Some 0, 0) ∷ []
+sizes-of_pieces = refl
+
+sizes-of_a_source : bytes_at 2 (lengths_of 9 four_pieces) 0 ≡ 3
+sizes-of_a_source = refl
+
+sizes-of_no_source : bytes_at 2 (lengths_of 9 four_pieces) 2 ≡ 2
+sizes-of_no_source = refl
+
+-- with source 1, which is not there
+sizes-of_no_source_of_one : bytes_at 1 (lengths_of 9 four_pieces) 1 ≡ 6
+sizes-of_no_source_of_one = refl

@@ -109,9 +109,9 @@ Examples:
   sourcemap page app.min.js app.min.js.map --template page.html -o app.html";
 
 const SIZE: &str =
-    "A character counts to the source that `trace` finds where it begins, and if there is none to [unmapped]: so do line feeds, and the codes add
-up. Sources are named by paths from the current folder, or, of --diff, as their maps name them. The bytes of a folder are those of all
-sources below it. Own code, which is of no package, is [own].
+    "A character, a line feed too, counts to the source that `trace` finds where it begins, or, if there is none, to [unmapped]: so each byte
+of a code counts once. Sources are named by their paths from the current folder; of --diff as their maps name them. A folder has the bytes
+of all sources below it, and [own] those of sources that are in no package.
 
 Examples:
   sourcemap size dist/*.js

@@ -8,7 +8,6 @@ use Rattle.oxc_sourcemap_parts.specs.Roots.{rooted}
 abbrev pub sources_of : List MapRecord → List Text
 sources_of maps = flat_map (λ m. m.sources) maps
 
--- The sources of a map are those of these maps, one after the other: the source root of each is put before its own. All else stays.
-pub record AreRooted (maps : List MapRecord) (old new : MapRecord) : Type 0 where
-  pub theirs : old.sources ≡ sources_of maps
-  pub whole : new ≡ record old { sources = sources_of (map rooted maps) }
+-- a map whose sources are those of these maps, one after the other, each behind the source root of its map; all else is as it was
+abbrev pub IsRooted : List MapRecord → MapRecord → MapRecord → Type 0
+IsRooted maps old new = new ≡ record old { sources = sources_of (map rooted maps) }

@@ -1,7 +1,7 @@
 //! The maps of the sections of an indexed map, and their source roots, for which the map that they make together has no place.
-ghost use Rattle.std.specs.Prelude.{◌≡◌, true, map, IfOk, OnOk, MatchBool};
-ghost use Rattle.oxc_sourcemap_parts.specs.Words.{cow_texts, record_of_parts, texts_of, rooted};
-ghost use Rattle.sourcemap_files.specs.Sections.{sources_of, AreRooted};
+ghost use Rattle.std.specs.Prelude.{◌≡◌, map, IfOk, MatchBool};
+ghost use Rattle.oxc_sourcemap_parts.specs.Words.{record_of_parts, texts_of, rooted};
+ghost use Rattle.sourcemap_files.specs.Sections.{sources_of, IsRooted};
 
 use crate::contents::copies_of;
 use crate::finding::found_error_text;
@@ -40,9 +40,7 @@ pub fn section_maps(
 }
 
 /// Whether two lists have the same texts.
-pub fn are_same(a: &[CowStr<'_>], b: &[CowStr<'_>]) -> bool
-    ensures { result ≡ true → cow_texts a.now ≡ cow_texts b.now }
-{
+pub fn are_same(a: &[CowStr<'_>], b: &[CowStr<'_>]) -> bool {
     a.len() == b.len()
         && a.iter()
             .zip(b.iter())
@@ -61,15 +59,26 @@ fn sources_of(alloc: Global, maps: &[SourceMapParts<'static>]) -> Outcome<Vec<Co
     Ok(sources)
 }
 
-/// Puts the source root of each map before its sources.
-fn root_all(alloc: Global, maps: &mut [SourceMapParts<'static>]) -> Memory<()>
-    ensures { OnOk result (map record_of_parts maps.new
-        ≡ map rooted (map record_of_parts maps.old)) }
+/// The sources of a map, its source root before each.
+fn rooted_sources(alloc: Global, map: SourceMapParts<'static>) -> Memory<Vec<CowStr<'static>>>
+    ensures { IfOk result (λ sources. texts_of sources
+        ≡ (rooted (record_of_parts map.entry)).sources) }
 {
+    let mut map = map;
+    apply_root(alloc, &mut map)?;
+    Ok(map.sources)
+}
+
+/// The sources of maps, one after the other, the source root of each before its own.
+fn all_rooted(alloc: Global, maps: Vec<SourceMapParts<'static>>) -> Memory<Vec<CowStr<'static>>>
+    ensures { IfOk result (λ sources. texts_of sources
+        ≡ sources_of (map rooted (map record_of_parts maps.entry.items))) }
+{
+    let mut sources = Vec::new(alloc);
     for map in maps {
-        apply_root(alloc, map)?;
+        sources.append(&mut rooted_sources(alloc, map)?)?;
     }
-    Ok(())
+    Ok(sources)
 }
 
 /// Puts the source roots of maps before the sources of the map that they make together, one after the other. Returns whether these are
@@ -80,17 +89,15 @@ fn put_roots(
     maps: Vec<SourceMapParts<'static>>,
 ) -> Outcome<bool>
     ensures { IfOk result (λ done. MatchBool done
-        (AreRooted (map record_of_parts maps.entry.items) (record_of_parts parts.old)
+        (IsRooted (map record_of_parts maps.entry.items) (record_of_parts parts.old)
         (record_of_parts parts.new))
         (record_of_parts parts.new ≡ record_of_parts parts.old)) }
 {
-    let mut maps = maps;
     let theirs = sources_of(alloc, maps.as_slice())?;
     if !are_same(theirs.as_slice(), parts.sources.as_slice()) {
         return Ok(false);
     }
-    root_all(alloc, maps.as_mut_slice())?;
-    parts.sources = sources_of(alloc, maps.as_slice())?;
+    parts.sources = all_rooted(alloc, maps)?;
     Ok(true)
 }
 

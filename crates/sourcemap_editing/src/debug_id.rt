@@ -61,14 +61,17 @@ fn id_of_code<'c>(file: &str, code: &'c str) -> Option<&'c str> {
 fn id_of_map(rt: &HostRuntime, map: &MapText) -> Outcome<Option<String>> {
     let alloc = rt.alloc();
     let parts = read_map_alone(rt, map)?;
-    if let Written::Text(text) = &map.written
-        && let Some(id) = debug_id_of_map(alloc, text.as_str())?
+    if let Some(id) = &parts.debug_id
+        && !id.as_str().is_empty()
     {
-        return Ok(Some(String::from_str(alloc, id)?));
+        return Ok(Some(String::from_str(alloc, id.as_str())?));
     }
-    match &parts.debug_id {
-        Some(id) if !id.as_str().is_empty() => Ok(Some(String::from_str(alloc, id.as_str())?)),
-        _ => Ok(None),
+    let Written::Text(text) = &map.written else {
+        return Ok(None);
+    };
+    match debug_id_of_map(alloc, text.as_str())? {
+        Some(id) => Ok(Some(String::from_str(alloc, id)?)),
+        None => Ok(None),
     }
 }
 
@@ -203,7 +206,9 @@ fn chosen_id(
     let (own, other) = (debug_id_of_code(code), debug_id_of_map(alloc, map)?);
     let Some(origin) = Origin::of(own, other, asked.has("force")) else {
         let text = agreement_text(alloc, own, name, other)?;
-        let why = format!(in alloc; "{text}: --force takes that of the map, or makes one")?;
+        let why = format!(in alloc;
+            "{text}: --force takes a UUID, first that of the map, or makes one"
+        )?;
         return Err(failure_of(alloc, file, why.as_str()));
     };
     let id = match origin {

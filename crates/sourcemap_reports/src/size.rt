@@ -6,12 +6,18 @@ use sourcemap_files::{
     Asked, Lookup, Progress, Status, map_of_code, plain_path, print, read_map_alone, shown_name,
     tell, usage, warn,
 };
-use sourcemap_run::{percent, push_number_member, push_object, push_text_member, sizes_of_code};
+use sourcemap_run::{percent, push_number_member, push_object, push_text_member, sizes_of, starts_of};
 use sourcemap_texts::{push_shown, stands_by_itself};
 use sourcemap_words::{Failure, Outcome, failure_of};
 use std::alloc::{AllocError, Global};
 use std::cmp::Ordering;
 use std::collections::BTreeMap;
+
+/// What stands between the parts of a path.
+const SLASHES: [char; 2] = ['/', '\\'];
+
+/// The name of a source that has none.
+const UNKNOWN: &str = "<unknown>";
 
 /// What bytes are told of.
 #[derive(Clone, Copy)]
@@ -59,6 +65,8 @@ struct Sizes {
     kind: Kind,
     /// Their bytes, by their names. Code of no package has an empty name.
     named: BTreeMap<String, u64>,
+    /// Of folders, the bytes of sources whose paths begin with so many `..`, by that number.
+    above: BTreeMap<usize, u64>,
     unmapped: u64,
     all: u64,
     codes: u32,
@@ -66,11 +74,12 @@ struct Sizes {
 
 /// The name of the package whose files have paths that begin so: up to the first slash, or, in a scope, up to the second one.
 fn package_in(path: &str) -> &str {
-    let mut end = path.find('/').unwrap_or(path.len());
+    let slashes = SLASHES.as_slice();
+    let mut end = path.find(slashes).unwrap_or(path.len());
     if path.starts_with('@') {
         let behind = end.saturating_add(1);
         let name = path.get(behind..).unwrap_or("");
-        end = behind.saturating_add(name.find('/').unwrap_or(name.len()));
+        end = behind.saturating_add(name.find(slashes).unwrap_or(name.len()));
     }
     path.get(..end).unwrap_or(path)
 }
@@ -79,7 +88,7 @@ fn package_in(path: &str) -> &str {
 fn package_of(source: &str) -> &str {
     let mut behind = "";
     let mut at = 0usize;
-    for part in source.split('/') {
+    for part in source.split(SLASHES.as_slice()) {
         at = at.saturating_add(part.len()).saturating_add(1);
         if part == "node_modules" {
             behind = source.get(at..).unwrap_or("");
@@ -88,10 +97,26 @@ fn package_of(source: &str) -> &str {
     package_in(behind)
 }
 
-/// Whether a source is below the folder that its path begins in, or has no folder in its path.
-fn is_below(source: &str) -> bool {
-    let leads_away = stands_by_itself(source) || source.starts_with("../");
-    !leads_away || !source.contains('/')
+/// How many `..` a path begins with, and what is behind them.
+fn climb(path: &str) -> (usize, &str) {
+    let mut rest = path;
+    let mut count = 0usize;
+    for _ in 0..path.len() {
+        match rest.strip_prefix("../") {
+            Some(behind) => rest = behind,
+            None => break,
+        }
+        count = count.saturating_add(1);
+    }
+    (count, rest)
+}
+
+/// The folder that is so many folders above the one that paths begin in.
+fn outer_folder(alloc: Global, count: usize) -> Result<String, AllocError> {
+    if count == 0 {
+        return String::from_str(alloc, "./");
+    }
+    "../".repeat(alloc, count)
 }
 
 /// Whether the front of a path, with a slash at its end, is a folder: where slashes stand in a row, as behind a scheme, up to the last one.
@@ -105,6 +130,7 @@ impl Sizes {
             alloc,
             kind,
             named: BTreeMap::new(alloc),
+            above: BTreeMap::new(alloc),
             unmapped: 0,
             all: 0,
             codes: 0,
@@ -122,17 +148,47 @@ impl Sizes {
         Ok(())
     }
 
-    /// Adds the bytes of a source to each folder that it is in.
-    fn add_to_folders(&mut self, source: &str, bytes: u64) -> Outcome<()> {
-        if is_below(source) {
-            self.add_to("./", bytes)?;
-        }
+    /// Adds the bytes of a source to each folder that its path names behind the first `from` bytes.
+    fn add_to_fronts(&mut self, source: &str, from: usize, bytes: u64) -> Outcome<()> {
         for (at, _) in source.match_indices('/') {
             let end = at.saturating_add(1);
             let front = source.get(..end).unwrap_or(source);
-            if is_folder(front, source.get(end..).unwrap_or("")) {
+            if end > from && is_folder(front, source.get(end..).unwrap_or("")) {
                 self.add_to(front, bytes)?;
             }
+        }
+        Ok(())
+    }
+
+    /// Adds the bytes of a source to each folder that it is in, but for those above it that its path does not name (`add_outer`).
+    fn add_to_folders(&mut self, source: &str, bytes: u64) -> Outcome<()> {
+        if stands_by_itself(source) && source.contains('/') {
+            return self.add_to_fronts(source, 0, bytes);
+        }
+        let (count, rest) = climb(source);
+        let sum = self.above.get(&count).copied().unwrap_or(0);
+        let _ = self.above.insert(count, sum.saturating_add(bytes))?;
+        let from = source.len().saturating_sub(rest.len());
+        self.add_to_fronts(source, from, bytes)
+    }
+
+    /// The bytes of sources whose paths begin with no more than so many `..`.
+    fn bytes_within(&self, count: usize) -> u64 {
+        let mut sum = 0u64;
+        for (above, bytes) in &self.above {
+            if *above <= count {
+                sum = sum.saturating_add(*bytes);
+            }
+        }
+        sum
+    }
+
+    /// Adds the folders that are so many folders above the one that paths begin in: each has the bytes of all sources below it.
+    fn add_outer(&mut self, counts: &[usize]) -> Outcome<()> {
+        for count in counts {
+            let bytes = self.bytes_within(*count);
+            let folder = outer_folder(self.alloc, *count)?;
+            self.add_to(folder.as_str(), bytes)?;
         }
         Ok(())
     }
@@ -169,6 +225,20 @@ impl Sizes {
             kind => kind,
         }
     }
+}
+
+/// The numbers of `..` with which paths of either begin, each once.
+fn outer_counts(alloc: Global, old: &Sizes, new: &Sizes) -> Result<Vec<usize>, AllocError> {
+    let mut counts = Vec::new(alloc);
+    for (count, _) in &old.above {
+        counts.push(*count)?;
+    }
+    for (count, _) in &new.above {
+        if !old.above.contains_key(count) {
+            counts.push(*count)?;
+        }
+    }
+    Ok(counts)
 }
 
 /// How many bytes something has in new codes, and had in old ones.
@@ -343,6 +413,7 @@ fn names_of(
     let mut names = Vec::new(alloc);
     for source in map.get_sources() {
         names.push(match current {
+            _current if source.is_empty() => String::from_str(alloc, UNKNOWN)?,
             Some(current) => path_from_here(alloc, current, folder, source)?,
             None => plain_path(alloc, "", source)?,
         })?;
@@ -367,7 +438,8 @@ fn add_file(
     map.apply_source_root(alloc)?;
     let names = names_of(alloc, &map, held.folder.as_str(), current)?;
     let tokens = map.get_tokens();
-    let bytes = sizes_of_code(alloc, text.as_str(), tokens.as_slice(), names.len())?;
+    let starts = starts_of(alloc, text.as_str(), tokens.as_slice(), u32::MAX)?;
+    let bytes = sizes_of(alloc, text.len(), names.len(), starts.as_slice())?;
     sizes.add_code(names.as_slice(), bytes.as_slice())?;
     sizes.all = sizes.all.saturating_add(text.len() as u64);
     Ok(None)
@@ -406,6 +478,8 @@ fn run_sizes(asked: &Asked<'_, '_>, codes: &[&str], kind: Kind) -> Outcome<Statu
     let (none, mut sizes) = (Sizes::new(alloc, kind), Sizes::new(alloc, kind));
     let trouble = add_files(asked, codes, &mut sizes)?;
     if sizes.codes > 0 {
+        let counts = outer_counts(alloc, &none, &sizes)?;
+        sizes.add_outer(counts.as_slice())?;
         let rows = rows_of(alloc, &none, &sizes)?;
         print_rows(asked, None, &sizes, rows.as_slice())?;
     }
@@ -432,8 +506,11 @@ fn run_diff(asked: &Asked<'_, '_>, codes: &[&str], kind: Kind) -> Outcome<Status
             "--diff compares two codes: name the old one and the new one",
         ));
     };
-    let old = sizes_of_build(asked, old, kind)?;
-    let new = sizes_of_build(asked, new, kind)?;
+    let mut old = sizes_of_build(asked, old, kind)?;
+    let mut new = sizes_of_build(asked, new, kind)?;
+    let counts = outer_counts(asked.alloc(), &old, &new)?;
+    old.add_outer(counts.as_slice())?;
+    new.add_outer(counts.as_slice())?;
     let rows = rows_of(asked.alloc(), &old, &new)?;
     print_rows(asked, Some(&old), &new, rows.as_slice())?;
     Ok(Status::of(rows.is_empty()))

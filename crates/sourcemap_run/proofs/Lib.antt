@@ -9,7 +9,6 @@ pub mod Marked
 pub mod FirstTexts
 pub mod LineCounts
 pub mod Sums
-pub mod SlotSizes
 pub mod Lcov
 pub mod CoveredApart
 pub mod Around

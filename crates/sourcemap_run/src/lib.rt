@@ -40,7 +40,7 @@ pub use oxc_sourcemap_queries::first_difference_of_parts;
 pub use page::{DATA_MARK, data_url, fill_template};
 pub use raw_lines::{Splice, push_spliced, text_of};
 pub use rebasing::rebase_sources;
-pub use sizes::{Start, sizes_of, sizes_of_code};
+pub use sizes::{Start, sizes_of, starts_of};
 pub use texts::{
     from_base, push_number, push_number_member, push_number_part, push_object, push_original,
     push_text_member,

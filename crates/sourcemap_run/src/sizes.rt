@@ -58,11 +58,11 @@ fn go_on(code: &str, reached: Reached, units: u32) -> Reached {
     reached
 }
 
-/// The pieces of a code up to a line and column of this number, for the tokens of its sorted map: the source of a character is that of the
-/// token which the exact lookup finds where the character begins.
+/// Where the pieces of a code begin up to a line and column of this number, and their sources, for the tokens of its sorted map: the source
+/// of a character is that of the token which the exact lookup finds where the character begins.
 ///
 /// Fails with `TooLarge` if the code has more than 4294967295 UTF-16 units, and with `OutOfMemory`.
-fn starts_of(alloc: Global, code: &str, tokens: &[Token], last: u32) -> Result<Vec<Start>>
+pub fn starts_of(alloc: Global, code: &str, tokens: &[Token], last: u32) -> Result<Vec<Start>>
     ensures { are_tokens_sorted tokens.now ≡ true → IfOk result (λ starts.
         map (λ s. s.source) starts.items
         ≡ map source_of (pieces_of tokens.now 0 0 last last)) }
@@ -140,21 +140,4 @@ pub fn sizes_of(alloc: Global, len: usize, count: usize, starts: &[Start]) -> Me
     }
     add_bytes(&mut sizes, slot_of(count, source), len - from);
     Ok(sizes)
-}
-
-/// How many bytes of a code come from each of `count` sources, by the tokens of its sorted map, and, behind those, how many from none. A
-/// character comes from the source of the token that the exact lookup finds where it begins. Together they are the bytes of the code.
-///
-/// Fails with `TooLarge` if the code has more than 4294967295 UTF-16 units, and with `OutOfMemory`.
-pub fn sizes_of_code(
-    alloc: Global,
-    code: &str,
-    tokens: &[Token],
-    count: usize,
-) -> Result<Vec<usize>>
-    ensures slots { IfOk result (λ sizes. length sizes.items ≡ count + 1) }
-    ensures all { IfOk result (λ sizes. sum sizes.items ≡ length code.now) }
-{
-    let starts = starts_of(alloc, code, tokens, u32::MAX)?;
-    Ok(sizes_of(alloc, code.len(), count, starts.as_slice())?)
 }

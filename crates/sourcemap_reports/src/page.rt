@@ -6,7 +6,7 @@ use sourcemap_files::{
     write_text,
 };
 use sourcemap_run::{DATA_MARK, fill_template, push_number_member, push_object, push_text_member};
-use sourcemap_words::{Outcome, failure_of};
+use sourcemap_words::{Failure, Outcome, failure_of};
 use std::alloc::{AllocError, Global};
 use std::env;
 
@@ -156,15 +156,24 @@ fn check_output(asked: &Asked<'_, '_>, map: &MapText) -> Outcome<()> {
     Ok(())
 }
 
+/// The failure of a code in whose place a map is named, with what is to be done.
+fn no_code(alloc: Global, code: &str, instead: &str) -> Failure {
+    match format!(in alloc; "is a map: {instead}") {
+        Ok(text) => failure_of(alloc, shown_name(code), text.as_str()),
+        Err(_) => Failure::Memory,
+    }
+}
+
 /// The text of a code. A map in its place is refused, with what is to be done.
 pub(crate) fn read_code(rt: &HostRuntime, code: &str, instead: &str) -> Outcome<String> {
-    match read_written(rt, code)? {
-        Written::Text(text) if !is_map(text.as_str()) => Ok(text),
-        _map => {
-            let text = format!(in rt.alloc(); "is a map: {instead}")?;
-            Err(failure_of(rt.alloc(), shown_name(code), text.as_str()))
-        }
+    let text = match read_written(rt, code)? {
+        Written::Text(text) => text,
+        Written::Compiled(_) => return Err(no_code(rt.alloc(), code, instead)),
+    };
+    if is_map(text.as_str()) {
+        return Err(no_code(rt.alloc(), code, instead));
     }
+    Ok(text)
 }
 
 /// Writes the page, and tells of it.

@@ -6,7 +6,9 @@ use sourcemap_files::{
     Asked, Lookup, Progress, Status, map_of_code, plain_path, print, read_map_alone, shown_name,
     tell, usage, warn,
 };
-use sourcemap_run::{percent, push_number_member, push_object, push_text_member, sizes_of, starts_of};
+use sourcemap_run::{
+    percent, push_number_member, push_object, push_text_member, sizes_of, starts_of,
+};
 use sourcemap_texts::{push_shown, stands_by_itself};
 use sourcemap_words::{Failure, Outcome, failure_of};
 use std::alloc::{AllocError, Global};

@@ -198,7 +198,10 @@ impl Sizes {
     fn add_source(&mut self, source: &str, bytes: u64) -> Outcome<()> {
         match self.kind {
             Kind::Folder => self.add_to_folders(source, bytes),
-            Kind::Package => self.add_to(package_of(source), bytes),
+            Kind::Package => {
+                let package = package_of(source).replace(self.alloc, '\\', "/")?;
+                self.add_to(package.as_str(), bytes)
+            }
             _kind => self.add_to(source, bytes),
         }
     }

@@ -174,7 +174,7 @@ impl<'a> Extract<'a> {
     fn write(&self, path: String, content: &str) -> Outcome<Fate>
         requires { IsBelow (string_bytes self.now.folder) (string_bytes path) }
         ensures { IfOk result (λ fate. IfSome (file_of fate) (λ file.
-            file ≡ string_bytes path.entry)) }
+            file ≡ string_bytes path)) }
     {
         let (rt, alloc) = (self.rt, self.alloc());
         let bytes = content.as_bytes();

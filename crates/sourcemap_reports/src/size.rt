@@ -88,15 +88,15 @@ fn package_in(path: &str) -> &str {
 
 /// The package of a source, by the last part `node_modules` of its path; empty if there is none.
 fn package_of(source: &str) -> &str {
-    let mut behind = "";
+    let mut behind = source.len();
     let mut at = 0usize;
     for part in source.split(SLASHES.as_slice()) {
         at = at.saturating_add(part.len()).saturating_add(1);
         if part == "node_modules" {
-            behind = source.get(at..).unwrap_or("");
+            behind = at;
         }
     }
-    package_in(behind)
+    package_in(source.get(behind..).unwrap_or(""))
 }
 
 /// How many `..` a path begins with, and what is behind them.

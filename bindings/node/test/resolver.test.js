@@ -57,8 +57,8 @@ const whyNot = ({ reason, detail }) => `${reason}: ${detail}`;
 
 const stored = join(REPOSITORY, 'tests/sourcemap/frames.json');
 test('the forms of frames that the program has', { skip: !fs.existsSync(stored) && 'the repository is not here' }, () => {
-  // (colour codes, JSON, React's and escaped URLs that climb are the program's alone, as is that it looks for folders)
-  const alone = ['\x1b', '"', 'rsc:', 'about:', '..', '%2e', 'other/', 'my%20', 'quote'];
+  // (colour codes, strings, React's and escaped URLs that climb are the program's alone, as is that it looks for folders)
+  const alone = ['\x1b', '"', "'", 'rsc:', 'about:', '..', '%2e', 'other/', 'my%20', 'quote'];
   const rows = JSON.parse(fs.readFileSync(stored, 'utf8')).filter((it) => it.words === undefined && !alone.some((part) => it.line.includes(part)));
   assert.ok(rows.length > 90);
   const codes = ['app.js', '(group)/app.js', 'node_modules/@scope/app.js', '@vite/app.js', 'index.android.bundle'];

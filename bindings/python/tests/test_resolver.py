@@ -70,8 +70,8 @@ class InFolder(Case):
 class Frames(Case):
     def test_forms_that_the_program_has(self):
         rows = json.loads((TOP / "tests/sourcemap/frames.json").read_text(encoding="utf-8"))
-        # (colour codes, JSON, React's and escaped URLs that climb are the program's alone, as is that it looks for folders)
-        alone = ("\x1b", '"', "rsc:", "about:", "..", "%2e", "other/", "my%20", "quote")
+        # (colour codes, strings, React's and escaped URLs that climb are the program's alone, as is that it looks for folders)
+        alone = ("\x1b", '"', "'", "rsc:", "about:", "..", "%2e", "other/", "my%20", "quote")
         rows = [row for row in rows if "words" not in row and not any(it in row["line"] for it in alone)]
         self.assertGreater(len(rows), 90)
         codes = ("app.js", "(group)/app.js", "node_modules/@scope/app.js", "@vite/app.js", "index.android.bundle")

@@ -11,13 +11,13 @@ use std::alloc::Global;
 pub struct Found {
     /// The map. It is sound.
     pub map: SourceMap<'static>,
-    /// What was mended, in the order in which it is looked at; empty if nothing was.
+    /// What was mended, in the order in which it is checked; empty if nothing was.
     pub mends: Vec<Mend>,
 }
 
-/// Reads the map of a JSON text as it is found: what docs/FORMAT.md, "Maps as they are found", lists is mended, and told of.
-/// This is what the exact reader refuses, and the order of tokens, which it leaves as it is. The map is sound: its tokens are
-/// sorted, and its ids in range. All its strings are owned.
+/// Reads the map of a JSON text as it is found: what docs/FORMAT.md, "Maps as they are found", lists is mended, and
+/// each mend is reported. These are things that the exact reader refuses, and the order of tokens, which it keeps. The map is
+/// sound: its tokens are sorted, and its ids are in range. It owns all its strings.
 ///
 /// ```rust
 /// use oxc_sourcemap::{MendKind, read_found};
@@ -29,8 +29,8 @@ pub struct Found {
 /// assert_eq!(rt; kinds, [MendKind::JsonPrefix, MendKind::NullSource(0)]);
 /// ```
 ///
-/// A text that the exact reader reads is read as the same map with its tokens sorted, and only `Unsorted` is told, if they were
-/// not; it reads each text of which nothing is told (`mending_harmless`). What is not in the list is refused, in this order:
+/// A text that the exact reader reads gives the same map with its tokens sorted, and only `Unsorted` is reported, if they were
+/// not; it reads each text of which no mend is reported (`mending_harmless`). All else is refused, in this order:
 /// - `BadJson(Reading)` if `serde_json` reads no value in what is left of the text, as for any URL but a data URL of JSON;
 /// - `BadJson(Shape(Object))` if the value is no object, and then the errors of `JSONSourceMap::from_value` for the mended object;
 /// - the errors of `decode_mappings`, for as many names and sources as there can be: a source or name id may be up to 4294967294;

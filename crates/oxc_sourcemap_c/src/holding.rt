@@ -1,4 +1,4 @@
-//! Handles, what they hold, and what is lent of it.
+//! Handles, what they hold, and what is borrowed of it.
 
 mod compiled;
 mod handle;

@@ -1,4 +1,4 @@
-//! Compiled maps, taken apart: the parts of the map, whose texts are lent from the bytes.
+//! Compiled maps, taken apart: the parts of the map, whose texts are borrowed from the bytes.
 ghost use Rattle.std.specs.Prelude.{◌≡◌, ◌+◌, ◌≤◌, ◌<◌, ◌++◌, ◌↔◌, map, option_map, IfOk, OnOk};
 ghost use Rattle.std.specs.Prelude.{IfSome, IsTrue, Some, None, Ok, length};
 ghost use Rattle.std.specs.List.{range_with_len};

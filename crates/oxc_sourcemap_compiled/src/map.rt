@@ -205,7 +205,7 @@ impl<'a> CompiledMap<'a> {
         }
     }
 
-    /// What a token points to, lent from the bytes; its content is `get_source_content`. None where it has no source id, one past
+    /// What a token points to, borrowed from the bytes; its content is `get_source_content`. None where it has no source id, one past
     /// the last source, or the source is not UTF-8.
     pub fn original_of(&self, token: Token) -> Option<CompiledOriginal<'a>>
         ensures there { IsTrue (is_some result) ↔ IsTrue (is_some (option_and_then
@@ -266,7 +266,7 @@ impl<'a> CompiledMap<'a> {
         self.opened.header.names
     }
 
-    /// The bytes of a source by its id, lent; None past the last one. They are UTF-8 where `compile` made the map.
+    /// The bytes of a source by its id, borrowed; None past the last one. They are UTF-8 where `compile` made the map.
     pub fn source_bytes(&self, id: u32) -> Option<&'a [u8]>
         ensures { lent_item result ≡ slice_get (compiled_in self.now).content.sources id }
     {
@@ -278,7 +278,7 @@ impl<'a> CompiledMap<'a> {
         }
     }
 
-    /// A source by its id, lent from the bytes; None past the last one, or where its bytes are not UTF-8; empty where its offsets go back, or
+    /// A source by its id, borrowed from the bytes; None past the last one, or where it is not UTF-8; empty where its offsets go back, or
     /// past the end.
     pub fn get_source(&self, id: u32) -> Option<&'a str>
         ensures { lent_item result ≡ listed_text (compiled_in self.now).content.sources id }
@@ -286,7 +286,7 @@ impl<'a> CompiledMap<'a> {
         utf8_of(self.source_bytes(id))
     }
 
-    /// The content of a source, lent from the bytes; None past the last one, or where it is not known, or not UTF-8.
+    /// The content of a source, borrowed from the bytes; None past the last one, or where it is not known, or not UTF-8.
     pub fn get_source_content(&self, id: u32) -> Option<&'a str>
         ensures { lent_item result ≡ optional_text
             (option_and_then (λ text. text)
@@ -295,7 +295,7 @@ impl<'a> CompiledMap<'a> {
         utf8_of(self.source_content_bytes(id))
     }
 
-    /// The bytes of the content of a source, lent; None past the last source, or where it is not known. They are UTF-8 where
+    /// The bytes of the content of a source, borrowed; None past the last source, or where it is not known. They are UTF-8 where
     /// `compile` made the map.
     pub fn source_content_bytes(&self, id: u32) -> Option<&'a [u8]>
         ensures { lent_item result ≡ option_and_then (λ text. text)
@@ -309,7 +309,7 @@ impl<'a> CompiledMap<'a> {
         }
     }
 
-    /// A name by its id, lent from the bytes; None past the last one, or where its bytes are not UTF-8; empty where its offsets go back, or
+    /// A name by its id, borrowed from the bytes; None past the last one, or where it is not UTF-8; empty where its offsets go back, or
     /// past the end.
     pub fn get_name(&self, id: u32) -> Option<&'a str>
         ensures { lent_item result ≡ listed_text (compiled_in self.now).content.names id }
@@ -317,7 +317,7 @@ impl<'a> CompiledMap<'a> {
         utf8_of(self.name_bytes(id))
     }
 
-    /// The bytes of a name by its id, lent; None past the last one. They are UTF-8 where `compile` made the map.
+    /// The bytes of a name by its id, borrowed; None past the last one. They are UTF-8 where `compile` made the map.
     pub fn name_bytes(&self, id: u32) -> Option<&'a [u8]>
         ensures { lent_item result ≡ slice_get (compiled_in self.now).content.names id }
     {
@@ -329,14 +329,14 @@ impl<'a> CompiledMap<'a> {
         }
     }
 
-    /// The name of the generated file, lent from the bytes; None where there is none, or it is not UTF-8.
+    /// The name of the generated file, borrowed from the bytes; None where there is none, or it is not UTF-8.
     pub fn get_file(&self) -> Option<&'a str>
         ensures { lent_item result ≡ optional_text (compiled_in self.now).content.file }
     {
         utf8_of(self.file_bytes())
     }
 
-    /// The bytes of the name of the generated file, lent; None where there is none. They are UTF-8 where `compile` made the map.
+    /// The bytes of the name of the generated file, borrowed; None where there is none. They are UTF-8 where `compile` made the map.
     pub fn file_bytes(&self) -> Option<&'a [u8]>
         ensures { lent_item result ≡ (compiled_in self.now).content.file }
     {
@@ -344,14 +344,14 @@ impl<'a> CompiledMap<'a> {
         opened.optional_text(2 * opened.header.sources + opened.header.names)
     }
 
-    /// The source root, lent from the bytes; None where there is none, or it is not UTF-8.
+    /// The source root, borrowed from the bytes; None where there is none, or it is not UTF-8.
     pub fn get_source_root(&self) -> Option<&'a str>
         ensures { lent_item result ≡ optional_text (compiled_in self.now).content.source_root }
     {
         utf8_of(self.source_root_bytes())
     }
 
-    /// The bytes of the source root, lent; None where there is none. They are UTF-8 where `compile` made the map.
+    /// The bytes of the source root, borrowed; None where there is none. They are UTF-8 where `compile` made the map.
     pub fn source_root_bytes(&self) -> Option<&'a [u8]>
         ensures { lent_item result ≡ (compiled_in self.now).content.source_root }
     {
@@ -359,14 +359,14 @@ impl<'a> CompiledMap<'a> {
         opened.optional_text(2 * opened.header.sources + opened.header.names + 1)
     }
 
-    /// The debug id, lent from the bytes; None where there is none, or it is not UTF-8.
+    /// The debug id, borrowed from the bytes; None where there is none, or it is not UTF-8.
     pub fn get_debug_id(&self) -> Option<&'a str>
         ensures { lent_item result ≡ optional_text (compiled_in self.now).content.debug_id }
     {
         utf8_of(self.debug_id_bytes())
     }
 
-    /// The bytes of the debug id, lent; None where there is none. They are UTF-8 where `compile` made the map.
+    /// The bytes of the debug id, borrowed; None where there is none. They are UTF-8 where `compile` made the map.
     pub fn debug_id_bytes(&self) -> Option<&'a [u8]>
         ensures { lent_item result ≡ (compiled_in self.now).content.debug_id }
     {
@@ -374,7 +374,7 @@ impl<'a> CompiledMap<'a> {
         opened.optional_text(2 * opened.header.sources + opened.header.names + 2)
     }
 
-    /// The number of bytes of the text that the map was read from, as `compile` was told.
+    /// The number of bytes of the text that the map was read from, as it was given to `compile`.
     pub fn text_length(&self) -> u64
         ensures { result ≡ (compiled_in self.now).text_length }
     {

@@ -61,7 +61,7 @@ fn join_maps(
     }
 }
 
-/// The parts of the map of an indexed map. What is mended is told of after what was mended before.
+/// The parts of the map of an indexed map. Its mends are added behind the mends so far.
 fn parts_of_indexed(
     alloc: Global,
     object: Map<String, Value>,
@@ -86,7 +86,7 @@ fn parts_of_indexed(
     join_maps(alloc, cut.maps, file)
 }
 
-/// The parts of the map of a map by itself. What is mended is told of after what was mended before.
+/// The parts of the map of a map by itself. Its mends are added behind the mends so far.
 fn parts_of_plain(
     alloc: Global,
     object: Map<String, Value>,
@@ -103,7 +103,7 @@ fn parts_of_plain(
     Ok(map.parts)
 }
 
-/// The parts of the map of a JSON value. What is mended is told of after what was mended before.
+/// The parts of the map of a JSON value. Its mends are added behind the mends so far.
 fn parts_of_value(
     alloc: Global,
     value: Value,
@@ -164,7 +164,7 @@ fn read_exact(alloc: Global, text: &str) -> Memory<Option<FoundParts>>
     }
 }
 
-/// Reads the parts of the map of a text as `read_found_parts` does; an error has the place that `found_fault_at` tells.
+/// Reads the parts of the map of a text as `read_found_parts` does; an error has the place that `found_fault_at` returns.
 pub fn read_located(alloc: Global, text: &str) -> Located<FoundParts>
     ensures map { Reads found_view result (found text.now) }
     ensures place { IfErr result (IsFoundFault text.now) }

@@ -6,7 +6,7 @@ ghost use Rattle.oxc_sourcemap_found.specs.Words.{FoundIsSound, UnmendedIsExact}
 /// - A text that the exact reader reads as a sorted map is read as this map, and nothing is mended (`exact`).
 /// - A text that the exact reader reads is read as this map with its tokens sorted, and only that they were not is mended: no
 ///   token is left out (`unsorted`).
-/// - A text of which no mend is told is one that the exact reader reads as this map: the list of mends is complete (`complete`).
+/// - A text for which no mend is reported is one that the exact reader reads as this map: the list of mends is complete (`complete`).
 /// - The members of a mended object have nothing to mend (`mended`).
 /// - A map that is found is sound: sorted, with its ids in range (`sound`).
 ///

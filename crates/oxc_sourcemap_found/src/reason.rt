@@ -1,4 +1,4 @@
-//! What is really wrong with a text as it is found, where its error does not tell.
+//! What is really wrong with a text as it is found, where its error does not say it.
 ghost use Rattle.oxc_sourcemap_found.specs.Words.{OnlyMemory};
 
 use crate::opening::open;
@@ -28,10 +28,10 @@ fn text_reason(text: &str, json: &CowStr<'_>, spot: FaultSpot) -> Option<FaultRe
     }
 }
 
-/// What is really wrong with a text at the place of its fault, where the text of the error says something else: `None` where that tells
+/// What is really wrong with a text at the place of its fault, where the text of the error says something else: `None` where that says it
 /// already, and where the text has no such fault. The text is one that `decode_from_string` or `read_found` refused, and the place is the one
-/// that `json_fault_at` or `found_fault_at` tells of it; a number of a text in the place does not count. Of several faults in a segment it
-/// is the one that `decode_from_string` reports. A text that is no JSON object is taken for mappings, whose ids are not compared with
+/// that `json_fault_at` or `found_fault_at` returns for it; a number of a text in the place does not count. Of several faults in a
+/// segment it is the one that `decode_from_string` reports. A text that is no JSON object is taken for mappings, whose ids are not compared with
 /// numbers of names and sources: `mappings_fault_reason` does that. Fails only with `OutOfMemory`.
 ///
 /// ```rust

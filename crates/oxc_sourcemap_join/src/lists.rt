@@ -209,7 +209,7 @@ impl<'a> Lists<'a> {
     }
 }
 
-/// The strings of a map, and how they come into a join: lent, moved or copied.
+/// The strings of a map, and how they come into a join: borrowed, moved or copied.
 pub(crate) trait Strings<'a>: Drop {
     ghost names: { Self → List Text };
 
@@ -246,7 +246,7 @@ pub(crate) trait Strings<'a>: Drop {
             ≡ lists.old.contents.items };
 }
 
-/// The strings of a map, lent.
+/// The strings of a map, borrowed.
 #[derive(Clone, Copy)]
 pub(crate) struct Lent<'a>(pub(crate) &'a SourceMapParts<'a>);
 

@@ -268,7 +268,7 @@ fn tokens_in_bounds(tokens: &[Token])
     }
 }
 
-/// Adds moved tokens if all of them are in bounds then, and tells whether they are; otherwise the list is as it was. It adds
+/// Adds moved tokens if all of them are in bounds then, and returns whether they are; otherwise the list is as it was. It adds
 /// them first, and takes them away again, since they seldom are not.
 #[inline(always)]
 fn push_moved(tokens: &mut Vec<Token>, shift: Shift, added: &[Token]) -> bool

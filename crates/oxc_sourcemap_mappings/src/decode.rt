@@ -537,7 +537,7 @@ fn after_comma(text: &[u8]) -> &[u8]
     }
 }
 
-/// Reads a `mappings` text as `decode_mappings` does, and tells of an error where it is: at the segment that `mappings_fault_at` tells.
+/// Reads a `mappings` text as `decode_mappings` does, and an error has its place: the segment that `mappings_fault_at` returns.
 pub fn read_mappings(
     alloc: Global,
     text: &str,

@@ -6,7 +6,7 @@ ghost use Rattle.oxc_sourcemap_mappings.specs.Words.{reading, fault_place};
 use crate::decode::Sums;
 use oxc_sourcemap_tokens::SegmentPlace;
 
-/// Where the first segment with a fault begins, as `mappings_fault_at` tells it, and the sums of the fields before it.
+/// Where the first segment with a fault begins, as `mappings_fault_at` returns it, and the sums of the fields before it.
 pub(crate) fn first_fault(text: &str, names: usize, sources: usize) -> Option<(SegmentPlace, Sums)>
     ensures place { option_map (λ found. found.0) result ≡ fault_place text.now names sources }
     ensures within { IfSome result (λ found. found.0.byte ≤ length text.now) }

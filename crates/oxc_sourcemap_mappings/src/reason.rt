@@ -1,4 +1,4 @@
-//! What is really wrong with a segment whose error does not tell.
+//! What is really wrong with a segment whose error does not say it.
 ghost use Rattle.std.specs.Prelude.{◌≡◌, IsSome, IfSome, IsErr};
 ghost use Rattle.oxc_sourcemap_mappings.specs.Words.{reading, place_of, value, AreSmall};
 ghost use Rattle.oxc_sourcemap_mappings.specs.Words.{IsReasonOf, moved_by_all};
@@ -72,7 +72,7 @@ fn below_zero(sums: Sums, fields: &Fields) -> Option<SegmentReason>
     }
 }
 
-/// The source id of a segment, if it is below 0, or is not the one that the error tells.
+/// The source id of a segment, if it is below 0, or is not the one that the error names.
 fn source_reason(sums: Sums, fields: &Fields, told: u32) -> Option<SegmentReason>
     requires small { AreSmall fields.now }
     ensures { IfSome result (IsReasonOf (moved_by_all (place_of sums) (value fields.now))) }
@@ -109,8 +109,8 @@ fn reason_of(error: Error, sums: Sums, fields: &Fields) -> Option<SegmentReason>
     }
 }
 
-/// What is really wrong with the first segment with a fault, where its error does not tell: a byte in it that is no digit, else the number that
-/// is below 0 or that is no id. None where the error tells, and if the text has no fault. Takes no memory.
+/// What is really wrong with the first segment with a fault, where its error does not say it: a byte in it that is no digit, else the number
+/// that is below 0 or that is no id. None where the error says it, and if the text has no fault. Takes no memory.
 ///
 /// ```rust
 /// use oxc_sourcemap::{SegmentReason, mappings_fault_reason};

@@ -1,5 +1,5 @@
 //! Laws of the definitions; and plans: pipelines of reading, rewriting, simplifying, joining, composing and remapping maps and of
-//! applying source roots. `evaluate_to_parts` makes the map that a plan means, `evaluate_where` tells the text at fault, and
+//! applying source roots. `evaluate_to_parts` makes the map that a plan means, `evaluate_where` also names the text at fault, and
 //! `read_plan` reads a plan from words. Part of `oxc_sourcemap`.
 #![tactic(auto)]
 

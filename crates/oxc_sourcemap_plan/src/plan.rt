@@ -425,7 +425,7 @@ fn evaluate_remapping<'t>(
     Ok(remap(alloc, map, maps)?)
 }
 
-/// Evaluates a plan, as parts, and tells the first text that cannot be read, if the error is that of one. `evaluate` of the crate
+/// Evaluates a plan, as parts, and names the first text that cannot be read, if the error is that of one. `evaluate` of the crate
 /// `oxc_sourcemap` makes a map of these parts, and has the rules.
 pub fn evaluate_where<'t>(
     alloc: Global,

@@ -41,7 +41,7 @@ pub enum ScopesFaultKind {
     /// It is empty, or lacks a number that its tag and flags ask for.
     MissingNumber,
     /// Its index of a name or of a scope is below 0, past the last one (of scopes, the last that starts before it in the text), or above
-    /// 4294967294; or it has sub-ranges of a value that no item before it tells of.
+    /// 4294967294; or it has sub-ranges of a value that no item before it introduces.
     BadIndex,
     /// It is an end, variables, values, sub-ranges or a call site, and nothing that it could belong to is open.
     NothingOpen,

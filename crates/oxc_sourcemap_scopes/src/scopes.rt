@@ -17,7 +17,7 @@ pub(crate) struct Span {
     pub(crate) parent: Option<usize>,
 }
 
-/// What is said of a scope beside where it lies. Its name and its kind are indices of names.
+/// What a scope has beside its place. Its name and its kind are indices of names.
 #[derive(Clone, Copy)]
 pub(crate) struct ScopeInfo {
     pub(crate) name: Option<u32>,
@@ -25,7 +25,7 @@ pub(crate) struct ScopeInfo {
     pub(crate) is_stack_frame: bool,
 }
 
-/// What is said of a range beside where it lies.
+/// What a range has beside its place.
 #[derive(Clone, Copy)]
 pub(crate) struct RangeInfo {
     /// The index of the scope that it is the code of.
@@ -58,7 +58,7 @@ pub struct ScopeFrame {
 pub(crate) struct Value {
     /// The index of the name that has its expression; None if it has no value.
     pub(crate) expression: Option<u32>,
-    /// It is another from positions on that its pieces tell.
+    /// It changes at positions that its pieces have.
     pub(crate) is_split: bool,
 }
 

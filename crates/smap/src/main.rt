@@ -7,8 +7,8 @@
 //!     smap url < bundle.js.map
 //!
 //! An error is printed on standard error after `smap: `, and the status is then 2 for bad arguments and 1 for all else. After
-//! `smap --where` a second line tells the place of the fault in the input, if the error has one, and what is really wrong there, if the
-//! error does not tell.
+//! `smap --where` a second line has the place of the fault in the input, if the error has one, and what is really wrong there, if the
+//! error does not say it.
 #![tactic(auto)]
 
 use smap_run::{Failure, Port, RunError, read_words, run, run_where, take_where};

@@ -14,7 +14,7 @@ pub struct Failure {
     pub error: RunError,
     /// Where the input has the fault, if the error has a place in it.
     pub place: Option<FaultPlace>,
-    /// What is really wrong there, if the text of the error does not tell.
+    /// What is really wrong there, if the text of the error does not say it.
     pub reason: Option<FaultReason>,
 }
 

@@ -1,4 +1,4 @@
-//! Running a command that tells where its input has a fault, and what is really wrong there.
+//! Running a command that reports where its input has a fault, and what is really wrong there.
 ghost use Rattle.std.specs.Prelude.{◌≡◌, ◌≢◌, ◌++◌, ◌∷◌, [], ℕ, List, IfErr, OnOk};
 ghost use Rattle.std.specs.Prelude.{IsUtf8, true, false};
 ghost use Rattle.std.specs.Io.KnownBytes.{Appends, Keeps};
@@ -35,8 +35,8 @@ fn plan_reason(alloc: Global, input: &str, place: &FaultPlace) -> Option<FaultRe
     json_fault_reason(alloc, text, place).ok()?
 }
 
-/// What is really wrong with the input of a command at this place of it, which `answer` tells. None if there is no place, if the
-/// text of the error tells already, and for want of memory.
+/// What is really wrong with the input of a command at this place of it, which `answer` has. None if there is no place, if the
+/// text of the error says it already, and for want of memory.
 fn place_reason(
     alloc: Global,
     command: &Command<'_>,
@@ -56,7 +56,7 @@ fn place_reason(
     }
 }
 
-/// Runs a command as `run` does, and tells where the input has the fault if that fails, and what is really wrong there. There is a
+/// Runs a command as `run` does, and reports where the input has the fault if that fails, and what is really wrong there. There is a
 /// place exactly if the error is that of reading a text, unless it is `TooLarge` of a plan that passes a limit. Of a plan it is in the
 /// first of its texts that cannot be read, whose number is the K of `@K`: that of the first text of the input with these bytes. The
 /// input is kept to the end, so that the memory for it is taken twice.

@@ -369,17 +369,26 @@ pub fn are_singles_outside(alloc: Global, text: &str) -> Result<bool, AllocError
     Ok(!around.contains('"'))
 }
 
+/// Whether a word is a path of Windows with a drive, where a backslash escapes nothing.
+fn is_of_drive(word: &str) -> bool {
+    matches!(word.as_bytes(), [drive, b':', b'\\', ..] if drive.is_ascii_alphabetic())
+}
+
 /// Whether a text in front of a frame or behind it has each of its strings whole, and no escaped line feed: else the frame stands in a
-/// string that is cut off or unknown, and how a row ends there cannot be told.
+/// string that is cut off or unknown, and how a row ends there is unknown. A mark right behind a word opens no string (`the users' list`).
 pub fn is_whole(text: &str) -> bool {
     let (mut doubles, mut singles, mut ticks) = (false, false, false);
     for (at, byte) in text.bytes().enumerate() {
+        let is_behind_word = byte_before(text, at).is_some_and(is_of_word);
         match byte {
-            b'"' => doubles = !doubles,
-            b'`' => ticks = !ticks,
-            b'\'' if !is_apostrophe(text, at) => singles = !singles,
+            b'"' => doubles = !doubles && !is_behind_word,
+            b'`' => ticks = !ticks && !is_behind_word,
+            b'\'' if !is_apostrophe(text, at) => singles = !singles && !is_behind_word,
             _ => {}
         }
     }
-    !doubles && !singles && !ticks && !text.contains("\\n")
+    let has_line_feed = text
+        .split(' ')
+        .any(|word| word.contains("\\n") && !is_of_drive(word));
+    !doubles && !singles && !ticks && !has_line_feed
 }

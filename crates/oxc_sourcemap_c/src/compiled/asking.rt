@@ -160,7 +160,7 @@ fn counts_in(map: &CompiledMap<'_>) -> CompiledCounts
     }
 }
 
-/// The counts of the compiled map that is lent.
+/// The counts of the compiled map that is borrowed.
 fn counts(map: &Lent) -> Result<CompiledCounts, CallError>
     ensures { MatchOption (held_compiled map.now.held) (result ≡ Err NullHandle)
         (λ bytes. result ≡ Ok (compiled_counts_of bytes)) }
@@ -178,7 +178,7 @@ pub extern "C" fn proved_compiled_counts(map: &Lent, out: &mut CompiledCounts) -
     write_found(counts(map), out)
 }
 
-/// A token of the compiled map that is lent.
+/// A token of the compiled map that is borrowed.
 fn token(map: &Lent, index: u32) -> Result<TokenNumbers, CallError>
     ensures { IsCompiledToken map.now.held index result }
 {
@@ -228,7 +228,7 @@ fn text_in<'c>(map: &'c CompiledMap<'static>, asked: Asked) -> Option<&'c [u8]>
     }
 }
 
-/// A text of the compiled map that is lent.
+/// A text of the compiled map that is borrowed.
 fn text<'c>(map: Lent, kind: u32, id: u32) -> Result<Text<'c>, CallError>
     ensures { IsCompiledText map.held kind id result }
 {
@@ -240,7 +240,7 @@ fn text<'c>(map: Lent, kind: u32, id: u32) -> Result<Text<'c>, CallError>
     }
 }
 
-/// A text of a compiled map, by its kind and its id, lent.
+/// A text of a compiled map, by its kind and its id, borrowed.
 #[unsafe(no_mangle)]
 pub extern "C" fn proved_compiled_text<'c>(map: Lent, kind: u32, id: u32, out: &mut Text<'c>) -> u32
     ensures { (answer : Result LentText CallError) × IsCompiledText map.held kind id answer
@@ -249,14 +249,14 @@ pub extern "C" fn proved_compiled_text<'c>(map: Lent, kind: u32, id: u32, out: &
     write_found(text(map, kind, id), out)
 }
 
-/// The stamp of the compiled map that is lent.
+/// The stamp of the compiled map that is borrowed.
 fn stamp<'c>(map: Lent) -> Result<Text<'c>, CallError>
     ensures { IsStamp map.held result }
 {
     Ok(Text::of_bytes(Some(map.into_compiled()?.stamp())))
 }
 
-/// The 32 bytes that a compiled map was made with, lent.
+/// The 32 bytes that a compiled map was made with, borrowed.
 #[unsafe(no_mangle)]
 pub extern "C" fn proved_compiled_stamp<'c>(map: Lent, out: &mut Text<'c>) -> u32
     ensures { (answer : Result LentText CallError) × IsStamp map.held answer
@@ -265,7 +265,7 @@ pub extern "C" fn proved_compiled_stamp<'c>(map: Lent, out: &mut Text<'c>) -> u3
     write_found(stamp(map), out)
 }
 
-/// Whether the ignore list of the compiled map that is lent has this id: 1 or 0.
+/// Whether the ignore list of the compiled map that is borrowed has this id: 1 or 0.
 fn is_ignored(map: &Lent, id: u32) -> Result<u32, CallError>
     ensures { IsIgnoredFlag map.now.held id result }
 {

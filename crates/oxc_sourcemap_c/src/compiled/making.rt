@@ -41,7 +41,7 @@ fn compile_map(
     Ok(compile(alloc, parts_of(map), text_length, stamp)?)
 }
 
-/// The bytes of the map that is lent, compiled.
+/// The bytes of the map that is borrowed, compiled.
 fn compile_lent(
     alloc: Global,
     map: &Lent,

@@ -1,4 +1,4 @@
-//! What C lends to a call for reading.
+//! What a call borrows from C for reading.
 ghost use Rattle.std.specs.Prelude.{Option, List, ℕ};
 ghost use Rattle.oxc_sourcemap_c.specs.declared.holding.held.Held.{Held};
 ghost use Rattle.oxc_sourcemap_c.specs.Handles.{held_coded};
@@ -12,7 +12,7 @@ use oxc_sourcemap_map::OwnedSourceMap;
 use oxc_sourcemap_scopes::Scopes;
 use std::marker::Model;
 
-/// What C lends to a call: null, or a shared borrow of what a handle holds, for the lifetime `life`.
+/// What a call borrows from C: null, or a shared borrow of what a handle holds, for the lifetime `life`.
 #[repr(C)]
 #[derive(Drop)]
 pub struct Lent {
@@ -31,7 +31,7 @@ impl Lent {
     ghost use Rattle.oxc_sourcemap_c.specs.Holding.{held_mends, held_compiled, held_scopes};
     ghost use Rattle.oxc_sourcemap_c.specs.declared.numbers.call_error.CallError.TheVariants.{NullHandle};
 
-    /// What is lent. None for null.
+    /// What is borrowed. None for null.
     pub fn get(&self) -> Option<&Held>
         ensures { option_map (λ r. r.now) result ≡ self.now.held }
     {
@@ -43,7 +43,7 @@ impl Lent {
         }
     }
 
-    /// What is lent, for as long as is asked for: the share of the token of its lifetime is kept for so long. None for null.
+    /// What is borrowed, for as long as is asked for: the share of the token of its lifetime is kept for so long. None for null.
     pub fn into_held<'c>(self) -> Option<&'c Held>
         ensures { option_map (λ r. r.now) result ≡ self.held }
     {
@@ -55,7 +55,7 @@ impl Lent {
         }
     }
 
-    /// The map that is lent, as by `into_held`. Fails with `NullHandle` if there is none.
+    /// The map that is borrowed, as by `into_held`. Fails with `NullHandle` if there is none.
     #[inline(always)]
     pub fn into_map<'c>(self) -> Result<&'c LoadedMap, CallError>
         ensures map { MatchOption (held_map self.held) (result ≡ Err NullHandle)
@@ -69,7 +69,7 @@ impl Lent {
         }
     }
 
-    /// The bytes of the text that is lent, or those of a compiled map, as by `into_held`. Fails with `NullHandle` if there are none.
+    /// The bytes of the text that is borrowed, or those of a compiled map, as by `into_held`. Fails with `NullHandle` if there are none.
     pub fn into_text<'c>(self) -> Result<&'c [u8], CallError>
         ensures { MatchOption (held_text self.held) (result ≡ Err NullHandle)
             (λ t. MatchResult result (λ text. text.now ≡ t) (λ _. ⊥)) }
@@ -81,7 +81,7 @@ impl Lent {
         }
     }
 
-    /// The compiled map that is lent, as by `into_held`. Fails with `NullHandle` if there is none.
+    /// The compiled map that is borrowed, as by `into_held`. Fails with `NullHandle` if there is none.
     #[inline(always)]
     pub fn into_compiled<'c>(self) -> Result<&'c CompiledMap<'static>, CallError>
         ensures { MatchOption (held_compiled self.held) (result ≡ Err NullHandle)
@@ -93,7 +93,7 @@ impl Lent {
         }
     }
 
-    /// The compiled map that is lent. Fails with `NullHandle` if there is none.
+    /// The compiled map that is borrowed. Fails with `NullHandle` if there is none.
     pub fn compiled(&self) -> Result<&CompiledMap<'static>, CallError>
         ensures { MatchOption (held_compiled self.now.held) (result ≡ Err NullHandle)
             (λ bytes. MatchResult result (λ map. map.now ≡ bytes) (λ _. ⊥)) }
@@ -104,7 +104,7 @@ impl Lent {
         }
     }
 
-    /// The map that is lent. Fails with `NullHandle` if there is none.
+    /// The map that is borrowed. Fails with `NullHandle` if there is none.
     pub fn map(&self) -> Result<&LoadedMap, CallError>
         ensures map { MatchOption (held_map self.now.held) (result ≡ Err NullHandle)
             (λ m. MatchResult result (λ loaded. loaded.now.map ≡ m) (λ _. ⊥)) }
@@ -117,7 +117,7 @@ impl Lent {
         }
     }
 
-    /// The map that is lent, without its indices. Fails with `NullHandle` if there is none.
+    /// The map that is borrowed, without its indices. Fails with `NullHandle` if there is none.
     pub fn source_map(&self) -> Result<&OwnedSourceMap, CallError>
         ensures { MatchOption (held_map self.now.held) (result ≡ Err NullHandle)
             (λ m. MatchResult result (λ map. map.now ≡ m) (λ _. ⊥)) }
@@ -125,7 +125,7 @@ impl Lent {
         Ok(self.map()?.map())
     }
 
-    /// The mends that are lent. Fails with `NullHandle` if there are none.
+    /// The mends that are borrowed. Fails with `NullHandle` if there are none.
     pub fn mends(&self) -> Result<&[Mend], CallError>
         ensures { MatchOption (held_mends self.now.held) (result ≡ Err NullHandle)
             (λ ms. MatchResult result (λ mends. mends.now ≡ ms) (λ _. ⊥)) }
@@ -136,7 +136,7 @@ impl Lent {
         }
     }
 
-    /// The scopes that are lent. Fails with `NullHandle` if there are none.
+    /// The scopes that are borrowed. Fails with `NullHandle` if there are none.
     pub fn scopes(&self) -> Result<&Scopes, CallError>
         ensures { MatchOption (held_scopes self.now.held) (result ≡ Err NullHandle)
             (λ s. MatchResult result (λ scopes. scopes.now ≡ s) (λ _. ⊥)) }

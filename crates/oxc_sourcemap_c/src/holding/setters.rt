@@ -120,7 +120,7 @@ impl LoadedMap {
         Ok(())
     }
 
-    /// Sorts a clone, which takes the place of the map when all is done. A map that is sorted stays. Fails only for want of memory.
+    /// Sorts a clone, which replaces the map when all is done. A map that is sorted stays. Fails only for want of memory.
     pub fn sort(&mut self, alloc: Global) -> Result<(), CallError>
         ensures sorted { OnOk result ((self.new.map ≡ sorted_map self.old.map)
             × (self.new.has_order ≡ false)) }
@@ -145,7 +145,7 @@ impl LoadedMap {
         *self = made;
     }
 
-    /// Simplifies a clone, which takes the place of the map when all is done. Fails with the errors of simplifying, or for want of memory.
+    /// Simplifies a clone, which replaces the map when all is done. Fails with the errors of simplifying, or for want of memory.
     pub fn simplify(&mut self, alloc: Global) -> Result<(), CallError>
         ensures simplified { OnOk result ((simplification self.old.map ≡ Ok self.new.map)
             × (self.new.has_order ≡ false)) }

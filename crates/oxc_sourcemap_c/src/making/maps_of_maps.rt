@@ -1,4 +1,4 @@
-//! Compositions, remappings and joins of maps that handles lend. Results own their texts.
+//! Compositions, remappings and joins of the maps of handles. Results own their texts.
 ghost use Rattle.std.specs.Prelude.{◌≡◌, ◌≢◌, Some, None, Ok, Err, length, IfOk, IfErr};
 ghost use Rattle.std.specs.Prelude.{MatchOption, OnOk, map};
 ghost use Rattle.oxc_sourcemap_c.specs.Words.{out_of_memory, held_map, HoldMaps};
@@ -22,7 +22,7 @@ use oxc_sourcemap_steps::compose_lent_parts;
 use oxc_sourcemap_tokens::{Memory, Position};
 use std::alloc::Global;
 
-/// The map that is lent. Fails with `NullHandle` if there is none.
+/// The map that is borrowed. Fails with `NullHandle` if there is none.
 fn lent_map(map: &Lent) -> Result<&OwnedSourceMap, CallError>
     ensures map { IfOk result (λ found. held_map map.now.held ≡ Some found.now) }
     ensures error { IfErr result (IsMapMissing map.now.held) }
@@ -31,7 +31,7 @@ fn lent_map(map: &Lent) -> Result<&OwnedSourceMap, CallError>
     map.source_map()
 }
 
-/// A map that is equal to the one that is lent.
+/// A map that is equal to the one that is borrowed.
 fn clone_map(alloc: Global, map: &Lent) -> Result<OwnedSourceMap, CallError>
     ensures map { IfOk result (λ made. held_map map.now.held ≡ Some made) }
     ensures error { IfErr result (λ r. (r ≢ out_of_memory) → IsMapMissing map.now.held r) }
@@ -76,7 +76,7 @@ fn compose_maps(
     Ok(OwnedSourceMap::from_parts(parts))
 }
 
-/// The composition of two maps that are lent.
+/// The composition of two maps that are borrowed.
 fn compose(alloc: Global, first: &Lent, input: &Lent) -> Result<OwnedSourceMap, CallError>
     ensures map { IfOk result (λ made. HoldMaps first.now.held input.now.held
         (λ a b. IsComposition a b made)) }
@@ -109,7 +109,7 @@ pub extern "C" fn proved_compose(
     put_map(alloc, compose(alloc, map, input), out, fault)
 }
 
-/// The maps that are lent. Fails with `NullHandle` if one is missing.
+/// The maps that are borrowed. Fails with `NullHandle` if one is missing.
 fn maps_of<'m>(alloc: Global, lent: &'m [Lent]) -> Result<Vec<&'m OwnedSourceMap>, CallError>
     ensures maps { IfOk result (λ maps. all_maps (all_lent lent.now)
         ≡ Some (lent_items maps.items)) }
@@ -163,7 +163,7 @@ fn remap_map(
     Ok(made)
 }
 
-/// The map that is lent, led through the maps of the sources with these paths.
+/// The map that is borrowed, traced through the maps of the sources with these paths.
 fn remap(
     alloc: Global,
     map: &Lent,
@@ -209,7 +209,7 @@ pub extern "C" fn proved_remap(
     put_map(alloc, remap(alloc, map, paths, inputs), out, fault)
 }
 
-/// Lengths with those of a map that is lent more.
+/// Lengths with those of a borrowed map more.
 fn with_lent(lengths: Lengths, map: &Lent) -> Result<Lengths, CallError>
     ensures there { OnOk result (held_map map.now.held ≢ None) }
     ensures error { IfErr result (IsMapMissing map.now.held) }
@@ -219,7 +219,7 @@ fn with_lent(lengths: Lengths, map: &Lent) -> Result<Lengths, CallError>
     Ok(with_lengths(lengths, parts_of(map.as_source_map())))
 }
 
-/// The lengths of the maps that are lent, summed. Fails with `NullHandle` if one is missing.
+/// The lengths of the maps that are borrowed, summed. Fails with `NullHandle` if one is missing.
 fn all_lengths(maps: &[Lent]) -> Result<Lengths, CallError>
     ensures there { OnOk result (all_maps (all_lent maps.now) ≢ None) }
     ensures error { IfErr result (λ r. (r ≡ NullHandle) × (all_maps (all_lent maps.now) ≡ None)) }
@@ -231,7 +231,7 @@ fn all_lengths(maps: &[Lent]) -> Result<Lengths, CallError>
     Ok(lengths)
 }
 
-/// Adds a map that is lent to a join.
+/// Adds a map that is borrowed to a join.
 fn add_lent<'a>(
     joined: &mut JoinedParts<'a>,
     map: &Lent,
@@ -247,7 +247,7 @@ fn add_lent<'a>(
     Ok(())
 }
 
-/// Adds the maps that are lent to a join, each at its position. None is missing.
+/// Adds the maps that are borrowed to a join, each at its position. None is missing.
 fn add_all<'a>(
     joined: &mut JoinedParts<'a>,
     maps: &[Lent],
@@ -266,7 +266,7 @@ fn add_all<'a>(
     Ok(())
 }
 
-/// The join of the maps that are lent, each at its position.
+/// The join of the maps that are borrowed, each at its position.
 fn join_all(
     alloc: Global,
     maps: &[Lent],

@@ -164,7 +164,7 @@ fn read_found(alloc: Global, text: &[u8]) -> Result<(OwnedSourceMap, Vec<Mend>),
     }
 }
 
-/// Makes a map of a text as it is found, and tells what was mended.
+/// Makes a map of a text as it is found, and reports what was mended.
 #[unsafe(no_mangle)]
 pub extern "C" fn proved_read_found(
     alloc: Global,

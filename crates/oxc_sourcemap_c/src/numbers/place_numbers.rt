@@ -22,7 +22,7 @@ pub struct PlaceNumbers {
     pub entry: u64,
 }
 
-/// The number of a text or a section, if it is told.
+/// The number of a text or a section, if it is known.
 pub fn number_told(number: Option<usize>) -> u64
     ensures { result ≡ number_told number }
 {

@@ -179,7 +179,7 @@ fn text_of_map<'c>(map: Lent, asked: Asked) -> Result<Text<'c>, CallError>
     }
 }
 
-/// The name with this id in a map, lent.
+/// The name with this id in a map, borrowed.
 #[unsafe(no_mangle)]
 pub extern "C" fn proved_get_name<'c>(map: Lent, id: u32, out: &mut Text<'c>) -> u32
     ensures found { Found result map.held (λ m. slice_get m.names id) (LendsText out.new) }
@@ -188,7 +188,7 @@ pub extern "C" fn proved_get_name<'c>(map: Lent, id: u32, out: &mut Text<'c>) ->
     write_found(text_of_map(map, Asked::Name(id)), out)
 }
 
-/// The source with this id in a map, lent.
+/// The source with this id in a map, borrowed.
 #[unsafe(no_mangle)]
 pub extern "C" fn proved_get_source<'c>(map: Lent, id: u32, out: &mut Text<'c>) -> u32
     ensures found { Found result map.held (λ m. slice_get m.sources id) (LendsText out.new) }
@@ -197,7 +197,7 @@ pub extern "C" fn proved_get_source<'c>(map: Lent, id: u32, out: &mut Text<'c>) 
     write_found(text_of_map(map, Asked::Source(id)), out)
 }
 
-/// The content listed for the source with this id in a map, lent.
+/// The content listed for the source with this id in a map, borrowed.
 #[unsafe(no_mangle)]
 pub extern "C" fn proved_get_source_content<'c>(map: Lent, id: u32, out: &mut Text<'c>) -> u32
     ensures found { Found result map.held (λ m. content_at m.source_contents id)
@@ -207,7 +207,7 @@ pub extern "C" fn proved_get_source_content<'c>(map: Lent, id: u32, out: &mut Te
     write_found(text_of_map(map, Asked::SourceContent(id)), out)
 }
 
-/// The name of the generated file of a map, lent.
+/// The name of the generated file of a map, borrowed.
 #[unsafe(no_mangle)]
 pub extern "C" fn proved_get_file<'c>(map: Lent, out: &mut Text<'c>) -> u32
     ensures found { Found result map.held (λ m. m.file) (LendsText out.new) }
@@ -216,7 +216,7 @@ pub extern "C" fn proved_get_file<'c>(map: Lent, out: &mut Text<'c>) -> u32
     write_found(text_of_map(map, Asked::File), out)
 }
 
-/// The source root of a map, lent.
+/// The source root of a map, borrowed.
 #[unsafe(no_mangle)]
 pub extern "C" fn proved_get_source_root<'c>(map: Lent, out: &mut Text<'c>) -> u32
     ensures found { Found result map.held (λ m. m.source_root) (LendsText out.new) }
@@ -225,7 +225,7 @@ pub extern "C" fn proved_get_source_root<'c>(map: Lent, out: &mut Text<'c>) -> u
     write_found(text_of_map(map, Asked::SourceRoot), out)
 }
 
-/// The debug id of a map, lent.
+/// The debug id of a map, borrowed.
 #[unsafe(no_mangle)]
 pub extern "C" fn proved_get_debug_id<'c>(map: Lent, out: &mut Text<'c>) -> u32
     ensures found { Found result map.held (λ m. m.debug_id) (LendsText out.new) }
@@ -243,7 +243,7 @@ fn written_text<'c>(string: Lent) -> Result<Text<'c>, CallError>
     Ok(Text::of_bytes(Some(bytes)))
 }
 
-/// The text of a string, lent.
+/// The text of a string, borrowed.
 #[unsafe(no_mangle)]
 pub extern "C" fn proved_get_text<'c>(string: Lent, out: &mut Text<'c>) -> u32
     ensures found { HoldsText result string.held out.new }
@@ -292,7 +292,7 @@ fn write_texts<'c>(texts: &'c [CowStr<'_>], out: &mut [Text<'c>])
     }
 }
 
-/// A content as it is stored, lent; it is empty if it is not known.
+/// A content as it is stored, borrowed; it is empty if it is not known.
 fn content_text<'c>(content: &'c Option<CowStr<'_>>) -> Text<'c>
     ensures { IsContentText result (option_map cow_str_bytes content.now) }
 {
@@ -374,7 +374,7 @@ fn names<'c>(map: Lent, out: &mut [Text<'c>]) -> Result<usize, CallError>
     Ok(names.len())
 }
 
-/// All names of a map, lent, as many as there is room for, and how many there are.
+/// All names of a map, borrowed, as many as there is room for, and how many there are.
 #[unsafe(no_mangle)]
 pub extern "C" fn proved_get_names<'c>(map: Lent, out: &mut [Text<'c>], count: &mut usize) -> u32
     ensures listed { ListsBy LendsText result map.held (λ m. m.names)
@@ -394,7 +394,7 @@ fn sources<'c>(map: Lent, out: &mut [Text<'c>]) -> Result<usize, CallError>
     Ok(sources.len())
 }
 
-/// All sources of a map, lent, as many as there is room for, and how many there are.
+/// All sources of a map, borrowed, as many as there is room for, and how many there are.
 #[unsafe(no_mangle)]
 pub extern "C" fn proved_get_sources<'c>(map: Lent, out: &mut [Text<'c>], count: &mut usize) -> u32
     ensures listed { ListsBy LendsText result map.held (λ m. m.sources)
@@ -424,7 +424,7 @@ fn source_contents<'c>(
     Ok(contents.len())
 }
 
-/// The contents of a map from one on, lent, as many as there is room for, whether each is known (1 or 0), and how many there are from
+/// The contents of a map from one on, borrowed, as many as there is room for, whether each is known (1 or 0), and how many there are from
 /// that one on. Those that are not known are empty.
 #[unsafe(no_mangle)]
 pub extern "C" fn proved_get_source_contents<'c>(

@@ -92,7 +92,7 @@ fn trace_code_anyhow<'c>(
     trace_anyhow(held, at, bias, out, &mut fault)
 }
 
-/// The map in what is lent. Fails with `NullHandle` if there is none.
+/// The map in what is borrowed. Fails with `NullHandle` if there is none.
 fn loaded_of(held: Option<&Held>) -> Result<&LoadedMap, CallError>
     ensures { MatchOption (held_map (lent_item held.entry)) (result ≡ Err NullHandle)
         (λ m. MatchResult result (λ loaded. loaded.now.map ≡ m) (λ _. ⊥)) }

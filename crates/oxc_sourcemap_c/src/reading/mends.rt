@@ -129,7 +129,7 @@ fn list_held(
     }
 }
 
-/// Writes the numbers of as many of the mends that are lent as there is room for, and the number of all.
+/// Writes the numbers of as many of the mends that are borrowed as there is room for, and the number of all.
 fn list_mends(mends: &Lent, out: &mut [MendNumbers], count: &mut usize) -> Result<(), CallError>
     ensures found { MatchOption (held_mends mends.now.held) (result ≡ Err NullHandle)
         (λ ms. IsOk result × (count.new ≡ length ms)

@@ -84,7 +84,7 @@ fn reason_in(alloc: Global, text: &[u8], place: &PlaceNumbers) -> Option<FaultRe
     fault_reason(alloc, text, &place.place()?).ok()?
 }
 
-/// The same of what is really wrong with a text at a place; 0 too where the text has no such fault, and where its error tells already.
+/// The same of what is really wrong with a text at a place; 0 too where the text has no such fault, and where its error says it already.
 fn write_reason_message(alloc: Global, text: &[u8], place: &PlaceNumbers, out: &mut [u8]) -> usize
     ensures { (words : List ℕ) × IsMessage words out.old out.new result }
 {

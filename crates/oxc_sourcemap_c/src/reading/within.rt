@@ -1,4 +1,4 @@
-//! Texts of at most so many bytes, written from maps that handles lend.
+//! Texts of at most so many bytes, written from the maps of handles.
 ghost use Rattle.std.specs.Prelude.{◌≡◌, ◌≢◌, None, Ok, map, string_bytes, IfOk, IfErr};
 ghost use Rattle.oxc_sourcemap_c.specs.Words.{out_of_memory, map_text_within, map_url_within};
 ghost use Rattle.oxc_sourcemap_c.specs.Words.{mappings_within, mappings_text_within, token_of};
@@ -14,7 +14,7 @@ use oxc_sourcemap_json::encode_mappings_within as encode_within;
 use oxc_sourcemap_map::{OwnedSourceMap, parts_of};
 use std::alloc::Global;
 
-/// The JSON text of the map that is lent, if it has at most `limit` bytes.
+/// The JSON text of the map that is borrowed, if it has at most `limit` bytes.
 fn to_json_string_within(alloc: Global, map: &Lent, limit: usize) -> Result<String, CallError>
     ensures text { IsWrittenAs (λ text. string_bytes text) result map.now.held
         (map_text_within limit) }
@@ -41,7 +41,7 @@ pub extern "C" fn proved_to_json_string_within(
     put_text(alloc, to_json_string_within(alloc, map, limit), out, fault)
 }
 
-/// The data URL of the map that is lent, if it has at most `limit` bytes.
+/// The data URL of the map that is borrowed, if it has at most `limit` bytes.
 fn to_data_url_within(alloc: Global, map: &Lent, limit: usize) -> Result<String, CallError>
     ensures text { IsWrittenAs (λ text. string_bytes text) result map.now.held
         (map_url_within limit) }
@@ -90,7 +90,7 @@ fn mappings_of(
     }
 }
 
-/// The mappings text of the map that is lent, if it has at most `limit` bytes.
+/// The mappings text of the map that is borrowed, if it has at most `limit` bytes.
 fn get_mappings_within(alloc: Global, map: &Lent, limit: usize) -> Result<String, CallError>
     ensures text { IsWrittenAs (λ text. string_bytes text) result map.now.held
         (mappings_text_within limit) }

@@ -1,4 +1,4 @@
-//! Texts written from maps that handles lend.
+//! Texts written from the maps of handles.
 ghost use Rattle.std.specs.Prelude.{◌≡◌, ◌≢◌, Some, None, Ok, map, string_bytes, IfOk, IfErr};
 ghost use Rattle.oxc_sourcemap_c.specs.Words.{out_of_memory, map_text, map_url, token_of};
 ghost use Rattle.oxc_sourcemap_c.specs.Words.{IsWrittenAs, mappings_text, tokens_text};
@@ -16,7 +16,7 @@ use oxc_sourcemap_map::{OwnedSourceMap, SourcemapVisualizer, parts_of};
 use oxc_sourcemap_tokens::{Token, TokenChunk};
 use std::alloc::Global;
 
-/// The JSON text of the map that is lent.
+/// The JSON text of the map that is borrowed.
 fn to_json_string(alloc: Global, map: &Lent) -> Result<String, CallError>
     ensures text { IsWrittenAs (λ text. string_bytes text) result map.now.held map_text }
 {
@@ -40,7 +40,7 @@ pub extern "C" fn proved_to_json_string(
     put_text(alloc, to_json_string(alloc, map), out, fault)
 }
 
-/// The data URL of the map that is lent.
+/// The data URL of the map that is borrowed.
 fn to_data_url(alloc: Global, map: &Lent) -> Result<String, CallError>
     ensures text { IsWrittenAs (λ text. string_bytes text) result map.now.held map_url }
 {
@@ -89,7 +89,7 @@ fn mappings_of(alloc: Global, map: &OwnedSourceMap) -> oxc_sourcemap_tokens::Res
     }
 }
 
-/// The mappings text of the map that is lent.
+/// The mappings text of the map that is borrowed.
 fn get_mappings(alloc: Global, map: &Lent) -> Result<String, CallError>
     ensures text { IsWrittenAs (λ text. string_bytes text) result map.now.held mappings_text }
 {
@@ -141,7 +141,7 @@ pub extern "C" fn proved_encode_mappings(
     put_text(alloc, encode_mappings(alloc, tokens), out, fault)
 }
 
-/// The text that shows a code beside the sources of the map that is lent.
+/// The text that shows a code beside the sources of the map that is borrowed.
 fn visualize(alloc: Global, map: &Lent, code: &[u8]) -> Result<String, CallError>
     ensures text { IfOk result (λ text. HoldsMap map.now.held
         (λ m. IsVisualText code.now m (string_bytes text))) }
@@ -173,7 +173,7 @@ pub extern "C" fn proved_visualize(
     put_text(alloc, visualize(alloc, map, code), out, fault)
 }
 
-/// The link to a page that shows a code and the map that is lent.
+/// The link to a page that shows a code and the map that is borrowed.
 fn visualizer_url(alloc: Global, map: &Lent, code: &[u8]) -> Result<String, CallError>
     ensures text { IfOk result (λ text. HoldsMap map.now.held
         (λ m. map_link code.now m ≡ Ok (string_bytes text))) }

@@ -19,7 +19,7 @@ use crate::texts::{FrameNumbers, RangeNumbers, ScopeNumbers, ScopesCounts, index
 use oxc_sourcemap_scopes::{Frames, Scopes};
 use std::alloc::Global;
 
-/// The counts of the scopes that are lent.
+/// The counts of the scopes that are borrowed.
 fn counts(scopes: &Lent) -> Result<ScopesCounts, CallError>
     ensures { MatchOption (held_scopes scopes.now.held) (result ≡ Err NullHandle)
         (λ s. result ≡ Ok (scopes_counts_of s)) }
@@ -37,7 +37,7 @@ pub extern "C" fn proved_scopes_counts(scopes: &Lent, out: &mut ScopesCounts) ->
     write_found(counts(scopes), out)
 }
 
-/// A scope of those that are lent, by its index.
+/// A scope of those that are borrowed, by its index.
 fn scope(scopes: &Lent, index: u32) -> Result<ScopeNumbers, CallError>
     ensures { IsScopesAnswer scopes.now.held
         (λ s. option_map scope_numbers (scope_seen s index)) result }
@@ -59,7 +59,7 @@ pub extern "C" fn proved_scope(scopes: &Lent, index: u32, out: &mut ScopeNumbers
     write_found(scope(scopes, index), out)
 }
 
-/// A range of those that are lent, by its index.
+/// A range of those that are borrowed, by its index.
 fn range(scopes: &Lent, index: u32) -> Result<RangeNumbers, CallError>
     ensures { IsScopesAnswer scopes.now.held
         (λ s. option_map range_numbers (range_seen s index)) result }
@@ -91,7 +91,7 @@ fn found(index: Option<usize>) -> Result<u32, CallError>
     }
 }
 
-/// The index of the innermost scope at a position of a source, in those that are lent.
+/// The index of the innermost scope at a position of a source, in those that are borrowed.
 fn find_scope(scopes: &Lent, source: u32, line: u32, column: u32) -> Result<u32, CallError>
     ensures { IsIndexAnswer scopes.now.held (λ s. scope_at s source line column) result }
 {
@@ -113,7 +113,7 @@ pub extern "C" fn proved_scope_at(
     write_found(find_scope(scopes, source, line, column), out)
 }
 
-/// The index of the function at a position of a source, in the scopes that are lent.
+/// The index of the function at a position of a source, in the scopes that are borrowed.
 fn find_function(scopes: &Lent, source: u32, line: u32, column: u32) -> Result<u32, CallError>
     ensures { IsIndexAnswer scopes.now.held (λ s. function_at s source line column) result }
 {
@@ -135,7 +135,7 @@ pub extern "C" fn proved_function_at(
     write_found(find_function(scopes, source, line, column), out)
 }
 
-/// The index of the innermost range at a generated position, in the scopes that are lent.
+/// The index of the innermost range at a generated position, in the scopes that are borrowed.
 fn find_range(scopes: &Lent, line: u32, column: u32) -> Result<u32, CallError>
     ensures { IsIndexAnswer scopes.now.held (λ s. range_at s line column) result }
 {

@@ -19,7 +19,7 @@ fn write_chain(chain: &[ScopeChainEntry], out: &mut [ChainEntryNumbers])
     }
 }
 
-/// How many entries the chain at a generated position has, of the scopes that are lent. Writes as many as there is room for, and
+/// How many entries the chain at a generated position has, of the scopes that are borrowed. Writes as many as there is room for, and
 /// nothing on an error.
 fn chain_at(
     alloc: Global,
@@ -52,7 +52,7 @@ pub extern "C" fn proved_scope_chain_at(
     write_found(chain_at(alloc, scopes, line, column, out), count)
 }
 
-/// How many entries the chain of a frame has, by its index among the frames at a generated position, of the scopes that are lent.
+/// How many entries the chain of a frame has, by its index among the frames at a generated position, of the scopes that are borrowed.
 /// Writes as many as there is room for, and nothing on an error.
 fn chain_of(
     alloc: Global,

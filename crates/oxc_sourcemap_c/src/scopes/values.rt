@@ -8,7 +8,7 @@ use crate::numbers::CallError;
 use crate::reading::getters::write_numbers;
 use crate::texts::text::number_or_none;
 
-/// How many variables a scope of those that are lent has, by its index. Writes as many as there is room for, and nothing on an error.
+/// How many variables a scope of those that are borrowed has, by its index. Writes as many as there is room for, and nothing on an error.
 fn variables(scopes: &Lent, scope: u32, out: &mut [u32]) -> Result<usize, CallError>
     ensures { AreVariables scopes.now.held scope result out.old out.new }
 {
@@ -36,7 +36,7 @@ pub extern "C" fn proved_variables(
     write_found(variables(scopes, scope, out), count)
 }
 
-/// The value of a variable in a range of the scopes that are lent, both by their index, at a generated position: the id of the name
+/// The value of a variable in a range of the scopes that are borrowed, both by their index, at a generated position: the id of the name
 /// that has the expression for it, 4294967295 for none.
 fn value(scopes: &Lent, range: u32, variable: u32, line: u32, column: u32) -> Result<u32, CallError>
     ensures { IsValue scopes.now.held range variable line column result }

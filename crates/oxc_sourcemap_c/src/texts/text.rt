@@ -12,7 +12,7 @@ use oxc_sourcemap_map::{SourceMap, SourceViewToken};
 use oxc_sourcemap_queries::Piece;
 use oxc_sourcemap_tokens::{Position, Token};
 
-/// The bytes of a text that is lent to C, for the lifetime `'c`.
+/// The bytes of a text that is borrowed to C, for the lifetime `'c`.
 #[repr(C)]
 #[derive(Clone, Copy)]
 pub struct Text<'c> {

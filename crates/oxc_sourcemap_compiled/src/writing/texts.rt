@@ -30,7 +30,7 @@ fn content_of<'t>(contents: &'t [Option<CowStr<'_>>], i: usize) -> Option<&'t st
     }
 }
 
-/// A text, lent.
+/// A text, borrowed.
 fn lent<'t>(text: &'t Option<CowStr<'_>>) -> Option<&'t str>
     ensures { lent_item result ≡ text_of text.now }
 {

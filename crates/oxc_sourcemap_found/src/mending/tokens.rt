@@ -104,7 +104,7 @@ fn push_count(kinds: &mut Vec<MendKind>, count: usize, kind: MendKind) -> Memory
     Ok(())
 }
 
-/// Makes the ids of tokens ids in range, and tells of how many that were not.
+/// Makes the ids of tokens ids in range, and reports how many were not.
 pub(crate) fn mend_ids(
     alloc: Global,
     kinds: &mut Vec<MendKind>,
@@ -132,7 +132,7 @@ pub(crate) fn mend_ids(
     Ok(())
 }
 
-/// Sorts tokens that are not sorted, and tells of it.
+/// Sorts tokens that are not sorted, and reports it.
 pub(crate) fn mend_order(
     alloc: Global,
     mends: &mut Vec<Mend>,

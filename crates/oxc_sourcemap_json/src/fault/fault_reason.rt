@@ -239,8 +239,8 @@ pub fn value_reason(value: &Value, place: &FaultPlace) -> Option<FaultReason> {
     map_reason(section.get("map")?, place.spot)
 }
 
-/// What is really wrong with a JSON text, which has its first fault at this place, as `json_fault_at` tells it; None where the error that
-/// `decode_from_string` returns tells it already, and where this is not the place. Fails only with `OutOfMemory`.
+/// What is really wrong with a JSON text, which has its first fault at this place, as `json_fault_at` returns it; None where the error that
+/// `decode_from_string` returns says it already, and where this is not the place. Fails only with `OutOfMemory`.
 ///
 /// ```rust
 /// use oxc_sourcemap::{FaultReason, json_fault_at, json_fault_reason};

@@ -38,7 +38,7 @@ pub struct UsualMap<'a> {
     pub ignored: Field,
 }
 
-/// The members of a source map that were read so far. One that comes again takes the place of the one before.
+/// The members of a source map that were read so far. One that comes again replaces the one before.
 #[derive(Drop)]
 struct UsualMembers<'a> {
     /// Whether there is a version, which is 3.
@@ -445,7 +445,7 @@ pub fn plain_map<'a>(alloc: Global, text: &'a str) -> Memory<Option<UsualMap<'a>
 }
 
 /// The fields of the JSON text of a map by itself, as `json_of` reads them from its value. None if the text is unusual: it is no
-/// such map, has a fault, or has null as a member or a member that is not read here. `scratch` lends its memory; the mappings may
+/// such map, has a fault, or has null as a member or a member that is not read here. `scratch` gives its memory; the mappings may
 /// lie in it. Fails only for want of memory.
 pub fn usual_map<'a>(
     alloc: Global,

@@ -3,7 +3,7 @@ ghost use Rattle.oxc_sourcemap_map.specs.Words.{LookupLeadsBack, FoundAtPlace, F
 ghost use Rattle.oxc_sourcemap_map.specs.Words.{FoundBefore, FoundAfter, AllFoundOnLine};
 ghost use Rattle.oxc_sourcemap_map.specs.Words.{FoundTracesBack, FirstTracesBack, TracedIsFound};
 
-/// What reverse lookups find points to what was asked for, and leads back, in any list of tokens.
+/// What reverse lookups find points to what was asked for, and traces back to it, in any list of tokens.
 /// - The lookup (`token_for`) of the generated position of a token finds a token at that very position (`leads_back`); the
 ///   lookups of a sorted map are this lookup.
 /// - Tokens found at a place point there (`at_place`), those of a line to that line of that source (`on_line`).

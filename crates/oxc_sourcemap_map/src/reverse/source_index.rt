@@ -33,8 +33,8 @@ use std::marker::Model;
 /// ```
 ///
 /// Sources are named by their ids. Lines and columns count from 0, columns in UTF-16 units. The map need not be sorted, and its
-/// ids may be out of range. A source id that no token has gives nothing, and so does 4294967295. The index lends the tokens of
-/// the map, and holds 4 bytes for each token that has a source; while it is made, up to 32 for each token.
+/// ids may be out of range. A source id that no token has gives nothing, and so does 4294967295. The index borrows the tokens
+/// of the map, and holds 4 bytes for each token that has a source; while it is made, up to 32 for each token.
 ///
 /// No lookup takes memory. One compares at most four times as many places as the number of tokens has binary digits, and two:
 /// `search_at`, `search_for` and `search_from` count them, and the other calls make up to two of these.

@@ -1,7 +1,7 @@
 //! The law of the place of a fault.
 ghost use Rattle.oxc_sourcemap_plan.specs.Words.{FaultIsThere};
 
-/// The place that `mappings_fault_at` tells is that of the segment whose error `decode_mappings` returns: the segment that
+/// The place that `mappings_fault_at` returns is that of the segment whose error `decode_mappings` returns: the segment that
 /// begins there gives this error, and each segment before it gives a token. (`TooLarge` has no segment, but the `;` that begins
 /// line 4294967296.)
 ///

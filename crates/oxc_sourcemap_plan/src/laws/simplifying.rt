@@ -46,7 +46,7 @@ pub fn simplified_needed()
     ensures result { SimplificationNeeded }
 {}
 
-/// No exact trace tells a map from the simplified one.
+/// A map and the simplified one have the same exact traces.
 /// - A sorted map and the simplified one have the same exact trace at every position (`traces`). So has a map and what `simplify`
 ///   makes of it, and both are sorted (`result`): their `first_difference` is None.
 /// - No sorted map from which a map does not differ has fewer tokens than the map has once it is simplified, if no token of the two

@@ -1,4 +1,4 @@
-//! What lends the parts of a map.
+//! What gives a borrow of the parts of a map.
 ghost use Rattle.std.specs.Prelude.{◌≡◌};
 ghost use Rattle.oxc_sourcemap_steps.specs.Words.{MapRecord, record_of_parts};
 

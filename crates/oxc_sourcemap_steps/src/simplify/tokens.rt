@@ -183,7 +183,7 @@ fn may_repeat(previous: &Token, token: &Token) -> bool
         & (previous.get_src_col() == token.get_src_col())
 }
 
-/// Whether a token points where the one before it on its line points. Most do not, and are told by their positions alone.
+/// Whether a token points where the one before it on its line points. Most do not, and their positions alone show it.
 #[inline(always)]
 fn is_repeat(tables: &Tables, previous: Option<&Token>, token: &Token, is_mapped: bool) -> bool
     requires { is_mapped ≡ is_some (target_by tables.now token.now) }

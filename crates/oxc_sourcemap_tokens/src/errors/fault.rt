@@ -21,8 +21,8 @@ pub struct SegmentPlace {
 /// Where an input has a fault. All numbers count from 0.
 #[derive(Clone, Copy, Debug, PartialEq, Eq)]
 pub struct FaultPlace {
-    /// The number of the text, where there are several: of those of a plan in the order of its evaluation, and where `smap` tells it
-    /// the K of `@K`.
+    /// The number of the text, where there are several: those of a plan are numbered in the order of its evaluation; where `smap`
+    /// reports it, it is the K of `@K`.
     pub text: Option<usize>,
     /// The number of the section, in an indexed map.
     pub section: Option<usize>,

@@ -58,7 +58,7 @@ static void says(size_t (*call)(const smap_fault *, char *, size_t), const smap_
 
 static void codes(void) {
     size_t k = 0;
-    CHECK(SMAP_VERSION == 1 && smap_version() == 1);
+    CHECK(SMAP_VERSION == 2 && smap_version() == 2);
     for (uint32_t number = 0; number < 200; number++) {
         int is_code = k < LEN(CODES) && CODES[k].number == number;
         CHECK(strcmp(smap_code_name(number), is_code ? CODES[k].name : "SMAP_UNKNOWN") == 0);

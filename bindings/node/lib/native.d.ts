@@ -85,7 +85,7 @@ export const enum Form {
 }
 
 export interface Native {
-  /** The version of the C interface that it has: 1. */
+  /** The version of the C interface that it has: 2. */
   readonly version: number;
   /** What it is. */
   readonly backend: "addon" | "module";

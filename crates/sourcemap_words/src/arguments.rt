@@ -6,7 +6,7 @@ pub use examples::examples_of;
 use std::alloc::{AllocError, Global};
 
 /// The program's version.
-pub const VERSION: &str = "1.0.0";
+pub const VERSION: &str = "2.0.0";
 
 const ABOUT: &str =
     "Looks positions up in source maps, leads stack traces back, and checks, joins and compares maps";

@@ -90,4 +90,4 @@ __all__ = [
     "source_mapping_url",
 ]
 
-__version__ = "1.0.0"
+__version__ = "2.0.0"

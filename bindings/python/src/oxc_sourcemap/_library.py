@@ -10,7 +10,7 @@ from collections.abc import Callable
 from pathlib import Path
 from typing import Any, Protocol, cast
 
-VERSION = 1
+VERSION = 2
 """The version of the interface that this package is written for."""
 
 NO_ID = 0xFFFFFFFF

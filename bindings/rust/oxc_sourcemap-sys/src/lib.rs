@@ -30,7 +30,7 @@ use core::ffi::{c_char, c_void};
 use core::marker::{PhantomData, PhantomPinned};
 
 /// The version of the interface that is declared here.
-pub const SMAP_VERSION: u32 = 1;
+pub const SMAP_VERSION: u32 = 2;
 /// Stands for no id.
 pub const SMAP_NO_ID: u32 = u32::MAX;
 /// Stands for no text and no section in a place.

@@ -6,7 +6,7 @@ use sourcemap_reports::{check, coverage, diff, page, size};
 use sourcemap_tracing::{resolve, trace};
 use sourcemap_words::{Outcome, VERSION, completions_of, manual_of, program};
 
-/// Prints what the asked shell reads to complete the words of the program.
+/// Prints the script with which the given shell completes the words of the program.
 fn print_completions(asked: &Asked<'_, '_>) -> Outcome<Status> {
     let alloc = asked.alloc();
     let program = program(alloc, VERSION)?;

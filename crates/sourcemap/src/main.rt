@@ -1,7 +1,7 @@
-//! `sourcemap`: looks positions up in source maps, leads stack traces back, and checks, joins and compares maps.
+//! `sourcemap`: looks positions up in source maps, resolves stack traces, and checks, joins and compares maps.
 //!
-//! What the commands print is made by the crate `sourcemap_run`, which is proved to print what the library answers. `sourcemap_words`
-//! has the words of the command line, `sourcemap_files` finds maps; the commands stand in `sourcemap_tracing`, `sourcemap_making`,
+//! The crate `sourcemap_run` makes what the commands print, and is proved to print what the library answers. `sourcemap_words` has the
+//! words of the command line. `sourcemap_files` finds maps. The commands are in `sourcemap_tracing`, `sourcemap_making`,
 //! `sourcemap_editing` and `sourcemap_reports`.
 #![tactic(auto)]
 
@@ -21,7 +21,7 @@ fn run<'a>(rt: &'a HostRuntime, name: &str, matches: &'a ArgMatches<'_>) -> Outc
     commands::run(name, &asked)
 }
 
-/// Tells a failure, and gives its status.
+/// Reports a failure, and returns its status.
 fn tell_failure(rt: &HostRuntime, command: &str, failure: Failure) -> ExitCode {
     match failure {
         Failure::Told(message) => tell(rt, message.as_str()),
@@ -46,7 +46,7 @@ fn visible_lines(alloc: Global, text: &str) -> Outcome<String> {
     Ok(visible)
 }
 
-/// Prints help or the version; or what is wrong with the words of the command line, which is a failure.
+/// Prints help or the version; or reports what is wrong with the words of the command line, which is a failure.
 fn show(rt: &HostRuntime, error: &Error) -> Outcome<ExitCode> {
     let text = format!(in rt.alloc(); "{error}")?;
     if !error.use_stderr() {

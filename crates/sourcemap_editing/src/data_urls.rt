@@ -116,7 +116,7 @@ fn text_in(alloc: Global, file: &str, url: &str) -> Outcome<String> {
     }
 }
 
-/// The code itself, of a link the file that it leads to.
+/// The name of the code itself; for a link, of the file that it leads to.
 fn code_file(rt: &HostRuntime, file: &str) -> Outcome<String> {
     match written_name(rt, file)? {
         Some(path) => Ok(path),
@@ -199,7 +199,7 @@ fn take_out(asked: &Asked<'_, '_>, file: &str, done: &mut Done) -> Outcome<()> {
     done.push(alloc, file, map.as_str(), text.len())
 }
 
-/// Changes a code; not one that this run has changed already.
+/// Changes a code, unless this run has changed it already.
 fn change(asked: &Asked<'_, '_>, way: Way, file: &str, done: &mut Done) -> Outcome<()> {
     if file == "-" {
         return Err(usage(
@@ -218,7 +218,7 @@ fn change(asked: &Asked<'_, '_>, way: Way, file: &str, done: &mut Done) -> Outco
     Ok(done.codes.push(place)?)
 }
 
-/// Changes codes. One that cannot be changed is told, and the others are.
+/// Changes codes. Reports each one that cannot be changed, and changes the others.
 fn run(asked: &Asked<'_, '_>, way: Way) -> Outcome<Status> {
     let (rt, alloc) = (asked.rt, asked.alloc());
     let codes = asked.words("CODE")?;

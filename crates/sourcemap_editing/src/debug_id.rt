@@ -1,4 +1,4 @@
-//! `debug-id`: the debug ids of codes and of their maps, told or made the same.
+//! `debug-id`: the debug ids of codes and of their maps, reported or made the same.
 use crate::data_urls::{comment_of, with_url};
 use crate::editing::{is_data_url, is_done, refusal};
 use oxc_sourcemap_text::Language;
@@ -36,7 +36,7 @@ impl Told {
     }
 }
 
-/// A debug id as it is told.
+/// A debug id as it is reported.
 fn shown_id(id: Option<&str>) -> &str {
     id.unwrap_or("none")
 }
@@ -75,7 +75,7 @@ fn id_of_map(rt: &HostRuntime, map: &MapText) -> Outcome<Option<String>> {
     }
 }
 
-/// How the debug id of a code and that of its map stand to one another, as a text behind the name of the code.
+/// How the debug ids of a code and of its map compare, as a text behind the name of the code.
 fn agreement_text(
     alloc: Global,
     code_id: Option<&str>,
@@ -90,7 +90,7 @@ fn agreement_text(
     Ok(format!(in alloc; "{word}: {own}, and {map} has {other}")?)
 }
 
-/// Tells the debug ids of a code and of its map.
+/// Reports the debug ids of a code and of its map.
 fn tell_pair(
     alloc: Global,
     code: &str,
@@ -112,7 +112,7 @@ fn tell_pair(
     told.push(line.as_str(), members.as_str())
 }
 
-/// Tells the debug id of a code without a map, and why it has none.
+/// Reports the debug id of a code without a map, and why it has none.
 fn tell_alone(
     alloc: Global,
     code: &str,
@@ -131,7 +131,7 @@ fn tell_alone(
     told.push(line.as_str(), members.as_str())
 }
 
-/// Tells the debug ids of the code in a file and of its map.
+/// Reports the debug ids of the code in a file and of its map.
 fn tell_ids(asked: &Asked<'_, '_>, file: &str, told: &mut Told) -> Outcome<()> {
     let (rt, alloc) = (asked.rt, asked.alloc());
     let code = read_text(rt, file)?;
@@ -153,7 +153,7 @@ fn tell_ids(asked: &Asked<'_, '_>, file: &str, told: &mut Told) -> Outcome<()> {
     }
 }
 
-/// Refuses what is no JavaScript code in a file.
+/// Refuses a file that has no JavaScript code.
 fn refuse_other(asked: &Asked<'_, '_>, file: &str) -> Outcome<()> {
     if file == "-" {
         return Err(usage(
@@ -194,7 +194,7 @@ fn text_to_change<'m>(rt: &HostRuntime, map: &'m MapText) -> Outcome<&'m str> {
     Ok(text.as_str())
 }
 
-/// The debug id that a code and its map get, and where it is from.
+/// The debug id that a code and its map get, and its origin.
 fn chosen_id(
     asked: &Asked<'_, '_>,
     file: &str,
@@ -246,7 +246,7 @@ fn changed_map(alloc: Global, name: &str, map: &str, id: &str) -> Outcome<Option
     Err(refusal(alloc, name))
 }
 
-/// The data URL of a map in the place of another one, in base64; the head of that stays, if it is one of base64.
+/// The data URL of a map, in base64, that replaces another one. It keeps the head of that one, if that is one of base64.
 fn url_in_place(alloc: Global, url: &str, map: &str) -> Outcome<String> {
     let made = data_url(alloc, map)?;
     let (head, _) = url.split_once(',').unwrap_or((url, ""));
@@ -284,7 +284,7 @@ fn changed_code(
     Ok(None)
 }
 
-/// Writes what was changed, of a code and its map.
+/// Writes what has changed, of a code and its map.
 fn write_changed(
     rt: &HostRuntime,
     file: &str,
@@ -302,7 +302,7 @@ fn write_changed(
     write_files(rt, files.as_slice())
 }
 
-/// Tells the debug id that a code and its map have now, and where it is from.
+/// Reports the debug id that a code and its map have now, and its origin.
 fn tell_injected(
     alloc: Global,
     code: &str,
@@ -346,7 +346,7 @@ fn inject(asked: &Asked<'_, '_>, file: &str, told: &mut Told) -> Outcome<()> {
     tell_injected(alloc, file, name, origin, id, told)
 }
 
-/// Does what was asked for with a code.
+/// Reports or changes the debug ids of a code, as the command asks.
 fn run_on(asked: &Asked<'_, '_>, file: &str, told: &mut Told) -> Outcome<()> {
     if asked.has("inject") {
         inject(asked, file, told)
@@ -355,7 +355,7 @@ fn run_on(asked: &Asked<'_, '_>, file: &str, told: &mut Told) -> Outcome<()> {
     }
 }
 
-/// Runs the command `debug-id`. A code that cannot be read or changed is told, and the others are.
+/// Runs the command `debug-id`. Reports each code that cannot be read or changed, and goes on with the others.
 pub fn run(asked: &Asked<'_, '_>) -> Outcome<Status> {
     let (rt, alloc) = (asked.rt, asked.alloc());
     if asked.has("force") && !asked.has("inject") {

@@ -1,4 +1,4 @@
-//! Maps whose texts are changed at some places, and written where they lie or elsewhere.
+//! Changes the texts of maps at some places, and writes them to their own files or to others.
 use oxc_sourcemap_parts::{SourceMapParts, apply_root};
 use sourcemap_files::{
     Asked, MapText, Progress, Written, map_of_file, parts_in, read_map, refuse_overwriting,
@@ -107,7 +107,7 @@ pub fn rooted_maps(rt: &HostRuntime, map: &MapText) -> Outcome<Vec<SourceMapPart
     Ok(maps)
 }
 
-/// Whether what was asked for was done with a file. A failure of the file is told, so that others go on.
+/// Whether a command succeeded for a file. Reports a failure of the file, so that the others go on.
 pub fn is_done(rt: &HostRuntime, progress: &Progress, done: Outcome<()>) -> Outcome<bool> {
     match done {
         Ok(()) => Ok(true),
@@ -139,7 +139,7 @@ pub fn refusal(alloc: Global, name: &str) -> Failure {
 }
 
 impl Edited {
-    /// Writes the changed text, if it is that of a map with so many contents. A text that stays is not written to its own file.
+    /// Writes the changed text, if it is that of a map with this number of contents. An unchanged text is not written to its own file.
     pub fn write(
         &self,
         asked: &Asked<'_, '_>,

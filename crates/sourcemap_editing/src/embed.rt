@@ -150,7 +150,7 @@ impl Lacking {
             .saturating_add(self.wrong)
     }
 
-    /// Tells what was found, and what was not.
+    /// Reports what was found, and what was not.
     fn tell(&self, asked: &Asked<'_, '_>, name: &str) -> Outcome<()> {
         let (rt, alloc) = (asked.rt, asked.alloc());
         let there = "no files of sources";

@@ -170,7 +170,7 @@ impl<'a> Extract<'a> {
         Ok(Some(text))
     }
 
-    /// Writes a content to a file below the folder, unless that has it.
+    /// Writes a content to a file below the folder, unless the file has it.
     fn write(&self, path: String, content: &str) -> Outcome<Fate>
         requires { IsBelow (string_bytes self.now.folder) (string_bytes path) }
         ensures { IfOk result (λ fate. IfSome (file_of fate) (λ file.
@@ -268,7 +268,7 @@ impl<'a> Extract<'a> {
         Ok(self.out.push('\n')?)
     }
 
-    /// Tells why a source has no file; of those without a content later, together.
+    /// Reports why a source has no file. Sources without a content are reported later, together.
     fn tell_none(
         &mut self,
         name: &str,
@@ -362,7 +362,7 @@ fn folder_of_output(asked: &Asked<'_, '_>) -> Outcome<String> {
     Ok(with_slash(asked.alloc(), output)?)
 }
 
-/// Runs the command `extract`. A file that has no map, or one that cannot be read, is told, and the others are extracted.
+/// Runs the command `extract`. Reports each file that has no map or cannot be read, and extracts the others.
 pub fn run(asked: &Asked<'_, '_>) -> Outcome<Status> {
     let (rt, alloc) = (asked.rt, asked.alloc());
     let files = asked.words("FILE")?;

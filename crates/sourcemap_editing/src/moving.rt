@@ -1,4 +1,4 @@
-//! Texts of maps, led from one folder to another: the paths of sources change, and nothing else does.
+//! Moves the texts of maps from one folder to another: the paths of sources change, and nothing else does.
 use crate::editing::{is_data_url, refusal};
 use oxc_sourcemap_parts::SourceMapParts;
 use sourcemap_files::{current_folder, parts_in};
@@ -39,7 +39,7 @@ fn moved_sources(
     Ok(paths)
 }
 
-/// Appends the changes that lead the sources of a map: of its root, or, if it has none, of each. Says whether its text has what is to
+/// Appends the changes that move the sources of a map: of its root, or, if it has none, of each. Returns whether its text has what is to
 /// change.
 fn push_moved(
     alloc: Global,

@@ -4,7 +4,7 @@ use sourcemap_texts::push_shown;
 use sourcemap_words::Outcome;
 use std::alloc::Global;
 
-/// So many are named.
+/// How many sources are named.
 const FEW: usize = 8;
 
 /// Sources that are named together.
@@ -24,7 +24,7 @@ impl Names {
         }
     }
 
-    /// Adds a source; with the file that it comes to, if that is told.
+    /// Adds a source, with its file, if that is given.
     pub fn push(&mut self, source: &str, file: &str) -> Outcome<()> {
         self.count = self.count.saturating_add(1);
         if self.count > FEW {
@@ -43,7 +43,7 @@ impl Names {
         Ok(())
     }
 
-    /// Tells them behind what is said of them, if there are any.
+    /// Reports them behind the message `what`, if there are any.
     pub fn tell(&self, rt: &HostRuntime, subject: &str, what: &str) -> Outcome<()> {
         if self.count == 0 {
             return Ok(());

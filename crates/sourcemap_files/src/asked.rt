@@ -8,7 +8,7 @@ use sourcemap_texts::Prefix;
 use sourcemap_words::{Outcome, failure_of};
 use std::alloc::{AllocError, Global};
 
-/// How a command ends that gave an answer.
+/// The status of a command that gave an answer.
 #[derive(Clone, Copy, Debug, PartialEq, Eq)]
 pub enum Status {
     /// Something was found, and nothing is wrong.
@@ -38,7 +38,7 @@ pub struct Asked<'a, 'm> {
     /// The folders of `--root` and `--maps`, with a slash at their ends.
     pub root: String,
     pub maps: Option<String>,
-    /// Those of `--prefix`.
+    /// The prefixes of `--prefix`.
     pub prefixes: Vec<Prefix>,
 }
 
@@ -81,7 +81,7 @@ fn prefixes_of(rt: &HostRuntime, matches: &ArgMatches<'_>) -> Outcome<Vec<Prefix
 }
 
 impl<'a, 'm> Asked<'a, 'm> {
-    /// What the options ask for that all commands about files have. Fails for a folder that is not there.
+    /// Reads the options of all commands about files. Fails for a folder that is not there.
     pub fn new(rt: &'a HostRuntime, matches: &'a ArgMatches<'m>) -> Outcome<Asked<'a, 'm>> {
         let root = match matches.get_str("root") {
             Some(root) => named_folder(rt, "--root", root)?,
@@ -105,12 +105,12 @@ impl<'a, 'm> Asked<'a, 'm> {
         self.rt.alloc()
     }
 
-    /// Whether a flag is there.
+    /// Whether a flag is given.
     pub fn has(&self, name: &str) -> bool {
         self.matches.get_flag(name)
     }
 
-    /// The word of an argument; empty if it is not there.
+    /// The word of an argument; empty if it is not given.
     pub fn word(&self, name: &str) -> &'m str {
         let matches = self.matches;
         match matches.get_str(name) {
@@ -135,7 +135,7 @@ impl<'a, 'm> Asked<'a, 'm> {
         self.matches.get_one::<u32>(name)
     }
 
-    /// Where files are looked for.
+    /// Where to look for files.
     pub fn places(&self) -> Places<'_> {
         Places {
             root: self.root.as_str(),
@@ -146,7 +146,7 @@ impl<'a, 'm> Asked<'a, 'm> {
         }
     }
 
-    /// The prefix of an input whose codes lie in the root; it is not known yet.
+    /// The prefix of an input whose codes are in the root; it is not known yet.
     pub fn input_prefix(&self) -> Result<InputPrefix, AllocError> {
         let name = folder_name(self.rt, self.root.as_str())?;
         InputPrefix::new(self.alloc(), name.as_str())

@@ -1,4 +1,4 @@
-//! Compiled maps: bytes made of a map, which know the text of that map by its length and its SHA-256.
+//! Compiled maps: bytes made of a map, which have the length and the SHA-256 of the text of that map.
 ghost use Rattle.std.specs.Prelude.{◌≡◌, ◌↔◌, IsTrue, IfOk, IfSome, Some, length};
 ghost use Rattle.oxc_sourcemap_parts.specs.Words.{record_of_parts, IsSound};
 ghost use Rattle.oxc_sourcemap_compiled.specs.Words.{AreBytesOf, checked_map, compiled_in};
@@ -14,7 +14,7 @@ use std::alloc::Global;
 use std::fs;
 use std::fs::Metadata;
 
-/// What the name of a compiled map has behind that of its map.
+/// The suffix of a compiled map, behind the name of its map.
 pub const COMPILED_END: &str = ".smc";
 
 /// The compiled map of these parts, with the length and the SHA-256 of the text that they were read from. `name` is for messages.
@@ -52,7 +52,7 @@ pub fn is_stale(bytes: &[u8], text: &str) -> bool {
     }
 }
 
-/// Whether two compiled maps were made of one text, by the lengths and stamps that they have; not if one of them is none.
+/// Whether two compiled maps were made of one text, by the lengths and stamps that they have; false if one is no compiled map.
 pub fn is_of_same_text(a: &[u8], b: &[u8]) -> bool {
     match (CompiledMap::open(a), CompiledMap::open(b)) {
         (Ok(a), Ok(b)) => a.text_length() == b.text_length() && a.stamp() == b.stamp(),
@@ -60,7 +60,7 @@ pub fn is_of_same_text(a: &[u8], b: &[u8]) -> bool {
     }
 }
 
-/// Whether a file was written last no earlier than another one; not if the system does not tell.
+/// Whether a file was last written no earlier than another one; false if the system does not report that.
 fn is_no_older(a: &Metadata, b: &Metadata) -> bool {
     match (a.modified(), b.modified()) {
         (Ok(a), Ok(b)) => a.duration_since(b).is_ok(),
@@ -68,8 +68,8 @@ fn is_no_older(a: &Metadata, b: &Metadata) -> bool {
     }
 }
 
-/// Whether the compiled map in this file is that of a map: it was made of a text as long as that has, and is no older, or knows the
-/// text by its SHA-256.
+/// Whether the compiled map in this file is that of a map: it was made of a text of the same length, and is no older, or has the SHA-256
+/// of the text.
 fn is_fresh(rt: &HostRuntime, path: &str, map: &CompiledMap<'_>, of: &str) -> Outcome<bool> {
     let (Ok(own), Ok(other)) = (fs::metadata(rt, path), fs::metadata(rt, of)) else {
         return Ok(false);
@@ -80,7 +80,7 @@ fn is_fresh(rt: &HostRuntime, path: &str, map: &CompiledMap<'_>, of: &str) -> Ou
     Ok(is_no_older(&own, &other) || is_of_text(map, read_text(rt, of)?.as_str()))
 }
 
-/// Whether bytes in the file `path` are the compiled map of the map in the file `of`. That they are none, or stale, is told as a warning.
+/// Whether bytes in the file `path` are the compiled map of the map in the file `of`. Warns if they are no compiled map, or stale.
 fn is_taken(rt: &HostRuntime, path: &str, bytes: &[u8], of: &str) -> Outcome<bool> {
     match CompiledMap::open(bytes) {
         Ok(map) => {
@@ -102,8 +102,8 @@ fn is_taken(rt: &HostRuntime, path: &str, bytes: &[u8], of: &str) -> Outcome<boo
     }
 }
 
-/// The bytes of the compiled map in the file `path`, if it is that of the map in the file `of`. Why it is not taken is told as a
-/// warning.
+/// The bytes of the compiled map in the file `path`, if it is that of the map in the file `of`. A warning says why it
+/// is not used.
 pub fn read_fresh(rt: &HostRuntime, path: &str, of: &str) -> Outcome<Option<Vec<u8>>> {
     let bytes = match read_bytes(rt, path) {
         Ok(bytes) => bytes,
@@ -119,7 +119,7 @@ pub fn read_fresh(rt: &HostRuntime, path: &str, of: &str) -> Outcome<Option<Vec<
     Ok(None)
 }
 
-/// What a file holds that has a map.
+/// The content of a file that has a map.
 #[derive(Drop)]
 pub enum Written {
     /// The text of a map, or of a code.

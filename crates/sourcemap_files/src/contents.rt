@@ -1,4 +1,4 @@
-//! Contents of sources that lie apart from a compiled map, in another one that has sources and contents alone.
+//! Contents of sources that are apart from a compiled map, in another one that has sources and contents alone.
 ghost use Rattle.std.specs.Prelude.{◌≡◌, IfOk, IfErr};
 ghost use Rattle.oxc_sourcemap_parts.specs.Words.{cow_texts, record_of_parts, texts_of};
 ghost use Rattle.sourcemap_files.specs.Contents.{contents_alone, without_contents};
@@ -15,7 +15,7 @@ use std::alloc::Global;
 use std::borrow::CowStr;
 use std::mem;
 
-/// What the name of a file with the contents of a map has behind that of the map.
+/// The suffix of a file with the contents of a map, behind the name of the map.
 pub const CONTENTS_END: &str = ".contents.smc";
 
 /// Copies of texts.
@@ -73,8 +73,8 @@ fn lacks_contents(parts: &SourceMapParts<'_>) -> bool {
             .all(|content| content.is_none())
 }
 
-/// The bytes of the file with the contents of a compiled map in the file `path`; None if there is none, or if it cannot be read or
-/// leads out of the folder, which is told as a warning.
+/// The bytes of the file with the contents of the compiled map in the file `path`; None if there is no such file. If it cannot be read
+/// or leads out of the folder, warns and returns None.
 fn read_apart(rt: &HostRuntime, apart: &str, path: &str) -> Outcome<Option<Vec<u8>>> {
     if !is_regular(rt, apart) {
         return Ok(None);
@@ -94,7 +94,7 @@ fn read_apart(rt: &HostRuntime, apart: &str, path: &str) -> Outcome<Option<Vec<u
 }
 
 /// The map in a file with the contents of the compiled map in the file `path`, whose bytes and sources are these; None if there is no
-/// such file. Why one is not taken is told as a warning.
+/// such file. A warning says why a file is not used.
 fn read_contents(
     rt: &HostRuntime,
     path: &str,
@@ -127,7 +127,7 @@ fn read_contents(
     Ok(None)
 }
 
-/// Puts the contents that lie apart from the compiled map in the file `path`, whose bytes are these, into its parts, and changes nothing
+/// Puts the contents that are apart from the compiled map in the file `path`, whose bytes are these, into its parts, and changes nothing
 /// else.
 pub fn put_contents(
     rt: &HostRuntime,

@@ -29,7 +29,7 @@ pub fn read_bytes(rt: &HostRuntime, path: &str) -> Outcome<Vec<u8>> {
     }
 }
 
-/// The text that the bytes of a file are.
+/// The text in the bytes of a file.
 pub fn text_in(alloc: Global, path: &str, bytes: Vec<u8>) -> Outcome<String> {
     match String::from_utf8(bytes) {
         Ok(text) => Ok(text),
@@ -59,7 +59,7 @@ pub fn print(rt: &HostRuntime, text: &str) -> Outcome<()> {
     print_bytes(rt, text.as_bytes())
 }
 
-/// Prints a message on standard error. That it cannot be printed is no failure. Files and arguments that it names may hold control
+/// Prints a message on standard error. If it cannot be printed, that is no failure. Files and arguments that it names may hold control
 /// characters: they are escaped.
 pub fn tell(rt: &HostRuntime, message: &str) {
     let mut visible = String::new(rt.alloc());
@@ -86,7 +86,7 @@ pub fn is_file(rt: &HostRuntime, path: &str) -> bool {
     }
 }
 
-/// Whether a file is there that is read without waiting: no pipe, nor a device.
+/// Whether a file is there that is read without waiting: neither a pipe nor a device.
 pub fn is_regular(rt: &HostRuntime, path: &str) -> bool {
     match fs::metadata(rt, path) {
         Ok(metadata) => metadata.is_file(),
@@ -94,7 +94,7 @@ pub fn is_regular(rt: &HostRuntime, path: &str) -> bool {
     }
 }
 
-/// The failure of a command whose words are wrong together.
+/// The failure of a command whose words do not fit together.
 pub fn usage(rt: &HostRuntime, text: &str) -> Failure {
     match String::from_str(rt.alloc(), text) {
         Ok(text) => Failure::Told(text),

@@ -1,4 +1,4 @@
-//! How long a map may be that is written.
+//! The greatest length of a written map.
 use crate::asked::Asked;
 use oxc_sourcemap_json::encode_parts_to_string_within;
 use oxc_sourcemap_parts::SourceMapParts;
@@ -6,7 +6,7 @@ use oxc_sourcemap_tokens::Error;
 use sourcemap_words::{Failure, Outcome, failure_of};
 use std::alloc::Global;
 
-/// How many bytes this many of a unit are: none, `K`, `M` or `G`, of 1,024 and its powers.
+/// How many bytes a word means: a number, or one with `K`, `M` or `G`, which are 1,024 and its powers.
 fn bytes_of(word: &str) -> Option<u64> {
     let (digits, unit): (&str, u64) = if let Some(digits) = word.strip_suffix('K') {
         (digits, 1024)

@@ -38,7 +38,7 @@ pub fn with_slash(alloc: Global, folder: &str) -> Result<String, AllocError> {
     format!(in alloc; "{folder}/")
 }
 
-/// The path of a URL or of a relative reference, without query and fragment, its escapes decoded; None if it is no text then.
+/// The path of a URL or of a relative reference, without query and fragment, its escapes decoded; None if the result is no text.
 pub fn path_of_url(alloc: Global, url: &str) -> Result<Option<String>, AllocError> {
     let path = if is_url(url) {
         match Url::parse(alloc, url) {
@@ -121,7 +121,7 @@ pub fn path_of(alloc: Global, folder: &str, parts: &[&str]) -> Result<String, Al
     Ok(path)
 }
 
-/// The file to write to, if others are to lie beside it: of a link the file that it leads to. None of a link to nothing.
+/// The file to write to, if others are to be beside it: for a link the file that it leads to. None for a link to nothing.
 pub fn written_name(rt: &HostRuntime, path: &str) -> Result<Option<String>, AllocError> {
     match fs::symlink_metadata(rt, path) {
         Ok(metadata) if metadata.is_symlink() => Ok(real_path(rt, path)),
@@ -167,7 +167,7 @@ fn plain_parts<'p>(
     Ok(parts)
 }
 
-/// The path of a source in a folder, `..` taken together with the parts before it; a path that stands by itself stays.
+/// The path of a source in a folder, `..` joined with the parts before it; a path that stands by itself stays.
 pub fn plain_path(alloc: Global, folder: &str, path: &str) -> Result<String, AllocError> {
     if stands_by_itself(path) {
         return String::from_str(alloc, path);

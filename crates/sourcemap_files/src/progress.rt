@@ -1,11 +1,11 @@
-//! How far a long run is, on a terminal's standard error.
+//! The progress of a long run, on a terminal's standard error.
 use sourcemap_texts::push_visible;
 use std::io::IsTerminal;
 
-/// A run over so few files is not told of.
+/// A run over at most this number of files shows no progress.
 const FEW: usize = 8;
 
-/// How far a run over several files is.
+/// The progress of a run over several files.
 #[derive(Clone, Copy)]
 pub struct Progress {
     total: usize,
@@ -22,7 +22,7 @@ impl Progress {
         }
     }
 
-    /// Tells that a file is begun.
+    /// Shows that a file is begun.
     pub fn begin(&mut self, rt: &HostRuntime, file: &str) {
         self.begun = self.begun.saturating_add(1);
         let mut visible = String::new(rt.alloc());
@@ -32,7 +32,7 @@ impl Progress {
         }
     }
 
-    /// Makes room for other lines.
+    /// Clears the line for other output.
     pub fn clear(&self, rt: &HostRuntime) {
         if self.is_shown {
             let _ = eprint!(rt; "\r\u{1b}[K");

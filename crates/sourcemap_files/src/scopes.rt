@@ -5,7 +5,7 @@ use crate::input::{read_text, tell, warn};
 use oxc_sourcemap_scopes::{Scopes, ScopesError, read_scopes};
 use sourcemap_words::{Failure, Outcome};
 
-/// A text without what may stand in front of JSON: a mark of the order of bytes, and a first line that no script may run.
+/// A text without what may precede JSON: a mark of the order of bytes, and a first line that no script may run.
 fn json_in(text: &str) -> &str {
     let text = text.strip_prefix('\u{feff}').unwrap_or(text);
     if !text.starts_with(")]}'") {
@@ -17,8 +17,8 @@ fn json_in(text: &str) -> &str {
     }
 }
 
-/// The scopes that the text of a map has, if there are some with ranges. If they are faulty, the map is used without them, and that is
-/// told as a warning, unless it `is_told` already.
+/// The scopes that the text of a map has, if there are some with ranges. If they are faulty, the map is used without them, and a
+/// warning reports that, unless it `is_told` already.
 fn scopes_in(rt: &HostRuntime, name: &str, text: &str, is_told: bool) -> Outcome<Option<Scopes>> {
     if !text.contains("\"scopes\"") {
         return Ok(None);
@@ -37,7 +37,7 @@ fn scopes_in(rt: &HostRuntime, name: &str, text: &str, is_told: bool) -> Outcome
     }
 }
 
-/// The scopes of the map in a file, which stands behind a compiled one.
+/// The scopes of the map in a file, of which a compiled map was made.
 fn scopes_behind(rt: &HostRuntime, path: &str, is_told: bool) -> Outcome<Option<Scopes>> {
     match read_text(rt, path) {
         Ok(text) => scopes_in(rt, path, text.as_str(), is_told),
@@ -52,7 +52,7 @@ fn scopes_behind(rt: &HostRuntime, path: &str, is_told: bool) -> Outcome<Option<
     }
 }
 
-/// The scopes of a map; of a compiled one, which has none, those of the map beside it. What is wrong with them is told unless it
+/// The scopes of a map; of a compiled one, which has none, those of the map beside it. Warns of what is wrong with them unless it
 /// `is_told` already.
 pub fn scopes_of_map(rt: &HostRuntime, map: &MapText, is_told: bool) -> Outcome<Option<Scopes>> {
     match (&map.written, map.behind.as_deref()) {

@@ -13,7 +13,7 @@ use sourcemap_words::{Outcome, failure_of};
 use std::alloc::Global;
 use std::borrow::CowStr;
 
-/// The parts of a map, or of that of a section, whose mends were told before. `name` is for messages.
+/// The parts of a map, or of that of a section, whose mends were reported before. `name` is for messages.
 fn own_parts(alloc: Global, name: &str, text: &str) -> Outcome<SourceMapParts<'static>> {
     match read_found_parts(alloc, text) {
         Ok(FoundParts { parts, .. }) => Ok(parts),
@@ -124,7 +124,7 @@ pub fn root_sections(
     put_roots(alloc, parts, maps)
 }
 
-/// The parts of a map, the source roots of sections applied; what is mended was told before. `name` is for messages.
+/// The parts of a map, the source roots of sections applied; what is mended was reported before. `name` is for messages.
 pub fn parts_in(alloc: Global, name: &str, text: &str) -> Outcome<SourceMapParts<'static>> {
     let mut parts = own_parts(alloc, name, text)?;
     root_sections(alloc, name, text, &mut parts)?;

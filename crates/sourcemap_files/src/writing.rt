@@ -7,10 +7,10 @@ use std::fs::{File, OpenOptions};
 use std::io::{ErrorKind, Write};
 use std::{fs, io};
 
-/// So many names are tried for a file beside another one.
+/// How many names are tried for a file beside another one.
 const NAMES: u32 = 1000;
 
-/// Bytes on their way to a file.
+/// Bytes that are to be written to a file.
 #[derive(Drop)]
 struct Pending<'t> {
     /// How the file was named.

@@ -91,8 +91,8 @@ fn wrap_of<'m>(asked: &Asked<'_, 'm>) -> Result<Option<(&'m str, &'m str)>, Allo
     }
 }
 
-/// Appends what stands before a code: a semicolon, where it would else run together with the code before it, and the first text of
-/// `--wrap`. Says how much of the code's own front is then left out: its hashbang, which may stand at the beginning of the bundle alone.
+/// Appends the text before a code: a semicolon, where it would else run together with the code before it, and the first text of
+/// `--wrap`. Returns how much of the code's own front is then left out: its hashbang, which may be at the beginning of the bundle alone.
 fn push_front(
     alloc: Global,
     code: &str,

@@ -1,9 +1,9 @@
-//! Texts of codes, as they stand one after another in a bundle.
+//! Texts of codes, as they follow one another in a bundle.
 use oxc_sourcemap_text::{Language, source_mapping_comment};
 use sourcemap_run::{LINE_ENDS, debug_id_in_line, tail_start};
 use std::alloc::{AllocError, Global};
 
-/// What can go on with an expression that stands before it on another line.
+/// What can continue an expression that is before it on another line.
 const GOES_ON: [char; 9] = ['(', '[', '`', '+', '-', '/', '*', ',', '.'];
 
 /// What no statement that ends needs a semicolon behind, or what none ends with.
@@ -11,7 +11,7 @@ const ENDED: [char; 18] = [
     ';', '{', '(', '[', ',', '=', ':', '?', '&', '|', '^', '~', '!', '<', '>', '*', '%', '.',
 ];
 
-/// Appends a text that stood further behind. A space keeps two ends of lines from being one.
+/// Appends a text from further behind. A space keeps two ends of lines from being one.
 fn push_behind(text: &str, code: &mut String) -> Result<(), AllocError> {
     if code.ends_with('\r') && text.starts_with('\n') {
         code.push(' ')?;
@@ -58,7 +58,7 @@ pub fn without_map_comments(
     }
 }
 
-/// The line that names the program that runs a script, without its end; empty if there is none. It may stand at the very beginning alone.
+/// The line that names the program that runs a script, without its end; empty if there is none. It may be at the very beginning alone.
 pub fn hashbang_of(code: &str) -> &str {
     if !code.starts_with("#!") {
         return "";
@@ -89,7 +89,7 @@ fn first_character(code: &str) -> Option<char> {
     rest.chars().next()
 }
 
-/// What is before a comment that a text ends with. None if it cannot be told without reading all of the code.
+/// What is before a comment that a text ends with. None if it cannot be found without reading all of the code.
 fn before_comment(text: &str) -> Option<&str> {
     let start = text.rfind(LINE_ENDS.as_slice()).unwrap_or(0);
     let line = text.get(start..).unwrap_or("");
@@ -103,7 +103,7 @@ fn before_comment(text: &str) -> Option<&str> {
     Some(front)
 }
 
-/// The last character of a code before white space and comments. None if it cannot be told.
+/// The last character of a code before white space and comments. None if it cannot be found.
 fn last_character(code: &str) -> Option<char> {
     let mut rest = code.trim_end();
     for _ in 0..code.len() {

@@ -10,7 +10,7 @@ use sourcemap_run::{push_number_member, push_object, push_text_member};
 use sourcemap_words::{Failure, Outcome, failure_of};
 use std::fs;
 
-/// A compiled map, or the contents that lie apart from it, and the file that it is written to.
+/// A compiled map, or the contents that are apart from it, and the file that it is written to.
 #[derive(Drop)]
 struct Made {
     /// How its map is named in messages.
@@ -136,7 +136,7 @@ fn write(asked: &Asked<'_, '_>, all: &[Made]) -> Outcome<()> {
     write_files(asked.rt, files.as_slice())
 }
 
-/// Warns of contents that lie beside compiled maps which are written without them.
+/// Warns of contents beside compiled maps which are written without them.
 fn tell_left(asked: &Asked<'_, '_>, all: &[Made]) -> Outcome<()> {
     if asked.has("contents-apart") {
         return Ok(());
@@ -175,7 +175,7 @@ fn made_after(asked: &Asked<'_, '_>, all: &[Made], file: &str) -> Outcome<Vec<Ma
     Ok(made)
 }
 
-/// Runs the command `compile`. A file that has no map, or one that cannot be compiled, is told, and the others are compiled.
+/// Runs the command `compile`. Reports each file that has no map or cannot be compiled, and compiles the others.
 pub fn run(asked: &Asked<'_, '_>) -> Outcome<Status> {
     let files = asked.words("FILE")?;
     let mut progress = Progress::new(asked.rt, files.len());

@@ -14,7 +14,7 @@ pub fn stop(alloc: Global) -> Result<SourceMapParts<'static>> {
     Ok(parts)
 }
 
-/// A map that says something from the beginning of its code on: where it does not, that it is mapped to nothing. Else those who look for a
+/// A map that covers its code from the beginning on: where it does not, with a token that points to nothing. Else those who look for a
 /// token on lines before that of a position would find one of the code before.
 pub fn with_stop(alloc: Global, parts: SourceMapParts<'static>) -> Result<SourceMapParts<'static>> {
     let mut parts = parts;
@@ -30,7 +30,7 @@ pub fn with_stop(alloc: Global, parts: SourceMapParts<'static>) -> Result<Source
     Ok(parts)
 }
 
-/// The map of a code to the file that it stands in: each line of the code comes from the same line of the file.
+/// The map of a code to the file that it is in: each line of the code comes from the same line of the file.
 pub fn mapped_to_itself(
     alloc: Global,
     source: &str,

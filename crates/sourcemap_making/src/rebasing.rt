@@ -1,4 +1,4 @@
-//! Sources of maps, led from one folder to another.
+//! Makes the sources of maps relative to another folder.
 use oxc_sourcemap_parts::SourceMapParts;
 use sourcemap_files::current_folder;
 use sourcemap_run::rebase_sources;

@@ -1,4 +1,4 @@
-//! `remap`: a map led through the maps of its sources.
+//! `remap`: a map traced through the maps of its sources.
 use crate::rebasing::rebase;
 use crate::scopes::read_without_scopes;
 use oxc_sourcemap_map::{SourceMap, parts_of};
@@ -11,7 +11,7 @@ use sourcemap_texts::is_url;
 use sourcemap_words::{Outcome, failure_of};
 use std::alloc::Global;
 
-/// So many maps may lie one above the other.
+/// The greatest number of maps one above the other.
 const DEEPEST: u32 = 256;
 
 /// The maps on the way from the one that is remapped, by their real paths: a map that is met again would be its own source.
@@ -61,8 +61,8 @@ fn map_of_source(asked: &Asked<'_, '_>, folder: &str, source: &str) -> Outcome<O
     }
 }
 
-/// The map of a source, led on to its own originals, its sources relative to the folder of the outer map. `count` counts the maps
-/// that lead on, as in all functions here.
+/// The map of a source, traced to its own originals, its sources relative to the folder of the outer map. `count` counts the maps
+/// that are traced through, as in all functions here.
 #[cycle(follow)]
 fn followed_source(
     asked: &Asked<'_, '_>,
@@ -119,7 +119,7 @@ fn inputs_of(
     Ok(inputs)
 }
 
-/// A map led through inputs; its strings are its own.
+/// A map traced through inputs. It owns its strings.
 fn remap_by(
     alloc: Global,
     map: &SourceMap<'_>,
@@ -133,7 +133,7 @@ fn remap_by(
     Ok(led.into_owned(alloc)?)
 }
 
-/// A map that was read, led through the maps of its sources, at any depth.
+/// A map that was read, traced through the maps of its sources, at any depth.
 #[cycle(follow)]
 fn follow_sources(
     asked: &Asked<'_, '_>,
@@ -173,7 +173,7 @@ fn given_inputs(asked: &Asked<'_, '_>, folder: &str) -> Outcome<Vec<(String, Sou
     Ok(inputs)
 }
 
-/// Tells of inputs that are for no source.
+/// Warns of inputs that are for no source.
 fn warn_unused(
     asked: &Asked<'_, '_>,
     map: &SourceMap<'_>,
@@ -240,7 +240,7 @@ fn write(asked: &Asked<'_, '_>, map: &SourceMap<'_>, inputs: u64, limit: u64) ->
     Ok(Status::Found)
 }
 
-/// A map that was read, led through the maps of the arguments.
+/// A map that was read, traced through the maps of the arguments.
 fn led_by_given(
     asked: &Asked<'_, '_>,
     text: &MapText,
@@ -254,7 +254,7 @@ fn led_by_given(
     remap_by(asked.alloc(), &map, given.as_slice())
 }
 
-/// A map, led on through the maps of its sources, at any depth.
+/// A map, traced through the maps of its sources, at any depth.
 fn led_on(
     asked: &Asked<'_, '_>,
     text: &MapText,

@@ -7,7 +7,7 @@ use sourcemap_words::Outcome;
 /// The key of scopes, as it is written.
 const KEY: &str = "\"scopes\"";
 
-/// Tells of the scopes of a map, if its text has some, that they are left out.
+/// Warns that the scopes of a map are left out, if its text has some.
 fn tell_left_out(rt: &HostRuntime, map: &MapText) -> Outcome<()> {
     if let Written::Text(text) = &map.written
         && text.contains(KEY)
@@ -22,7 +22,7 @@ fn tell_left_out(rt: &HostRuntime, map: &MapText) -> Outcome<()> {
     Ok(())
 }
 
-/// Reads a map of which another one is made, without its scopes: that they are left out is told.
+/// Reads a map of which another one is made, without its scopes. Warns that they are left out.
 pub fn read_without_scopes(rt: &HostRuntime, map: &MapText) -> Outcome<SourceMapParts<'static>> {
     let parts = read_map(rt, map)?;
     tell_left_out(rt, map)?;

@@ -18,7 +18,7 @@ use sourcemap_texts::{push_shown, push_visible};
 use sourcemap_words::{Failure, Outcome, failure_of};
 use std::alloc::{AllocError, Global};
 
-/// What is told of a map.
+/// The kind of a report on a map.
 #[derive(Clone, Copy, PartialEq, Eq)]
 enum Kind {
     Summary,
@@ -36,7 +36,7 @@ impl Kind {
     }
 }
 
-/// What is told of one file, as it is printed.
+/// The report on one file, as it is printed.
 #[derive(Drop)]
 struct Report {
     alloc: Global,
@@ -126,8 +126,8 @@ fn tell_unsorted(report: &mut Report, tokens: &[Token]) -> Outcome<()> {
     report.tell(Kind::Wrong, text.as_str())
 }
 
-/// What the exact reader refuses, and where. What is no JSON of a map to that reader is told by what is mended of it alone; of ids and
-/// sections that tells only how many are wrong.
+/// What the exact reader refuses, and where. Of what is no JSON of a map to that reader, only what is mended is reported; of ids and
+/// sections that is only how many are wrong.
 fn tell_refused(report: &mut Report, text: &str, error: Error, mends: &[Mend]) -> Outcome<()> {
     if matches!(error, Error::BadJson(_)) && !mends.is_empty() {
         return Ok(());
@@ -234,7 +234,7 @@ fn tell_contents(report: &mut Report, map: &SourceMap<'_>) -> Outcome<()> {
     report.tell(Kind::Note, missing.as_str())
 }
 
-/// Tells of sources past the last one that something has.
+/// Reports sources past the last one that something has.
 fn tell_past_sources(report: &mut Report, past: PastSources, what: &str) -> Outcome<()> {
     let Some(first) = past.first else {
         return Ok(());
@@ -318,7 +318,7 @@ fn tell_unneeded(report: &mut Report, map: SourceMap<'static>, held: &MapScopes)
     report.tell(Kind::Note, text.as_str())
 }
 
-/// Tells that the debug id of a map is not that of its code, if both have one.
+/// Reports that the debug id of a map is not that of its code, if both have one.
 fn tell_debug_ids(report: &mut Report, map: Option<&str>, code: Option<&str>) -> Outcome<()> {
     let (Some(map), Some(code)) = (map, debug_id_of_code(code.unwrap_or(""))) else {
         return Ok(());
@@ -332,7 +332,7 @@ fn tell_debug_ids(report: &mut Report, map: Option<&str>, code: Option<&str>) ->
     report.tell(Kind::Wrong, text.as_str())
 }
 
-/// What is told of a map that was read, and of its code if there is one.
+/// Reports on a map that was read, and on its code if there is one.
 fn tell_held(
     report: &mut Report,
     map: SourceMap<'static>,
@@ -347,7 +347,7 @@ fn tell_held(
     tell_unneeded(report, map, held)
 }
 
-/// What is told of the text of a map.
+/// Reports on the text of a map.
 fn check_text(report: &mut Report, text: &str, code: Option<&str>) -> Outcome<()> {
     let alloc = report.alloc;
     let FoundParts { parts, mends } = match read_found_parts(alloc, text) {
@@ -364,7 +364,7 @@ fn check_text(report: &mut Report, text: &str, code: Option<&str>) -> Outcome<()
     tell_held(report, map, &scopes_in(alloc, text)?, code)
 }
 
-/// What is told of a compiled map; of contents that lie apart nothing but the summary.
+/// Reports on a compiled map; on contents that are apart only the summary.
 fn check_compiled(
     rt: &HostRuntime,
     report: &mut Report,
@@ -387,7 +387,7 @@ fn check_compiled(
     tell_held(report, map, &MapScopes::none(report.alloc), code)
 }
 
-/// What is told of a map, and of its code if there is one.
+/// Reports on a map, and on its code if there is one.
 fn check_map(
     rt: &HostRuntime,
     report: &mut Report,
@@ -422,7 +422,7 @@ fn report_on(asked: &Asked<'_, '_>, file: &str) -> Result<Report, AllocError> {
     })
 }
 
-/// What is told of a map and its code, as objects, one a line.
+/// Reports on a map and its code, as objects, one a line.
 pub fn objects_of(asked: &Asked<'_, '_>, map: &MapText, code: &str) -> Outcome<String> {
     let mut report = report_on(asked, map.name.as_str())?;
     report.json = true;
@@ -430,7 +430,7 @@ pub fn objects_of(asked: &Asked<'_, '_>, map: &MapText, code: &str) -> Outcome<S
     Ok(report.out)
 }
 
-/// Tells whether a compiled map is another one than that of the text which it was made of, or, if it has contents that lie apart, these.
+/// Reports whether a compiled map differs from that of the text which it was made of, or, if its contents are apart, whether these do.
 fn tell_different(
     report: &mut Report,
     bytes: &[u8],
@@ -451,7 +451,7 @@ fn tell_different(
     report.tell(Kind::Wrong, told.as_str())
 }
 
-/// Tells whether a compiled map is that of the map beside it.
+/// Reports whether a compiled map is that of the map beside it.
 fn tell_stale(rt: &HostRuntime, file: &str, bytes: &[u8], report: &mut Report) -> Outcome<()> {
     let is_apart = file.ends_with(CONTENTS_END);
     let end = if is_apart { CONTENTS_END } else { COMPILED_END };
@@ -470,7 +470,7 @@ fn tell_stale(rt: &HostRuntime, file: &str, bytes: &[u8], report: &mut Report) -
     report.tell(Kind::Wrong, told.as_str())
 }
 
-/// Tells of the compiled map beside a map in a file, if that was made of another text, or cannot be read: the map is checked all the same.
+/// Reports the compiled map beside a map in a file, if it was made of another text or cannot be read. The map is checked all the same.
 fn tell_stale_beside(rt: &HostRuntime, map: &str, text: &str, report: &mut Report) -> Outcome<()> {
     let name = format!(in report.alloc; "{map}{COMPILED_END}")?;
     if !is_regular(rt, name.as_str()) {
@@ -490,7 +490,7 @@ fn tell_stale_beside(rt: &HostRuntime, map: &str, text: &str, report: &mut Repor
     }
 }
 
-/// What is told of a map in a file, beside its code if that is there, and of it and a compiled one beside one another.
+/// Reports on a map in a file, with its code if that is there, and compares it with a compiled map beside it.
 fn check_as_map(rt: &HostRuntime, file: &str, map: &Written, report: &mut Report) -> Outcome<()> {
     let code = code_of(rt, file)?;
     check_map(rt, report, map, code.as_deref())?;
@@ -500,7 +500,7 @@ fn check_as_map(rt: &HostRuntime, file: &str, map: &Written, report: &mut Report
     }
 }
 
-/// What is told of the map of a code.
+/// Reports on the map of a code.
 fn check_as_code(
     asked: &Asked<'_, '_>,
     file: &str,
@@ -531,7 +531,7 @@ fn check_as_code(
     }
 }
 
-/// What is told of a file.
+/// Reports on a file.
 fn check_file(asked: &Asked<'_, '_>, file: &str) -> Outcome<Report> {
     let mut report = report_on(asked, file)?;
     let written = read_written(asked.rt, file)?;

@@ -18,10 +18,10 @@ use std::alloc::{AllocError, Global};
 use std::collections::BTreeMap;
 use std::env;
 
-/// So many codes that are left out are told one by one, and more by their number.
+/// How many of the codes that are left out are reported one by one; the others are counted.
 const FEW: usize = 8;
 
-/// What V8 tells, by source.
+/// V8's report, by source.
 #[derive(Drop)]
 struct Coverage {
     alloc: Global,
@@ -30,7 +30,7 @@ struct Coverage {
     /// What is before the paths of codes in the root.
     input: InputPrefix,
     sources: Totals,
-    /// The codes that are left out, and what is told of them.
+    /// The codes that are left out, and the reports on them.
     left_out: BTreeMap<String, String>,
 }
 
@@ -62,7 +62,7 @@ fn has_code(code: &Code<'_>, mark: &Mark) -> bool {
     part.iter().any(|unit| is_code(*unit))
 }
 
-/// The positions of a run; None if V8 tells of another code.
+/// The positions of a run; None if V8's report is of another code.
 fn block_of(positions: &TextPositions<'_>, run: &Run) -> Option<Block> {
     let (line, column) = positions.position(run.start).ok()?;
     let (end_line, end_column) = positions.position(run.end).ok()?;
@@ -107,7 +107,7 @@ fn code_marks_of(
     };
     let mut marks = marks_of(alloc, map, &positions, runs)?;
     marks.retain(|mark| has_code(&code, mark));
-    // Of pieces that stand in a row and say the same one counts as much as all.
+    // Of pieces that follow one another and say the same one counts as much as all.
     marks.dedup_by_key(|mark| (mark.source_id, mark.line, mark.count));
     Ok(marks)
 }
@@ -180,7 +180,7 @@ impl Coverage {
         Ok(())
     }
 
-    /// Adds what V8 tells of a script with this code and this map.
+    /// Adds V8's report of a script with this code and this map.
     fn add_mapped(
         &mut self,
         asked: &Asked<'_, '_>,
@@ -208,7 +208,7 @@ impl Coverage {
         }
     }
 
-    /// Adds what V8 tells of a script, if its code is found and has a map.
+    /// Adds V8's report of a script, if its code is found and has a map.
     fn add_script(&mut self, asked: &Asked<'_, '_>, script: &Script) -> Outcome<()> {
         let url = script.url.as_str();
         if is_of_engine(url) {
@@ -225,7 +225,7 @@ impl Coverage {
         }
     }
 
-    /// Adds what V8 tells of a script with this code, if that has a map.
+    /// Adds V8's report of a script with this code, if that has a map.
     fn add_code(&mut self, asked: &Asked<'_, '_>, script: &Script, found: CodeFile) -> Outcome<()> {
         let rt = asked.rt;
         let path = found.path.as_str();
@@ -246,7 +246,7 @@ impl Coverage {
         }
     }
 
-    /// Tells which codes are left out, or how many if they are not few, and that nothing is found.
+    /// Reports which codes are left out, or how many if they are not few, and that nothing is found.
     fn tell_left_out(&self, rt: &HostRuntime) -> Outcome<()> {
         let count = self.left_out.len();
         for why in self.left_out.values().take(FEW) {
@@ -259,7 +259,7 @@ impl Coverage {
             tell(rt, text.as_str());
         }
         if self.sources.is_empty() {
-            tell(rt, "no line of an original is found in what V8 tells");
+            tell(rt, "no line of an original is found in V8's coverage");
         }
         Ok(())
     }
@@ -270,7 +270,7 @@ fn is_of_engine(url: &str) -> bool {
     url.is_empty() || url.starts_with("node:") || url.starts_with("evalmachine.")
 }
 
-/// Adds what a file of V8 tells.
+/// Adds the report in a file of V8.
 fn add_file(asked: &Asked<'_, '_>, file: &str, coverage: &mut Coverage) -> Outcome<()> {
     let alloc = asked.alloc();
     let text = read_text(asked.rt, file)?;

@@ -1,4 +1,4 @@
-//! `diff`: where two maps say different things.
+//! `diff`: where two maps answer differently.
 use crate::scopes::are_scopes_equal;
 use oxc_sourcemap_tokens::{Position, Token};
 use sourcemap_files::{Asked, Status, Written, map_of_file, print, read_map};
@@ -72,13 +72,13 @@ fn difference_line(
     format!(in alloc; "{line}:{column}: the first difference; {count} of {of} places differ\n")
 }
 
-/// How many places two maps say different things of, and how many there are.
+/// At how many places two maps answer differently, and how many places there are.
 fn count_of(alloc: Global, a: &Tracer, b: &Tracer) -> Result<(usize, usize), AllocError> {
     let places = places_of(alloc, a, b)?;
     Ok((count_differences(a, b, places.as_slice()), places.len()))
 }
 
-/// Prints that two maps have other scopes, if they do, and that nothing else differs.
+/// Prints, for two maps that otherwise agree, whether their scopes differ.
 fn tell_scopes(asked: &Asked<'_, '_>, a: &Written, b: &Written) -> Outcome<Status> {
     let is_same = have_same_scopes(asked.alloc(), a, b)?;
     let text = match (is_same, asked.has("json")) {
@@ -91,7 +91,7 @@ fn tell_scopes(asked: &Asked<'_, '_>, a: &Written, b: &Written) -> Outcome<Statu
     Ok(Status::of(is_same))
 }
 
-/// Prints whether two maps say different things, and where first.
+/// Prints whether two maps answer differently, and where first.
 fn tell(asked: &Asked<'_, '_>, a: &Side, b: &Side) -> Outcome<Status> {
     let Some(first) = first_difference_of_parts(a.tracer.parts(), b.tracer.parts()) else {
         return tell_scopes(asked, &a.written, &b.written);
@@ -102,7 +102,7 @@ fn tell(asked: &Asked<'_, '_>, a: &Side, b: &Side) -> Outcome<Status> {
     Ok(Status::Nothing)
 }
 
-// What is proved of a function grows with what it owns times the places where it may end, so the rest of this is `tell`.
+// The proof of a function grows with what it owns times the places where it may end, so the rest of this is `tell`.
 /// Runs the command `diff`.
 pub fn run(asked: &Asked<'_, '_>) -> Outcome<Status> {
     let a = Side::read(asked, "A")?;

@@ -14,7 +14,7 @@ const VARIABLE: &str = "SOURCEMAP_PAGE";
 /// The template beside the program, from the folder that the program is in.
 const BESIDE: &str = "../share/sourcemap/page.html";
 
-/// The path of the template beside the program; None if the system does not tell where the program is.
+/// The path of the template beside the program; None if the system does not report where the program is.
 fn beside_program(rt: &HostRuntime) -> Result<Option<String>, AllocError> {
     let Ok(program) = env::current_exe(rt) else {
         return Ok(None);
@@ -57,7 +57,7 @@ fn map_text(asked: &Asked<'_, '_>, code: &str, text: &str) -> Outcome<MapText> {
     }
 }
 
-/// A map as its text. That of a compiled one is made once, so that what is told of its files is told once; the page's report is on it.
+/// A map as its text. That of a compiled one is made once, so that its files are reported once; the page's report is on it.
 fn as_text(rt: &HostRuntime, map: MapText) -> Outcome<MapText> {
     if let Written::Text(_) = &map.written {
         return Ok(map);
@@ -156,7 +156,7 @@ fn check_output(asked: &Asked<'_, '_>, map: &MapText) -> Outcome<()> {
     Ok(())
 }
 
-/// The failure of a code in whose place a map is named, with what is to be done.
+/// The failure of a code in whose place a map is named, with what to do.
 fn no_code(alloc: Global, code: &str, instead: &str) -> Failure {
     match format!(in alloc; "is a map: {instead}") {
         Ok(text) => failure_of(alloc, shown_name(code), text.as_str()),
@@ -164,7 +164,7 @@ fn no_code(alloc: Global, code: &str, instead: &str) -> Failure {
     }
 }
 
-/// The text of a code. A map in its place is refused, with what is to be done.
+/// The text of a code. Refuses a map in its place, and says what to do.
 pub(crate) fn read_code(rt: &HostRuntime, code: &str, instead: &str) -> Outcome<String> {
     let text = match read_written(rt, code)? {
         Written::Text(text) => text,
@@ -176,7 +176,7 @@ pub(crate) fn read_code(rt: &HostRuntime, code: &str, instead: &str) -> Outcome<
     Ok(text)
 }
 
-/// Writes the page, and tells of it.
+/// Writes the page, and reports it.
 fn write(asked: &Asked<'_, '_>, text: &str, map: &MapText) -> Outcome<()> {
     let code = asked.word("CODE");
     let content = data_of(asked, code, text, map)?;

@@ -160,7 +160,7 @@ fn sources_beside(
 }
 
 impl MapScopes {
-    /// Those of a map that has none.
+    /// The scopes of a map that has none.
     pub fn none(alloc: Global) -> MapScopes {
         MapScopes {
             are_names_known: true,
@@ -168,7 +168,7 @@ impl MapScopes {
         }
     }
 
-    /// Those that are not read, for this reason if it is to be told.
+    /// Scopes that are not read, for this reason if it is to be reported.
     fn unread(alloc: Global, fault: Option<ScopesError>) -> MapScopes {
         MapScopes {
             scopes: None,
@@ -249,7 +249,7 @@ fn may_have_pieces(text: &str) -> bool {
     false
 }
 
-/// Scopes by their text, in a map with so many names.
+/// Scopes by their text, in a map with `names` names.
 fn scopes_of_text(alloc: Global, text: &str, names: usize) -> Outcome<MapScopes> {
     match decode_scopes(alloc, text, names) {
         Ok(scopes) => Ok(MapScopes {
@@ -278,7 +278,7 @@ fn scopes_of_value(alloc: Global, map: &Value) -> Outcome<MapScopes> {
     scopes_of_text(alloc, text, names)
 }
 
-/// The sections of an indexed map, by its JSON value; None of a map that is none.
+/// The sections of an indexed map, by its JSON value; None for any other map.
 fn sections_of(map: &Value) -> Option<&[Value]> {
     match map.get("sections") {
         None | Some(Value::Null) => None,
@@ -307,7 +307,7 @@ fn scopes_of_sections(alloc: Global, sections: &[Value]) -> Outcome<MapScopes> {
     Ok(held)
 }
 
-/// The JSON value in the text of a map, behind what stands in front of the first brace; None if it is no JSON.
+/// The JSON value in the text of a map, without the text before the first brace; None if it is no JSON.
 fn value_in(alloc: Global, text: &str) -> Outcome<Option<Value>> {
     let front = text.find('{').unwrap_or(text.len());
     match Value::from_str(alloc, text.get(front..).unwrap_or("")) {
@@ -317,7 +317,7 @@ fn value_in(alloc: Global, text: &str) -> Outcome<Option<Value>> {
     }
 }
 
-/// The scopes of a map, by its text. What stands in front of the first brace is passed over; what is no JSON is told elsewhere.
+/// The scopes of a map, by its text. Text before the first brace is skipped; a text that is no JSON is reported elsewhere.
 pub fn scopes_in(alloc: Global, text: &str) -> Outcome<MapScopes> {
     if !text.contains("\"scopes\"") {
         return Ok(MapScopes::none(alloc));

@@ -15,13 +15,13 @@ use std::alloc::{AllocError, Global};
 use std::cmp::Ordering;
 use std::collections::BTreeMap;
 
-/// What stands between the parts of a path.
+/// The separator of the parts of a path.
 const SLASHES: [char; 2] = ['/', '\\'];
 
 /// The name of a source that has none.
 const UNKNOWN: &str = "<unknown>";
 
-/// What bytes are told of.
+/// What bytes are reported for.
 #[derive(Clone, Copy)]
 enum Kind {
     Source,
@@ -34,7 +34,7 @@ enum Kind {
 }
 
 impl Kind {
-    /// That of `--by`.
+    /// The one that `--by` names.
     fn of_word(word: &str) -> Kind {
         match word {
             "folder" => Kind::Folder,
@@ -67,7 +67,7 @@ struct Sizes {
     kind: Kind,
     /// Their bytes, by their names. Code of no package has an empty name.
     named: BTreeMap<String, u64>,
-    /// Of folders, the bytes of sources whose paths begin with so many `..`, by that number.
+    /// Of folders, the bytes of sources by the number of `..` that their paths begin with.
     above: BTreeMap<usize, u64>,
     unmapped: u64,
     all: u64,
@@ -113,7 +113,7 @@ fn climb(path: &str) -> (usize, &str) {
     (count, rest)
 }
 
-/// The folder that is so many folders above the one that paths begin in.
+/// The folder that is `count` folders above the one that paths begin in.
 fn outer_folder(alloc: Global, count: usize) -> Result<String, AllocError> {
     if count == 0 {
         return String::from_str(alloc, "./");
@@ -121,7 +121,7 @@ fn outer_folder(alloc: Global, count: usize) -> Result<String, AllocError> {
     "../".repeat(alloc, count)
 }
 
-/// Whether the front of a path, with a slash at its end, is a folder: where slashes stand in a row, as behind a scheme, up to the last one.
+/// Whether the front of a path, with a slash at its end, is a folder: where several slashes follow, as behind a scheme, up to the last one.
 fn is_folder(front: &str, rest: &str) -> bool {
     !rest.starts_with('/') && !front.ends_with("/./")
 }
@@ -174,7 +174,7 @@ impl Sizes {
         self.add_to_fronts(source, from, bytes)
     }
 
-    /// The bytes of sources whose paths begin with no more than so many `..`.
+    /// The bytes of sources whose paths begin with no more than `count` parts `..`.
     fn bytes_within(&self, count: usize) -> u64 {
         let mut sum = 0u64;
         for (above, bytes) in &self.above {
@@ -185,7 +185,7 @@ impl Sizes {
         sum
     }
 
-    /// Adds the folders that are so many folders above the one that paths begin in: each has the bytes of all sources below it.
+    /// Adds the folders that are these numbers of folders above the one that paths begin in: each has the bytes of all sources below it.
     fn add_outer(&mut self, counts: &[usize]) -> Outcome<()> {
         for count in counts {
             let bytes = self.bytes_within(*count);
@@ -223,7 +223,7 @@ impl Sizes {
         self.named.get(name).copied().unwrap_or(0)
     }
 
-    /// What a name is that of.
+    /// What a name stands for.
     fn kind_of(&self, name: &str) -> Kind {
         match self.kind {
             Kind::Package if name.is_empty() => Kind::Own,
@@ -361,7 +361,7 @@ fn push_change_members(alloc: Global, row: &Row<'_>, members: &mut String) -> Ou
     Ok(())
 }
 
-/// The object of a row: of a difference, or of the new codes alone, which have so many bytes.
+/// The object of a row: of a difference, or of the new codes alone, which have this number of bytes.
 fn push_row_object(
     alloc: Global,
     row: &Row<'_>,
@@ -426,7 +426,7 @@ fn names_of(
     Ok(names)
 }
 
-/// Adds the bytes of a code. If it has no map, that is not done, and why is returned.
+/// Adds the bytes of a code. If it has no map, adds nothing and returns why.
 fn add_file(
     asked: &Asked<'_, '_>,
     code: &str,
@@ -450,7 +450,7 @@ fn add_file(
     Ok(None)
 }
 
-/// Adds the bytes of codes. What is wrong with a code or its map is told, and the last one of which something is wrong is returned.
+/// Adds the bytes of codes. Reports what is wrong with a code or its map, and returns the last one with which something is wrong.
 fn add_files<'c>(
     asked: &Asked<'_, '_>,
     codes: &[&'c str],
@@ -477,7 +477,7 @@ fn add_files<'c>(
     Ok(trouble)
 }
 
-/// Tells what bytes come from.
+/// Reports what bytes come from.
 fn run_sizes(asked: &Asked<'_, '_>, codes: &[&str], kind: Kind) -> Outcome<Status> {
     let alloc = asked.alloc();
     let (none, mut sizes) = (Sizes::new(alloc, kind), Sizes::new(alloc, kind));
@@ -503,7 +503,7 @@ fn sizes_of_build(asked: &Asked<'_, '_>, code: &str, kind: Kind) -> Outcome<Size
     }
 }
 
-/// Tells what has another number of bytes in a code than in another one.
+/// Reports what has another number of bytes in a code than in another one.
 fn run_diff(asked: &Asked<'_, '_>, codes: &[&str], kind: Kind) -> Outcome<Status> {
     let (Some(old), Some(new), None) = (codes.first(), codes.get(1), codes.get(2)) else {
         return Err(usage(

@@ -15,14 +15,14 @@ use oxc_sourcemap_lookup::Bias;
 use oxc_sourcemap_tokens::{Position, Result};
 use std::alloc::Global;
 
-/// How answers are asked for and printed.
+/// Which answers are wanted, and how they are printed.
 #[derive(Clone, Copy)]
 pub struct Style {
     /// Which token answers.
     pub bias: Bias,
     /// What printed lines and columns count from: 0 or 1.
     pub base: u8,
-    /// As JSON, an object a line, in place of text.
+    /// JSON, one object a line, instead of text.
     pub json: bool,
 }
 
@@ -129,7 +129,7 @@ pub fn push_answer(
     Ok(())
 }
 
-/// Appends a line for each position: what the map says of it.
+/// Appends a line for each position: the map's answer for it.
 pub fn push_answers(
     alloc: Global,
     tracer: &Tracer,

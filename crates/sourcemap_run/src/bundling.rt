@@ -13,7 +13,7 @@ use oxc_sourcemap_tokens::{Error, Position, Result};
 use std::alloc::Global;
 use std::marker::Model;
 
-/// Codes one after another, each from the beginning of a line on, and the line at which each of their maps begins.
+/// Joined codes, each of which begins a line, and the line at which each of their maps begins.
 #[derive(Drop)]
 pub struct Bundle {
     code: String,
@@ -36,7 +36,7 @@ impl Model for Bundle {
     ghost invariant = { λ b. IsStanding (string_bytes b.code) b.line };
 }
 
-/// How many lines end in a text. Fails with `TooLarge` exactly if it has more than 4294967295 UTF-16 units, and with `OutOfMemory`.
+/// Returns how many lines end in a text. Fails with `TooLarge` exactly if it has more than 4294967295 UTF-16 units, and with `OutOfMemory`.
 pub fn line_ends(alloc: Global, text: &str) -> Result<u32>
     ensures ends { IfOk result (HasLineEnds text.now) }
     ensures in_size { IfOk result (λ _. IsInSize text.now) }
@@ -96,7 +96,7 @@ fn ended_text(alloc: Global, line: u32, text: &str) -> Result<(String, u32)>
 }
 
 impl Bundle {
-    /// No code.
+    /// An empty bundle.
     pub fn new(alloc: Global) -> Bundle
         ensures { result ≡ record { code = []; line = 0; maps = [] } }
     {
@@ -122,8 +122,8 @@ impl Bundle {
         self.code.as_str()
     }
 
-    /// Appends a text, and a line feed if it does not end in one. Fails with `TooLarge` exactly if the text has then more than 4294967295
-    /// UTF-16 units, or a line would be above 4294967295, and with `OutOfMemory`; the bundle is then as it was.
+    /// Appends a text, and a line feed if it does not end in one. Fails with `TooLarge` exactly if the text then has more than 4294967295
+    /// UTF-16 units, or a line would be above 4294967295, and with `OutOfMemory`. A failure leaves the bundle unchanged.
     pub fn push_text(&mut self, alloc: Global, text: &str) -> Result<()>
         ensures pushed { OnOk result (IsPushed text.now [] self.old self.new) }
         ensures error { IfErr result (λ e. (e ≢ OutOfMemory)

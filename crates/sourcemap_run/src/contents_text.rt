@@ -1,4 +1,4 @@
-//! The contents of sources, and other members, in the text of a map, changed where they stand.
+//! Changes the contents of sources, and other members, in place in the text of a map.
 use crate::raw_lines::{Splice, push_spliced};
 use oxc_sourcemap_json::push_json_string;
 use oxc_sourcemap_tokens::Result;
@@ -8,7 +8,7 @@ use std::alloc::Global;
 /// The key of contents, as it is written.
 const KEY: &str = "\"sourcesContent\"";
 
-/// A place of a text, and what is to stand there.
+/// A place of a text, and the text that replaces it.
 #[derive(Drop)]
 pub struct Change {
     start: usize,
@@ -16,7 +16,7 @@ pub struct Change {
     text: String,
 }
 
-/// A text with changes, which are from left to right; None if one begins before the end of another one.
+/// Applies changes to a text, from left to right. Returns None if one begins before the end of another one.
 pub fn changed(alloc: Global, text: &str, changes: &[Change]) -> Result<Option<String>> {
     let mut splices = Vec::with_capacity(alloc, changes.len())?;
     for change in changes {
@@ -33,7 +33,7 @@ pub fn changed(alloc: Global, text: &str, changes: &[Change]) -> Result<Option<S
     Ok(String::from_utf8(out).ok())
 }
 
-/// What takes a member out of its object, and the comma before it; the one behind it, where no member is kept before it.
+/// The change that removes a member and the comma before it from its object; or the comma behind it, where no member is kept before it.
 fn cut_of(alloc: Global, member: &Member<'_>, has_kept: bool, is_last: bool) -> Change {
     let (whole, end) = (member.whole, member.value.end());
     let (start, end) = match (has_kept, is_last) {
@@ -48,7 +48,7 @@ fn cut_of(alloc: Global, member: &Member<'_>, has_kept: bool, is_last: bool) -> 
     }
 }
 
-/// Appends what takes the members with a key, which is written in its quotes, out of an object of a text.
+/// Appends the changes that remove the members with a key from an object of a text. The key is written in its quotes.
 pub(crate) fn push_cuts(
     alloc: Global,
     object: Piece<'_>,
@@ -68,7 +68,7 @@ pub(crate) fn push_cuts(
     Ok(())
 }
 
-/// The text of a map without the contents of its sources, as of each section of an indexed map; all else stays, to the byte.
+/// The text of a map without the contents of its sources, and of those of each section of an indexed map. All other bytes stay.
 pub fn cut_contents(alloc: Global, text: &str) -> Result<Option<String>> {
     let mut changes = Vec::new(alloc);
     for map in &maps_in(alloc, text)? {
@@ -77,7 +77,7 @@ pub fn cut_contents(alloc: Global, text: &str) -> Result<Option<String>> {
     changed(alloc, text, changes.as_slice())
 }
 
-/// The list of the contents of a map, or another one: the texts that were found, and the entries that it has for the others.
+/// The list of the contents of a map, or another list: the texts that were found, and for the others the entries that it has.
 fn list_of(alloc: Global, had: &[Piece<'_>], found: &[Option<String>]) -> Result<String> {
     let mut list = String::new(alloc);
     for k in 0..had.len().max(found.len()) {
@@ -102,8 +102,8 @@ fn contents_in<'t>(alloc: Global, members: &[Member<'t>]) -> Result<Vec<Piece<'t
     Ok(Vec::new(alloc))
 }
 
-/// Appends what puts contents, by the number of their source, into a map of a text (`maps_in`): into the list that it has, or else into a
-/// new one behind its sources.
+/// Appends the changes that put contents, by the number of their source, into a map of a text (`maps_in`): into the list that it has, or
+/// else into a new one behind its sources.
 pub fn push_contents(
     alloc: Global,
     map: Piece<'_>,
@@ -133,8 +133,8 @@ pub fn push_contents(
     Ok(())
 }
 
-/// Appends what puts texts, by their number, into the list that a map of a text has by a key, which is written in its quotes. Says whether
-/// it has such a list.
+/// Appends the changes that put texts, by their number, into the list that a map of a text has under a key. The key is written in its
+/// quotes. Returns whether the map has such a list.
 pub fn push_entries(
     alloc: Global,
     map: Piece<'_>,
@@ -158,7 +158,7 @@ pub fn push_entries(
     Ok(is_there)
 }
 
-/// Appends what puts a text in the place of the value that a map of a text has by a key. Says whether it has one.
+/// Appends the change by which a text replaces the value that a map of a text has under a key. Returns whether the map has one.
 pub fn push_value(
     alloc: Global,
     map: Piece<'_>,
@@ -182,7 +182,7 @@ pub fn push_value(
     Ok(is_there)
 }
 
-/// Appends what puts a member with a key, which is written in its quotes, behind the last one of an object of a text.
+/// Appends the change that puts a member behind the last one of an object of a text. The key is written in its quotes.
 pub(crate) fn push_member(
     alloc: Global,
     object: Piece<'_>,

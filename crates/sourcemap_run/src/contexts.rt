@@ -37,7 +37,7 @@ fn is_line_end(ch: char) -> bool
     matches!(ch, '\n' | '\r' | '\u{2028}' | '\u{2029}')
 }
 
-/// Appends what is printed of a character of a line.
+/// Appends a character of a line as it is printed.
 fn push_line_char(ch: char, out: &mut String) -> Result<()>
     ensures text { Pushes result out.old out.new (line_char ch) }
     ensures error { OnlyMemory result }
@@ -53,7 +53,7 @@ fn push_line_char(ch: char, out: &mut String) -> Result<()>
     push_visible_char(ch, out)
 }
 
-/// Appends what is printed of a line.
+/// Appends a line as it is printed.
 fn push_line_text(line: &str, out: &mut String) -> Result<()>
     ensures text { Pushes result out.old out.new (line_text (chars line.now)) }
     ensures error { OnlyMemory result }
@@ -65,7 +65,7 @@ fn push_line_text(line: &str, out: &mut String) -> Result<()>
     Ok(())
 }
 
-/// What stands below a character, as wide as what is printed of it.
+/// The text below a character, as wide as the printed character.
 fn blank_char(ch: char) -> &'static str
     ensures { result.now ≡ blank_char ch }
 {
@@ -78,7 +78,7 @@ fn blank_char(ch: char) -> &'static str
     if is_hidden(ch) { "      " } else { " " }
 }
 
-/// Appends what stands below the characters of a line that begin before a column.
+/// Appends the text below the characters of a line that begin before a column.
 fn push_blanks(line: &str, column: u32, out: &mut String) -> Result<()>
     ensures text { Pushes result out.old out.new
         (flat_map blank_char (before_column column (chars line.now))) }
@@ -95,7 +95,7 @@ fn push_blanks(line: &str, column: u32, out: &mut String) -> Result<()>
     Ok(())
 }
 
-/// The spaces before a number of so many digits.
+/// The spaces before a number of `len` digits.
 fn padding(len: usize) -> &'static str
     ensures { result.now ≡ drop len (codes "     ") }
 {
@@ -215,7 +215,7 @@ fn line_at<'t>(lines: &[&'t str], number: usize) -> &'t str
     }
 }
 
-/// The number behind the last line that is near, of so many lines.
+/// The number behind that of the last near line of `count` lines.
 fn near_end(line: u32, around: u32, count: usize) -> usize
     ensures { result ≡ min (line + around + 1) count }
 {
@@ -223,7 +223,7 @@ fn near_end(line: u32, around: u32, count: usize) -> usize
     if end < count { end } else { count }
 }
 
-/// Appends the lines of these that are near a position.
+/// Appends those of the lines that are near a position.
 fn push_lines_around(
     alloc: Global,
     lines: &[&str],
@@ -274,7 +274,7 @@ impl<'m> Content<'m> {
         Ok(Content { text, lines })
     }
 
-    /// Appends the lines from `around` before a position to `around` behind it, as far as there are, with their numbers from `base`,
+    /// Appends the lines from `around` before a position to `around` behind it, as far as they exist, with their numbers from `base`,
     /// and a mark below the position's column.
     pub fn push_around(
         &self,

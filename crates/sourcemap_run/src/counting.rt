@@ -31,7 +31,7 @@ pub struct Mark {
     pub end: Position,
 }
 
-/// What a piece of a block says of a line; None if it comes from no source.
+/// The mark of a piece of a block; None if the piece comes from no source.
 fn mark_of(piece: &Piece, count: u64) -> Option<Mark>
     ensures { result ≡ mark_of count piece.now }
 {
@@ -51,7 +51,7 @@ fn mark_of(piece: &Piece, count: u64) -> Option<Mark>
     })
 }
 
-/// Appends what the pieces of a block say of lines, for the tokens of a sorted map.
+/// Appends the marks of the pieces of a block, for the tokens of a sorted map.
 pub fn push_marks(tokens: &[Token], block: Block, marks: &mut Vec<Mark>) -> Memory<()>
     ensures { are_tokens_sorted tokens.now ≡ true → OnOk result (marks.new.items
         ≡ marks.old.items ++ filter_map (mark_of block.count) (pieces_of tokens.now
@@ -136,7 +136,7 @@ fn close(range: Option<(u32, u32)>, ranges: &mut Vec<(u32, u32)>) -> Memory<()>
     Ok(())
 }
 
-/// A range that may be open, up to this line.
+/// Extends a range up to this line, or begins one at it.
 fn opened(range: Option<(u32, u32)>, number: u32) -> (u32, u32)
     ensures { result ≡ opened range number }
 {

@@ -1,4 +1,4 @@
-//! What `coverage` prints of the lines of originals.
+//! The lines of originals as `coverage` prints them.
 ghost use Rattle.std.specs.Prelude.{◌≡◌, ◌≢◌, ◌*◌, ◌/◌, ◌<◌, ◌^◌, None, Some, IfOk, codes, decimal};
 ghost use Rattle.std.specs.Prelude.{◌+◌, ◌++◌};
 ghost use Rattle.std.specs.List.{filter, flat_map, join_by};
@@ -99,7 +99,7 @@ pub fn push_missed(alloc: Global, lines: &[(u32, u64)], out: &mut String) -> Res
     push_ranges(alloc, ranges.as_slice(), out)
 }
 
-/// Appends what lcov reads of a line.
+/// Appends the record of a line for lcov.
 fn push_lcov_line(alloc: Global, line: (u32, u64), out: &mut String) -> Result<()>
     ensures text { Pushes result out.old out.new (lcov_line line) }
     ensures error { OnlyMemory result }
@@ -113,7 +113,7 @@ fn push_lcov_line(alloc: Global, line: (u32, u64), out: &mut String) -> Result<(
     Ok(())
 }
 
-/// Appends what lcov reads of lines.
+/// Appends the records of lines for lcov.
 fn push_lcov_lines(alloc: Global, lines: &[(u32, u64)], out: &mut String) -> Result<()>
     ensures text { Pushes result out.old out.new (flat_map lcov_line lines.now) }
     ensures error { OnlyMemory result }
@@ -139,7 +139,7 @@ fn push_lcov_end(alloc: Global, lines: &[(u32, u64)], out: &mut String) -> Resul
     Ok(())
 }
 
-/// Appends what lcov reads of an original.
+/// Appends the record of an original for lcov.
 pub fn push_lcov(alloc: Global, path: &str, lines: &[(u32, u64)], out: &mut String) -> Result<()>
     ensures text { Pushes result out.old out.new (lcov_text path.now lines.now) }
     ensures error { OnlyMemory result }
@@ -152,7 +152,7 @@ pub fn push_lcov(alloc: Global, path: &str, lines: &[(u32, u64)], out: &mut Stri
     push_lcov_end(alloc, lines, out)
 }
 
-/// The text for lcov tells originals apart: no two different lists of them, whose paths have no line feed, have one text.
+/// The text for lcov distinguishes originals: no two different lists of them, whose paths have no line feed, have the same text.
 pub fn lcov_tells_apart()
     ensures { LcovTellsApart }
 {}
@@ -257,8 +257,8 @@ pub fn push_covered(alloc: Global, path: &str, lines: &[(u32, u64)], out: &mut S
     Ok(())
 }
 
-/// The text of `--json` tells originals apart: two lists of originals that have one text have the same paths, the same numbers of lines that
-/// ran and that did not, and the same missed lines, in order. A path may have any character. How often a line ran is not told.
+/// The text of `--json` distinguishes originals: two lists of originals with the same text have the same paths, the same numbers of lines
+/// that ran and that did not, and the same missed lines, in order. A path may have any character. The text omits how often a line ran.
 pub fn covered_tells_apart()
     ensures { CoveredTellsApart }
 {}

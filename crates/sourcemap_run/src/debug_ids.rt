@@ -23,7 +23,7 @@ fn is_quiet(line: &str) -> bool {
     text.is_empty() || is_comment && !text.contains(['"', '\'', '`'].as_slice())
 }
 
-/// Where the lines at the end of a code begin that have white space and comments alone: a byte of it, or its length.
+/// Where the last lines of a code begin that have white space and comments alone: a byte of the code, or its length.
 pub fn tail_start(code: &str) -> usize {
     let mut start = 0;
     let mut at: usize = 0;
@@ -36,13 +36,13 @@ pub fn tail_start(code: &str) -> usize {
     start
 }
 
-/// What stands behind `debugId=` in a line that has this comment alone, without the white space at its end; None of another line.
+/// The text behind `debugId=` in a line with this comment alone, without the white space at its end. None for another line.
 pub fn debug_id_in_line(line: &str) -> Option<&str> {
     let text = line.trim_start().strip_prefix("//#")?;
     Some(text.trim_start().strip_prefix("debugId=")?.trim())
 }
 
-/// The debug id in a comment of a code, and what stands around it: `front`, `id` and `back` are the code.
+/// The debug id in a comment of a code, and the text around it: the code is `front`, `id` and `back`.
 #[derive(Clone, Copy)]
 struct CodeId<'c> {
     front: &'c str,
@@ -55,7 +55,7 @@ fn split(text: &str, at: usize) -> (&str, &str) {
     text.split_at_checked(at).unwrap_or((text, ""))
 }
 
-/// Where the last comment with a debug id has that id, in the lines at the end of a text: its first byte, and the one behind it.
+/// The place of the id in the last comment with a debug id, in the lines at the end of a text: its first byte, and the one behind it.
 fn id_in_tail(text: &str) -> Option<(usize, usize)> {
     let start = tail_start(text);
     let mut at = start;
@@ -86,7 +86,7 @@ fn code_id(code: &str) -> Option<CodeId<'_>> {
     Some(CodeId { front, id, back })
 }
 
-/// The debug id of a JavaScript code, as it is written; None if it has none. It is what stands behind `//# debugId=` in a line of its own,
+/// The debug id of a JavaScript code, as it is written; None if it has none. It is the text behind `//# debugId=` in a line of its own,
 /// with only white space and comments `//` without quotes behind it, but for the comment that names the map. The last such line counts. It
 /// need not be a UUID.
 pub fn debug_id_of_code(code: &str) -> Option<&str> {
@@ -101,8 +101,8 @@ fn begins_line(front: &str) -> bool {
     front.is_empty() || front.ends_with(LINE_ENDS.as_slice())
 }
 
-/// What stands before the comment that is to be put into a code, and behind it: the line of the comment that names the map, if that begins
-/// its line, or that comment; or nothing, if none does.
+/// The text before the comment that is to be put into a code, and the text behind it: the line of the comment that names the map, if that
+/// begins its line, or that comment; or nothing, if none does.
 fn around_new_comment(code: &str) -> (&str, &str) {
     let Some(found) = source_mapping_comment(code, Language::JavaScript) else {
         return (code, "");
@@ -120,7 +120,7 @@ fn line_end_of(code: &str) -> &'static str {
     }
 }
 
-/// A JavaScript code with this debug id, which has to be a UUID. Where it has a comment with one, the id in that is replaced. Else the
+/// Gives a JavaScript code this debug id, which has to be a UUID. If it has a comment with a debug id, this id replaces that one. Else the
 /// comment becomes a line of its own, before the comment that names the map, or at the end; lines end as the last one that ends. All else
 /// stays, to the byte, and no code moves.
 pub fn code_with_debug_id(alloc: Global, code: &str, id: &str) -> Memory<String> {
@@ -133,7 +133,7 @@ pub fn code_with_debug_id(alloc: Global, code: &str, id: &str) -> Memory<String>
     format!(in alloc; "{front}{before}//# debugId={id}{end}{back}")
 }
 
-/// The text of a JSON string that is not empty, as it is written between its quotes; None of another value.
+/// The text of a JSON string that is not empty, as it is written between its quotes; None for another value.
 fn string_in<'t>(value: Option<Piece<'t>>) -> Option<&'t str> {
     let text = value?.text.strip_prefix('"')?.strip_suffix('"')?;
     if text.is_empty() { None } else { Some(text) }
@@ -165,7 +165,7 @@ pub fn map_with_debug_id(alloc: Global, text: &str, id: &str) -> Result<Option<S
 }
 
 /// The text of a map without its member `debugId` at the top: what is from the comma before it to the end of its value is cut, or, where
-/// no other member is before it, what is from its beginning to the comma behind it. So what `map_with_debug_id` adds is what is cut. None
+/// no other member is before it, what is from its beginning to the comma behind it. So it cuts what `map_with_debug_id` adds. None
 /// if the text is no JSON object.
 fn map_without_debug_id(alloc: Global, text: &str) -> Result<Option<String>> {
     let mut changes = Vec::new(alloc);
@@ -194,7 +194,7 @@ pub fn made_debug_id(alloc: Global, text: &str) -> Result<Option<String>> {
     Ok(Some(String::from_str(alloc, shown)?))
 }
 
-/// The UUID that a debug id is: 32 hexadecimal digits of either case, with four hyphens or without; None of another text.
+/// The UUID that a debug id is: 32 hexadecimal digits of either case, with four hyphens or without; None for another text.
 fn uuid_of(id: &str) -> Option<Uuid> {
     match id.len() {
         32 | 36 => Uuid::parse_str(id).ok(),
@@ -223,7 +223,7 @@ fn is_no_uuid(id: Option<&str>) -> bool {
     id.is_some() && if_uuid(id).is_none()
 }
 
-/// How the debug ids of a code and of its map stand to one another.
+/// How the debug ids of a code and of its map compare.
 #[derive(Clone, Copy, Debug, PartialEq, Eq)]
 pub enum Agreement {
     /// Both are there, and are one UUID.
@@ -237,7 +237,7 @@ pub enum Agreement {
 }
 
 impl Agreement {
-    /// How these stand to one another.
+    /// Compares two debug ids.
     pub fn of(code: Option<&str>, map: Option<&str>) -> Agreement {
         if is_no_uuid(code) || is_no_uuid(map) {
             return Agreement::NoUuid;
@@ -260,7 +260,7 @@ impl Agreement {
     }
 }
 
-/// Where the debug id is from that a code and its map get.
+/// The origin of the debug id that a code and its map get.
 #[derive(Clone, Copy, Debug, PartialEq, Eq)]
 pub enum Origin {
     /// Both have it.
@@ -272,8 +272,8 @@ pub enum Origin {
 }
 
 impl Origin {
-    /// Where the debug id of a code and its map is from: what one of them has, or both; of two that differ none, nor if one is no UUID. With
-    /// force that of the map counts before that of the code, and what is no UUID does not count.
+    /// The origin of the debug id of a code and its map: one of them, or both. None if the two ids differ, or if one is no UUID. With
+    /// force the map's id counts before the code's, and what is no UUID does not count.
     pub fn of(code: Option<&str>, map: Option<&str>, has_force: bool) -> Option<Origin> {
         let (code, map) = if has_force {
             (if_uuid(code), if_uuid(map))

@@ -1,4 +1,4 @@
-//! How many of some places two maps say different things of.
+//! Counts the places for which two maps answer differently.
 ghost use Rattle.std.specs.Prelude.{◌≡◌};
 ghost use Rattle.std.specs.List.{count_by};
 ghost use Rattle.sourcemap_run.specs.Words.{lent_item, original_seen, seen};

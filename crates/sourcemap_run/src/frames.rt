@@ -1,4 +1,4 @@
-//! The lines of a stack trace, led back.
+//! Resolves the lines of a stack trace.
 ghost use Rattle.std.specs.Prelude.{◌≡◌, ◌++◌, ◌≤◌, ◌↔◌, [], IfOk, Ok, true, false, IfSome, IsSome};
 ghost use Rattle.std.specs.Prelude.{None, drop, string_bytes};
 ghost use Rattle.std.specs.Str.{IsCharBoundary};
@@ -37,7 +37,7 @@ pub fn frame_position(line: u32, column: u32, is_bytecode: bool) -> Option<Posit
     })
 }
 
-/// Where in a line a frame names a position, from byte `start` up to but not including `end`, and where to look.
+/// The range of a line that names the position of a frame, from byte `start` up to but not including `end`, and where to look it up.
 #[derive(Clone, Copy)]
 pub struct Cut {
     pub start: usize,
@@ -45,7 +45,7 @@ pub struct Cut {
     pub target: Option<Target>,
 }
 
-/// What is printed around a position that was led back, as the codes of a colour; both may be empty.
+/// The texts around a resolved position, as the codes of a colour. Both may be empty.
 #[derive(Clone, Copy)]
 pub struct Paint<'p> {
     pub before: &'p str,
@@ -58,7 +58,7 @@ pub struct Frame<'t> {
     pub front: &'t str,
     pub location: &'t str,
     pub back: &'t str,
-    /// Where to look, if there is a map for it.
+    /// Where to look the position up, if there is a map for it.
     pub target: Option<Target>,
 }
 
@@ -97,7 +97,7 @@ impl<'t> Frame<'t> {
     }
 }
 
-/// What the maps say of a target.
+/// The maps' answer for a target.
 pub fn answer_to<'m>(tracers: &'m [Tracer], target: Option<Target>) -> Answer<'m>
     ensures { seen result ≡ answer_to tracers.now target }
 {
@@ -110,7 +110,7 @@ pub fn answer_to<'m>(tracers: &'m [Tracer], target: Option<Target>) -> Answer<'m
     }
 }
 
-/// Appends the position of a frame: led back, or as it is.
+/// Appends the position of a frame: resolved, or as it is.
 fn push_location(
     alloc: Global,
     location: &str,
@@ -133,7 +133,7 @@ fn push_location(
     Ok(())
 }
 
-/// Appends a part of a line of a stack trace: its position led back, if its map says what it comes from, and all else as it is.
+/// Appends a part of a line of a stack trace. Resolves its position if the map has an original for it; all else stays as it is.
 pub fn push_frame(
     alloc: Global,
     tracers: &[Tracer],
@@ -173,8 +173,8 @@ fn frame_at<'t>(line: &'t str, from: usize, cut: &Cut) -> Option<Frame<'t>>
     })
 }
 
-/// Appends a line of a stack trace: at each cut what its map says, or what stands there if it says nothing, and between them all as it
-/// is. Appends nothing, and says so by false, exactly if a cut begins before the end of the one ahead of it or behind its own end, or if it
+/// Appends a line of a stack trace: at each cut the answer of its map, or the line's own text if there is none, and between them all as it
+/// is. Appends nothing and returns false exactly if a cut begins before the end of the one ahead of it or behind its own end, or if it
 /// begins or ends inside a character or past the line.
 pub fn push_line(
     alloc: Global,

@@ -6,7 +6,7 @@ ghost use Rattle.sourcemap_run.specs.Words.{between, spliced, are_in_row, IsMask
 use oxc_sourcemap_tokens::Memory;
 use std::alloc::Global;
 
-/// A line as a text that has NUL for each byte that is no UTF-8.
+/// A line as a text that has NUL for each byte that is not UTF-8.
 fn masked(alloc: Global, line: &[u8]) -> Memory<String>
     ensures { IfOk result (λ text. IsMasked line.now (string_bytes text)) }
 {
@@ -18,7 +18,7 @@ fn masked(alloc: Global, line: &[u8]) -> Memory<String>
     Ok(text)
 }
 
-/// A line as a text, whose bytes stand where those of the line do: NUL for each that is no UTF-8.
+/// A line as a text, whose bytes are where those of the line are: NUL for each that is not UTF-8.
 pub fn text_of(alloc: Global, line: &[u8]) -> Memory<String>
     ensures masked { IfOk result (λ text. IsMasked line.now (string_bytes text)) }
     ensures same { IfOk result (λ text. IsUtf8 line.now → string_bytes text ≡ line.now) }
@@ -29,7 +29,7 @@ pub fn text_of(alloc: Global, line: &[u8]) -> Memory<String>
     }
 }
 
-/// A place of a line, from byte `start` up to but not including `end`, and the text that is to stand there.
+/// A place of a line, from byte `start` up to but not including `end`, and the text that replaces it.
 #[derive(Clone, Copy)]
 pub struct Splice<'t> {
     pub start: usize,
@@ -51,7 +51,7 @@ fn between(line: &[u8], start: usize, end: usize) -> &[u8]
     behind(line.get(..end).unwrap_or(line), start)
 }
 
-/// Whether places of a line with so many bytes are in a row from left to right, and in the line.
+/// Whether places are in a row from left to right, and in a line with `len` bytes.
 fn are_in_row(len: usize, splices: &[Splice<'_>]) -> bool
     ensures { result ≡ are_in_row len 0 splices.now }
 {
@@ -65,8 +65,8 @@ fn are_in_row(len: usize, splices: &[Splice<'_>]) -> bool
     from <= len
 }
 
-/// Appends a line, which need not be UTF-8: at each place its text, and all else as it is. Appends nothing, and says so by false, exactly
-/// if a place begins before the end of the one ahead of it, or ends before it begins or past the line. For want of memory some may be
+/// Appends a line, which need not be UTF-8: at each place its text, and all else as it is. Appends nothing and returns false exactly
+/// if a place begins before the end of the one ahead of it, or ends before it begins or past the line. If memory runs out, a part may be
 /// appended.
 pub fn push_spliced(line: &[u8], splices: &[Splice<'_>], out: &mut Vec<u8>) -> Memory<bool>
     ensures spliced { result ≡ Ok true → out.new.items

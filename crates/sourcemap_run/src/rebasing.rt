@@ -1,4 +1,4 @@
-//! Maps whose sources are led from one folder to another.
+//! Makes the sources of maps relative to another folder.
 ghost use Rattle.std.specs.Prelude.{◌≡◌, ◌⊎◌, IfOk, OnOk, OnErr};
 ghost use Rattle.std.specs.List.{AllZip};
 ghost use Rattle.sourcemap_run.specs.Words.{OnlyMemory, written, rooted, IsMoved, IsRebased};
@@ -28,8 +28,8 @@ fn moved_sources(
     Ok(paths)
 }
 
-/// Makes the sources of a map in the folder `from`, its root applied, relative to the folder `to`, as `relative_path` does. For want of
-/// memory the map may be as it was, or have its root applied.
+/// Makes the sources of a map in the folder `from`, its root applied, relative to the folder `to`, as `relative_path` does. If memory
+/// runs out, the map may be as it was, or have its root applied.
 pub fn rebase_sources(
     alloc: Global,
     parts: &mut SourceMapParts<'_>,

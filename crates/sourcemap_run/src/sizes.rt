@@ -16,7 +16,7 @@ pub struct Start {
     pub source: Option<u32>,
 }
 
-/// A place of a code: how many UTF-16 units, and how many bytes, stand in front of it.
+/// A place of a code: the numbers of UTF-16 units and of bytes before it.
 #[derive(Clone, Copy)]
 struct Reached {
     units: u32,
@@ -31,8 +31,8 @@ fn source_of(piece: &Piece) -> Option<u32>
     token.get_source_id()
 }
 
-/// How many units of a code stand in front of a position. Between the units of a character it is taken to be behind that, past the end of
-/// its line at the beginning of the next one, and past the last line behind all units.
+/// The number of units of a code before a position. A position between the units of a character counts as behind it, one past the end of
+/// its line as the beginning of the next line, and one past the last line as behind all units.
 fn units_before(positions: &TextPositions<'_>, line: u32, column: u32) -> u32 {
     let found = match positions.offset(line, column) {
         Err(PositionError::InsidePair) => positions.offset(line, column.saturating_add(1)),
@@ -42,7 +42,7 @@ fn units_before(positions: &TextPositions<'_>, line: u32, column: u32) -> u32 {
     found.unwrap_or(u32::MAX)
 }
 
-/// The place of a code with so many units in front of it, from one on that is not behind it; past the code its end.
+/// The place of a code with this number of units before it, sought from a place that is not behind it. Past the code, it is the end.
 fn go_on(code: &str, reached: Reached, units: u32) -> Reached {
     let mut reached = reached;
     for ch in code.get(reached.bytes..).unwrap_or("").chars() {
@@ -91,7 +91,7 @@ fn begin_of(len: usize, from: usize, offset: usize) -> usize
     offset.max(from).min(len)
 }
 
-/// The slot of a source, of so many sources.
+/// The slot of a source, of `count` sources.
 fn slot_of(count: usize, source: Option<u32>) -> usize
     ensures slot { result ≡ slot_of count source }
     ensures within { result ≤ count }
@@ -121,7 +121,7 @@ fn add_bytes(sizes: &mut [usize], slot: usize, bytes: usize)
 }
 
 /// How many bytes of a code with `len` bytes come from each of `count` sources, and, behind those, how many from none: of the pieces that
-/// begin at these places, in order, each up to the next one, and the last up to the end of the code. What stands in front of the first has
+/// begin at these places, in order, each up to the next one, and the last up to the end of the code. The code before the first has
 /// no source, and so has a piece whose source is not there. Each byte counts once.
 pub fn sizes_of(alloc: Global, len: usize, count: usize, starts: &[Start]) -> Memory<Vec<usize>>
     ensures slots { IfOk result (λ sizes. length sizes.items ≡ count + 1) }

@@ -1,4 +1,4 @@
-//! What is printed of a message, a path, a name and a number.
+//! How messages, paths, names and numbers are printed.
 ghost use Rattle.std.specs.Prelude.{◌≡◌, ◌+◌, decimal};
 ghost use Rattle.sourcemap_run.specs.Words.{OnlyMemory, OnlyAdds, Pushes, lent_item};
 ghost use Rattle.sourcemap_run.specs.Words.{number_part, original_text, name_part, original_seen};

@@ -62,7 +62,7 @@ fn add_counts(alloc: Global, totals: &mut Totals, counts: &LineCounts<'_>) -> Me
 
 /// Adds how often the lines of originals ran in a script, by its marks, to their totals: of a line the greatest count of its marks.
 /// `paths` has the path of each source: those with one path are one original, and a source that is not there has the empty path. An
-/// original without a mark does not come in. For want of memory some counts may be added and others not.
+/// original without a mark is left out. If memory runs out, some counts may be added and others not.
 pub fn add_marks(alloc: Global, totals: &mut Totals, paths: &[String], marks: &[Mark]) -> Memory<()>
     ensures added { OnOk result ((path : List ℕ) (line : ℕ) → total_at totals.new path line
         ≡ with_counts (total_at totals.old path line)

@@ -24,7 +24,7 @@ pub struct Spot<'m> {
     pub content: Option<&'m str>,
 }
 
-/// What a map says of a generated position.
+/// A map's answer for a generated position.
 #[derive(Clone, Copy)]
 pub enum Answer<'m> {
     /// There is no token for it.
@@ -156,7 +156,7 @@ impl Tracer {
         }
     }
 
-    /// What the map says of a position: what its trace there is, the clamped one for `Clamped`.
+    /// The map's answer for a position: the result of its trace there, for `Clamped` that of the clamped one.
     pub fn answer(&self, position: Position, bias: Bias) -> Answer<'_>
         ensures { seen result ≡ map_answer bias self.now position.line position.column }
     {

@@ -1,5 +1,5 @@
 //! Texts of the program `sourcemap`, as functions over values: how they are shown, positions in words, which code a path names, and
-//! where the members of a JSON text stand.
+//! the places of the members of a JSON text.
 #![tactic(auto)]
 
 mod matching;

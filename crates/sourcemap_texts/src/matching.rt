@@ -5,7 +5,7 @@ ghost use Rattle.std.specs.List.{starts_with, ends_with};
 ghost use Rattle.sourcemap_texts.specs.Words.{below_length, IsLongest, ends_in_folder, tells_apart};
 ghost use Rattle.sourcemap_texts.specs.Words.{has_slash, determines, chosen, lent_item};
 
-/// A prefix that the user names, with a slash at its end, and the folder where what is below it lies.
+/// A prefix that the user names, with a slash at its end, and the folder that has the files below it.
 #[derive(Drop)]
 pub struct Prefix {
     pub left: String,
@@ -62,7 +62,7 @@ pub enum Choice {
     Determined(usize),
     /// The first one may be it; too little is known.
     MaybeFirst,
-    /// There are none.
+    /// There are no candidates.
     Nothing,
 }
 
@@ -73,7 +73,7 @@ fn ends_with(path: &str, end: &str) -> bool
     path.ends_with(end)
 }
 
-/// Whether a prefix ends in the folder whose name stands between slashes in `own`; `own` is empty if the folder has no name.
+/// Whether a prefix ends in the folder whose name is between slashes in `own`; `own` is empty if the folder has no name.
 fn ends_in_folder(own: &str, prefix: &str) -> bool
     ensures { result ≡ ends_in_folder own.now prefix.now }
 {
@@ -109,7 +109,7 @@ fn determines(own: &str, is_remote: bool, candidate: &Candidate<'_>) -> bool
 }
 
 /// Which candidate is the prefix of the input: the first one that determines it. `own` is the folder's own name between slashes, or empty;
-/// `is_remote` tells that the path is the URL of a host, whose folders are not named as on this machine.
+/// `is_remote` means that the path is the URL of a host, whose folders are not named as on this machine.
 pub fn choose(own: &str, is_remote: bool, candidates: &[Candidate<'_>]) -> Choice
     ensures { result ≡ chosen own.now is_remote candidates.now }
 {

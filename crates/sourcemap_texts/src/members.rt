@@ -1,4 +1,4 @@
-//! The members of a JSON text by their places in it, so that one can be changed and all else stays, to the byte.
+//! The members of a JSON text by their places in it, so that one can be changed and all other bytes stay.
 use oxc_sourcemap_tokens::Memory;
 use std::alloc::Global;
 
@@ -33,7 +33,7 @@ impl<'t> Piece<'t> {
         }
     }
 
-    /// It without the white space around it.
+    /// The piece without the white space around it.
     pub fn trimmed(&self) -> Piece<'t> {
         let text = self.text.trim_start();
         let skipped = self.text.len().saturating_sub(text.len());
@@ -54,7 +54,7 @@ struct Scan {
 }
 
 impl Scan {
-    /// Goes over a byte. Says whether it is in a string.
+    /// Reads a byte. Returns whether it is in a string.
     fn step(&mut self, byte: u8) -> bool {
         if self.is_string {
             let ends = byte == b'"' && !self.is_escaped;
@@ -72,8 +72,8 @@ impl Scan {
     }
 }
 
-/// What stands between the commas of a list or an object, each with the white space around it. Of `[]` and `{}` it is one that is empty.
-/// The text has to be JSON; of any other one it is anything.
+/// The pieces between the commas of a list or an object, each with the white space around it. `[]` and `{}` have one empty piece.
+/// The text has to be JSON; for any other text the pieces are unspecified.
 fn pieces_of<'t>(alloc: Global, of: Piece<'t>) -> Memory<Vec<Piece<'t>>> {
     let mut pieces = Vec::new(alloc);
     let mut scan = Scan {
@@ -114,7 +114,7 @@ fn string_len(text: &str) -> usize {
     text.len()
 }
 
-/// The member in a piece of an object; None of an empty piece.
+/// The member in a piece of an object; None for an empty piece.
 fn member_in(whole: Piece<'_>) -> Option<Member<'_>> {
     let inner = whole.trimmed();
     if !inner.text.starts_with('"') {
@@ -163,14 +163,14 @@ pub fn value_of<'t>(alloc: Global, object: Piece<'t>, key: &str) -> Memory<Optio
     Ok(value)
 }
 
-/// The object that the text of a map is. What stands in front of the first brace is passed over.
+/// The object in the text of a map. Text before the first brace is skipped.
 pub fn top_of(text: &str) -> Piece<'_> {
     let front = text.find('{').unwrap_or(text.len());
     Piece { at: 0, text }.part(front, text.len())
 }
 
-/// The objects in the text of a map that have sources: itself, or, of an indexed map, the maps of its sections. What stands in front of
-/// the first brace is passed over.
+/// The objects in the text of a map that have sources: itself, or, of an indexed map, the maps of its sections. Text before the first
+/// brace is skipped.
 pub fn maps_in<'t>(alloc: Global, text: &'t str) -> Memory<Vec<Piece<'t>>> {
     let mut maps = Vec::new(alloc);
     let whole = top_of(text);

@@ -1,4 +1,4 @@
-//! Paths of sources, led from one folder to another.
+//! Makes paths of sources relative to another folder.
 ghost use Rattle.std.specs.Prelude.{◌≡◌, ◌<◌, ◌≤◌, ◌+◌, ℕ, List, Some, true, IfOk, OnOk};
 ghost use Rattle.std.specs.Prelude.{length, take, slice_get, string_bytes, vec_len};
 ghost use Rattle.std.specs.List.{common_prefix_len, list_all};
@@ -34,14 +34,14 @@ pub fn is_url(path: &str) -> bool
     has_scheme(path.as_bytes()) && !matches!(path.as_bytes().get(1), Some(b':'))
 }
 
-/// Whether a path names something by the folder that it is in.
+/// Whether a path is relative to the folder that it is in.
 fn is_in_folder(path: &str) -> bool
     ensures { result ≡ is_in_folder path.now }
 {
     !path.is_empty() && !stands_by_itself(path)
 }
 
-/// A place in the tree of folders, as paths led there.
+/// A place in the tree of folders, as paths reach it.
 #[derive(Drop)]
 struct Place<'p> {
     /// Their parts `..` that went above the root.
@@ -57,7 +57,7 @@ fn parts_of<'p>(alloc: Global, path: &'p str) -> Memory<Vec<&'p str>>
     path.split('/').collect(alloc)
 }
 
-/// Whether a part leads nowhere.
+/// Whether a part stays in its folder.
 pub(crate) fn is_here(part: &str) -> bool
     ensures { result ≡ is_here part.now }
 {
@@ -76,7 +76,7 @@ impl<'p> Place<'p> {
         Ok(())
     }
 
-    /// Goes where a part leads.
+    /// Follows a part.
     fn step(&mut self, part: &'p str) -> Memory<()>
         ensures { OnOk result (way self.new ≡ climbed (way self.old) part.entry.now) }
     {
@@ -90,7 +90,7 @@ impl<'p> Place<'p> {
         self.leave(part)
     }
 
-    /// Goes where a path leads.
+    /// Follows a path.
     fn follow(&mut self, alloc: Global, path: &'p str) -> Memory<()>
         ensures { OnOk result (way self.new ≡ climbed_along (way self.old) path.entry.now) }
     {
@@ -146,7 +146,7 @@ fn begins_plainly(parts: &[&str]) -> bool
     }
 }
 
-/// `./`, where a path that goes up by none would be empty, or begin with a backslash, a drive or a scheme.
+/// `./`, where a path that does not go up would be empty, or begin with a backslash, a drive or a scheme.
 fn front_of(above: usize, up: usize, parts: &[&str]) -> &'static str
     ensures { result.now ≡ front_of (above + up) (lent_items parts.now) }
 {
@@ -157,7 +157,7 @@ fn front_of(above: usize, up: usize, parts: &[&str]) -> &'static str
     }
 }
 
-/// A path that goes above the root so often, and up so many folders, and then has these parts.
+/// A path that goes `above` folders above the root and `up` folders up, and then has these parts.
 fn climbing_path(alloc: Global, above: usize, up: usize, parts: &[&str]) -> Memory<String>
     ensures { IfOk result (λ path. string_bytes path
         ≡ climbing (above + up) (lent_items parts.now)) }
@@ -212,7 +212,7 @@ fn are_same(a: &[&str], b: &[&str]) -> bool
 /// which begins with a slash, where they do not begin with one themselves. What stands by itself (a path from the root or a drive, a
 /// URL) stays, and so do the empty path and every path where both folders are one. A path above the root stays as far above it.
 ///
-/// By the names of folders, and not by where links lead: sources were written, and are read, relative to the folder by its name.
+/// It uses the names of folders and follows no links: sources were written, and are read, relative to the folder by its name.
 pub fn relative_path<'p>(
     alloc: Global,
     current: &'p str,

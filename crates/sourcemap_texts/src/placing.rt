@@ -10,7 +10,7 @@ use oxc_sourcemap_tokens::Memory;
 use std::alloc::Global;
 use std::marker::Model;
 
-/// What stands for a folder above the one that files are put below, and for a hidden character.
+/// The name in place of a folder above the one that files are put below, and the mark in place of a hidden character.
 const MARK: &str = "_";
 
 /// Where a source is put below a folder: the names of folders and, at the end, that of the file.
@@ -176,8 +176,8 @@ fn names_of(alloc: Global, parts: &[&str]) -> Memory<Vec<String>>
 }
 
 /// Where a source is put below a folder; None if it names no file, since it is empty or ends as a folder. The scheme of a URL is left
-/// out, and its host is kept; so is a drive left out, and slashes in front. Backslashes are slashes; `..` goes back to the folder before
-/// it, or else stands as `_`, as each hidden character does. So no source leads out of the folder.
+/// out, and its host is kept. A drive is left out too, and so are leading slashes. Backslashes are slashes; `..` goes back to the folder
+/// before it, or else becomes `_`, as each hidden character does. So no source leads out of the folder.
 pub fn place_below(alloc: Global, source: &str) -> Memory<Option<Placed>> {
     let path = without_scheme(source);
     if !names_file(path) {

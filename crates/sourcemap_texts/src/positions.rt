@@ -30,7 +30,7 @@ pub fn position_of(word: &str, base: u32) -> Option<Position>
     })
 }
 
-/// The source and the position of a word `SOURCE:LINE:COLUMN`, whose numbers count from `base`; a source may have colons. None of any
+/// The source and the position of a word `SOURCE:LINE:COLUMN`, whose numbers count from `base`; a source may have colons. None for any
 /// other word.
 pub fn source_position_of(word: &str, base: u32) -> Option<(&str, Position)>
     ensures { MatchOption result

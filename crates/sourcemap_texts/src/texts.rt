@@ -78,8 +78,8 @@ pub fn push_visible_string(text: &str, out: &mut String) -> Result<()>
     push_visible(string.as_str(), out)
 }
 
-/// Strings are told apart: equal texts that begin with the strings of two texts, as `push_visible_string` writes them, begin with the
-/// string of one text, and go on alike. So a string tells its text and where it ends, whatever is written behind it.
+/// Strings can be distinguished: equal texts that begin with the strings of two texts, as `push_visible_string` writes them, begin with
+/// the string of one text, and continue alike. So a string determines its text and its end, whatever is written behind it.
 pub fn visible_strings_told_apart()
     ensures { VisibleStringsToldApart }
 {}

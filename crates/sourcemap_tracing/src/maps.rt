@@ -1,4 +1,4 @@
-//! The maps of the files that frames name, and what they say of the places of frames.
+//! The maps of the files that frames name, and their answers for the places of frames.
 use oxc_sourcemap_parts::apply_root;
 use oxc_sourcemap_scopes::{Frames, Scopes};
 use oxc_sourcemap_tokens::Position;
@@ -37,7 +37,7 @@ pub struct Stay {
     pub why: String,
 }
 
-/// By what less than its whole path a code was found.
+/// By which part of its path a code was found.
 #[derive(Drop)]
 pub enum Matched {
     /// All of its path was there.
@@ -48,7 +48,7 @@ pub enum Matched {
     Name { map: String },
 }
 
-/// What a frame comes to: where to look, or why it stays.
+/// The result for a frame: where to look, or why it stays.
 #[derive(Drop)]
 pub struct Led {
     pub target: Option<Target>,
@@ -177,7 +177,7 @@ fn map_of_text(
     }
 }
 
-/// Where files are looked for; compiled maps are taken.
+/// Where to look for files; compiled maps are used.
 fn places_of<'a>(asked: &'a Asked<'_, '_>) -> Places<'a> {
     Places {
         takes_compiled: true,
@@ -290,7 +290,7 @@ impl Maps {
         }
     }
 
-    /// Reads the map of a file. A map that cannot be read is told as the reason why frames stay.
+    /// Reads the map of a file. If the map cannot be read, that is reported as the reason why frames stay.
     fn load(&mut self, asked: &Asked<'_, '_>, file: &str) -> Outcome<Known> {
         let Search {
             lookup,
@@ -319,7 +319,7 @@ impl Maps {
         }))
     }
 
-    /// Reads the scopes of a map, if they are asked for. A fault of them is told once, even if the map is read again.
+    /// Reads the scopes of a map, if they are asked for. A fault of them is reported once, even if the map is read again.
     fn read_scopes(&self, asked: &Asked<'_, '_>, map: &MapText) -> Outcome<Option<Scopes>> {
         if asked.word("names") == "code" {
             return Ok(None);
@@ -345,7 +345,7 @@ impl Maps {
         })
     }
 
-    /// Reads the map of a file, if it was not read. Once the prefix of the input is known, files that were not found are sought again.
+    /// Reads the map of a file, if it was not read. Once the prefix of the input is known, it searches again for files that were not found.
     fn prepare(&mut self, asked: &Asked<'_, '_>, file: &str) -> Outcome<()> {
         if self.files.contains_key(file) {
             return Ok(());
@@ -360,7 +360,7 @@ impl Maps {
         Ok(())
     }
 
-    /// What the map of a file says of a place in it.
+    /// The answer of the map of a file for a place in it.
     fn look_up(&self, alloc: Global, map: &KnownMap, named: &Named) -> Outcome<Led> {
         let matched = map.matched.copy(alloc)?;
         let position = frame_position(named.line, named.column, named.is_bytecode);
@@ -396,7 +396,7 @@ impl Maps {
         })
     }
 
-    /// What a frame comes to.
+    /// The result for a frame.
     pub fn lead(&mut self, asked: &Asked<'_, '_>, named: &Named) -> Outcome<Led> {
         let alloc = asked.alloc();
         let file = named.file.as_str();

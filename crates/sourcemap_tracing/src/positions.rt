@@ -26,7 +26,7 @@ pub fn positions_in(alloc: Global, words: &[&str], base: u32) -> Outcome<Vec<Pos
     Ok(positions)
 }
 
-/// The position in a line of standard input; None if the line is empty. `number` is the line's, from 1, for what is told.
+/// The position in a line of standard input; None if the line is empty. `number` is the line's, from 1, for messages.
 pub fn position_of_line(
     alloc: Global,
     line: &[u8],

@@ -1,4 +1,4 @@
-//! `resolve`: the frames of a stack trace, led back, line by line.
+//! `resolve`: resolves the frames of a stack trace, line by line.
 use crate::colours::has_codes;
 use crate::maps::{Maps, Matched, REASONS, Reason, Stay};
 use crate::source_frames::{
@@ -21,7 +21,7 @@ const MUCH: usize = 65536;
 /// A line of the input.
 #[derive(Drop)]
 struct LineRead {
-    /// Its text, with NUL for each byte that is no UTF-8.
+    /// Its text, with NUL for each byte that is not UTF-8.
     text: String,
     is_text: bool,
     frames: Vec<LedFrame>,
@@ -29,7 +29,7 @@ struct LineRead {
     elsewhere: Option<&'static str>,
 }
 
-/// How many frames were seen, how many led back, how many of those left out, and why the others stayed.
+/// How many frames were seen, how many were resolved, how many of those were left out, and why the others stayed.
 #[derive(Clone, Copy)]
 struct Count {
     frames: u64,
@@ -46,7 +46,7 @@ enum Form {
     Objects,
 }
 
-/// What leads lines back.
+/// Resolves lines.
 #[derive(Drop)]
 struct Resolver<'a, 'm, 'r> {
     asked: &'a Asked<'a, 'm>,
@@ -103,7 +103,7 @@ impl Count {
     }
 }
 
-/// What holds of frames that stay for a reason, of one and of several.
+/// The text for frames that stay for a reason, for one and for several.
 fn short(reason: Reason) -> (&'static str, &'static str) {
     match reason {
         Reason::NotThere => (
@@ -139,7 +139,7 @@ fn cuts_of(alloc: Global, frames: &[LedFrame]) -> Result<Vec<Cut>, AllocError> {
     Ok(cuts)
 }
 
-/// A part of a line, and what is to stand there.
+/// A part of a line, and its replacement.
 #[derive(Drop)]
 struct Change {
     start: usize,
@@ -192,7 +192,7 @@ fn change_of(
     }))
 }
 
-/// Appends a line whose bytes all stay but those of the frames that are led back.
+/// Appends a line. All its bytes stay, except those of the frames that are resolved.
 fn push_bytes(
     alloc: Global,
     maps: &Maps,
@@ -233,14 +233,14 @@ fn push_bytes(
     Ok(())
 }
 
-/// Whether a place alone stands for that of a frame.
+/// Whether a place by itself replaces that of a frame.
 fn is_plain(line: &str, frame: &LedFrame) -> bool {
     let named = &frame.named;
     let place = line.get(named.start..named.end).unwrap_or("");
     !named.nesting.is_in_string() && !has_codes(place) && frame.shown().is_none()
 }
 
-/// Appends a line, led back, without a line feed.
+/// Appends a resolved line, without a line feed.
 fn push_led(
     alloc: Global,
     maps: &Maps,
@@ -277,7 +277,7 @@ fn push_note(alloc: Global, text: &str, out: &mut Vec<u8>) -> Outcome<()> {
     Ok(out.push(b'\n')?)
 }
 
-/// How the code of a frame was found, if by less than its whole path.
+/// How the code of a frame was found, if not by its whole path.
 fn how_matched(alloc: Global, matched: &Matched) -> Result<Option<String>, AllocError> {
     Ok(match matched {
         Matched::Whole => None,
@@ -412,7 +412,7 @@ fn push_line_object(
     Ok(out.extend_from_slice(object.as_bytes())?)
 }
 
-/// The colour of what was led back: on a terminal, unless NO_COLOR is set.
+/// The colour of what was resolved: on a terminal, unless NO_COLOR is set.
 fn paint_of(rt: &HostRuntime) -> Paint<'static> {
     let is_plain = match env::var(rt, "NO_COLOR") {
         Ok(value) => !value.is_empty(),
@@ -440,7 +440,7 @@ fn form_of(asked: &Asked<'_, '_>) -> Form {
 }
 
 impl<'a, 'm, 'r> Resolver<'a, 'm, 'r> {
-    /// What a line names, and what its frames come to.
+    /// What a line names, and the results for its frames.
     fn read(&mut self, line: &[u8]) -> Outcome<LineRead> {
         let alloc = self.asked.alloc();
         let text = text_of(alloc, line)?;
@@ -531,7 +531,7 @@ impl<'a, 'm, 'r> Resolver<'a, 'm, 'r> {
         }
     }
 
-    /// Says on standard error that nothing was led back, and for the most part why.
+    /// Warns that no frame was resolved, and gives the commonest reason.
     fn tell_nothing(&self) -> Outcome<()> {
         let Count { frames, led, .. } = self.count;
         if frames == 0 || led > 0 || !matches!(self.form, Form::Lines(_)) {
@@ -546,13 +546,13 @@ impl<'a, 'm, 'r> Resolver<'a, 'm, 'r> {
             "frames are"
         };
         let text = format!(in self.asked.alloc();
-            "0 of {frames} {are} led back; {count} {why} (--explain says more)"
+            "0 of {frames} {are} resolved; {count} {why} (--explain says more)"
         )?;
         warn(self.asked.rt, "resolve", text.as_str());
         Ok(())
     }
 
-    /// Says on standard error how many frames were left out.
+    /// Warns how many frames were left out.
     fn tell_left_out(&self) -> Outcome<()> {
         let left_out = self.count.left_out;
         if left_out == 0 || !matches!(self.form, Form::Lines(_)) {

@@ -61,7 +61,7 @@ fn push_more(alloc: Global, tokens: IndexTokens<'_>, style: Style, out: &mut Str
     Ok(())
 }
 
-/// Appends the generated positions of tokens, and tells whether there are any.
+/// Appends the generated positions of tokens, and returns whether there are any.
 fn push_tokens(
     alloc: Global,
     tokens: IndexTokens<'_>,
@@ -112,8 +112,8 @@ fn push_reversed_object(
     Ok(found)
 }
 
-/// Appends the line for a position of the source with this id and path: the generated positions of `all_generated_for`. Tells whether there
-/// are any.
+/// Appends the line for a position of the source with this id and path: the generated positions of `all_generated_for`. Returns whether
+/// there are any.
 pub fn push_reversed(
     alloc: Global,
     index: &SourceIndex<'_>,

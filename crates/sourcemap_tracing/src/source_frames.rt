@@ -21,7 +21,7 @@ pub const PLAIN: Paint<'static> = Paint {
     after: "",
 };
 
-/// A frame with what it comes to.
+/// A frame with its result.
 #[derive(Drop)]
 pub struct LedFrame {
     pub named: Named,
@@ -39,7 +39,7 @@ enum Function<'m> {
     Named(&'m str),
 }
 
-/// Whether a row has nothing but a frame, in front of which and behind which these texts stand: white space, what engines write in front
+/// Whether a row has nothing but a frame with these texts in front of it and behind it: white space, what engines write in front
 /// of a frame, and a carriage return of a JSON string.
 fn is_nothing_else(front: &str, behind: &str) -> bool
     ensures { result ≡ (is_mark (trim front.now) && is_return (trim behind.now)) }
@@ -58,7 +58,7 @@ fn is_alone(line: &str, calling: &Calling) -> bool {
 }
 
 impl LedFrame {
-    /// A frame of a line, with what it comes to.
+    /// A frame of a line, with its result.
     pub fn new(line: &str, named: Named, led: Led) -> LedFrame {
         let is_alone = named
             .calling
@@ -70,7 +70,7 @@ impl LedFrame {
         }
     }
 
-    /// The frames of the source, if they are to stand in the line, and how it names functions.
+    /// The frames of the source, if the line is to have them, and how it names functions.
     pub fn shown(&self) -> Option<(&Frames, &Calling)> {
         match (&self.led.source, &self.named.calling) {
             (Some(source), Some(calling)) if self.led.stay.is_none() => Some((source, calling)),
@@ -87,7 +87,7 @@ impl LedFrame {
     }
 }
 
-/// The name of the function that a frame of the source is in; None if the function has none, or there is none.
+/// The name of the function that a frame of the source is in; None if that function has no name, or if there is no function.
 fn function_name<'m>(maps: &'m Maps, map: usize, frame: &ScopeFrame) -> Option<&'m str> {
     let Some(Some(scopes)) = maps.scopes.get(map) else {
         return None;
@@ -107,7 +107,7 @@ fn function_of<'m>(maps: &'m Maps, map: usize, frame: &ScopeFrame) -> Function<'
     }
 }
 
-/// What stands for the path of a source that is not known, as `<anonymous>` does in V8: no file is named so.
+/// The text for the path of a source that is not known, as `<anonymous>` in V8: no file has this name.
 const UNKNOWN: &str = "<unknown>";
 
 /// The path of the source of a call; None if the map has no such source, or null, which is read as an empty path behind the root.
@@ -132,7 +132,7 @@ fn spot_of(maps: &Maps, map: usize, call: CallSite) -> Spot<'_> {
     }
 }
 
-/// A text as it stands inside a string.
+/// A text as it is written inside a string.
 fn inside_string(alloc: Global, text: &str, is_single: bool) -> Outcome<String> {
     let mut string = String::new(alloc);
     push_json_string(text, &mut string)?;
@@ -144,7 +144,7 @@ fn inside_string(alloc: Global, text: &str, is_single: bool) -> Outcome<String> 
     Ok(String::from_str(alloc, inside)?)
 }
 
-/// A text as it stands in a line: as it is, or inside the strings there, the innermost of which escapes it first.
+/// A text as it is written in a line: as it is, or inside the strings there, the innermost of which escapes it first.
 pub fn text_in_line(alloc: Global, text: String, nesting: Nesting) -> Outcome<String> {
     let mut text = text;
     for above in 1..nesting.depth.saturating_add(1) {
@@ -154,7 +154,7 @@ pub fn text_in_line(alloc: Global, text: String, nesting: Nesting) -> Outcome<St
     Ok(text)
 }
 
-/// Appends to what stands for a place the codes in it that end a colour from in front of it.
+/// Appends to the replacement of a place the codes in it that end a colour from in front of it.
 pub fn push_ends(line: &str, named: &Named, out: &mut String) -> Outcome<()> {
     let behind = line.get(named.end..).unwrap_or("");
     let inside = line.get(named.start..named.end).unwrap_or("");
@@ -166,7 +166,7 @@ fn paint_in(paint: Paint<'_>, nesting: Nesting) -> Paint<'_> {
     if nesting.is_in_string() { PLAIN } else { paint }
 }
 
-/// Where the mappings lead, as it stands in a line.
+/// Where the mappings lead, as it is written in a line.
 pub fn first_place(
     alloc: Global,
     maps: &Maps,
@@ -184,7 +184,7 @@ pub fn first_place(
     text_in_line(alloc, text, nesting)
 }
 
-/// The place of a call, as it stands in a line.
+/// The place of a call, as it is written in a line.
 fn call_place(
     alloc: Global,
     spot: &Spot<'_>,
@@ -303,7 +303,7 @@ impl<'a> Rows<'a> {
     }
 }
 
-/// What stands in a line for a frame and the name of its function: the frames of the source, the places of calls below it. In a row with
+/// The replacement of a frame and the name of its function in a line: the frames of the source, the places of calls below it. In a row with
 /// other frames the first one alone.
 pub fn source_text(
     alloc: Global,

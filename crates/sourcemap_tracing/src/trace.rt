@@ -26,7 +26,7 @@ fn reads_lines(asked: &Asked<'_, '_>) -> Outcome<bool> {
     Ok(matches!(words.as_slice(), [] | ["-"]))
 }
 
-/// Whether the map says of some position what it comes from.
+/// Whether the map has an original for some position.
 fn finds_any(tracer: &Tracer, positions: &[Position], bias: Bias) -> bool {
     positions.iter().any(|position| matches!(tracer.answer(*position, bias), Answer::At(_)))
 }
@@ -38,7 +38,7 @@ struct Answers<'m> {
     style: Style,
     /// The lines around positions, if they are asked for.
     contents: Option<Contents<'m>>,
-    /// Whether the map said of some position what it comes from.
+    /// Whether the map had an original for some position.
     is_found: bool,
 }
 
@@ -98,7 +98,7 @@ impl<'m> Answers<'m> {
         print(rt, if self.style.json { "{}\n" } else { "\n" })
     }
 
-    /// Prints the answer for a line of standard input, and tells whether it has a position or is empty: what else it has is told.
+    /// Prints the answer for a line of standard input. Returns whether it has a position or is empty; reports any other line.
     fn print_line(&mut self, rt: &HostRuntime, line: &[u8], number: usize) -> Outcome<bool> {
         let base = u32::from(self.style.base);
         match position_of_line(rt.alloc(), line, number, base) {

@@ -9,8 +9,8 @@ use std::alloc::{AllocError, Global};
 pub const VERSION: &str = "2.0.0";
 
 const ABOUT: &str =
-    "Looks positions up in source maps, leads stack traces back, and checks, joins and compares maps";
-/// What holds of all commands.
+    "Looks positions up in source maps, resolves stack traces, and checks, joins and compares maps";
+/// What holds for all commands.
 pub const STATUS: &str =
     "Lines and columns count from 0, columns in UTF-16 units, unless a command says else. `-` is standard input.
 Status: 0 if something was found and nothing is wrong, 1 if nothing was found or something is wrong or different, 2 on an error.";
@@ -28,11 +28,11 @@ enum Kind {
     Options(&'static str),
     /// An option whose value is a number.
     Number(&'static str),
-    /// A number of bytes, which is 256 MB if it is not there.
+    /// A number of bytes, 256 MB by default.
     Limit,
     /// An option with two values.
     Two(&'static [&'static str]),
-    /// An option with a letter too, `-o OUT`.
+    /// An option that has a letter too, `-o OUT`.
     Output,
     /// The same, without which the command does not run.
     NeededOutput,
@@ -40,9 +40,9 @@ enum Kind {
     File,
     /// One file or more.
     Files,
-    /// A file that may be left out.
+    /// An optional file.
     Other,
-    /// A file in place of which standard input is read.
+    /// An optional file; without it standard input is read.
     Input,
     /// Any number of words.
     Words,
@@ -79,7 +79,7 @@ const COMMON: [Word; 3] = [
     Word("outside", Kind::Flag, "Read files outside of the root too"),
 ];
 
-/// Where codes lie that engines name by other paths.
+/// Where codes are that engines name by other paths.
 const PREFIX: Word = Word(
     "prefix",
     Kind::Options("PREFIX=DIR"),
@@ -87,7 +87,7 @@ const PREFIX: Word = Word(
 );
 
 const TRACE: Words = Words {
-    about: "Tells what generated positions come from",
+    about: "Traces generated positions to their originals",
     json: "An object a line: line, column, found (original, unmapped or nothing), and source, sourceLine, sourceColumn, name; of --reverse line, column, source, generated",
     words: &[
         Word("MAP", Kind::File, "A map, or a code whose map is found"),
@@ -109,7 +109,7 @@ const TRACE: Words = Words {
         Word(
             "reverse",
             Kind::Options("SOURCE:LINE:COLUMN"),
-            "Tells what is generated from an original position",
+            "Finds the generated positions of an original one",
         ),
         Word(
             "one-based",
@@ -125,7 +125,7 @@ const TRACE: Words = Words {
 };
 
 const RESOLVE: Words = Words {
-    about: "Leads the frames of stack traces back to the originals, as V8, Firefox, Safari and Hermes print them, in traces and in logs",
+    about: "Resolves the frames of stack traces to the originals, as V8, Firefox, Safari and Hermes print them, in traces and in logs",
     json: "An object a line: text, resolved, and of a frame file, line, column; with a map map, found, source, sourceLine, sourceColumn, name; with scopes function, callers (source, sourceLine, sourceColumn, function), hidden (its row is left out; a line that is left out has no resolved); or why; from 1; matched (prefix or maps) and prefix where the whole path was not there; of several frames the list frames",
     words: &[
         Word(
@@ -137,7 +137,7 @@ const RESOLVE: Words = Words {
         Word(
             "explain",
             Kind::Flag,
-            "Says below a frame why it stays as it is, or by what less than its whole path its code was found",
+            "Says below a frame why it stays as it is, or, if not by its whole path, how its code was found",
         ),
         Word(
             "names",
@@ -148,7 +148,7 @@ const RESOLVE: Words = Words {
 };
 
 const CHECK: Words = Words {
-    about: "Tells what is wrong in maps, and what they hold",
+    about: "Reports what is wrong in maps, and what they hold",
     json: "An object a line: file, kind (wrong, note or summary), text",
     words: &[Word(
         "FILE",
@@ -158,7 +158,7 @@ const CHECK: Words = Words {
 };
 
 const REMAP: Words = Words {
-    about: "Leads a map through the maps of its sources; source roots are applied",
+    about: "Traces a map through the maps of its sources; source roots are applied",
     json: "An object: output, sources, names, tokens, inputs",
     words: &[
         Word("MAP", Kind::File, "A map, or a code whose map is found"),
@@ -182,7 +182,7 @@ const REMAP: Words = Words {
     ],
 };
 
-/// How long a map may be that is written.
+/// The greatest length of a written map.
 const LIMIT: Word = Word(
     "limit",
     Kind::Limit,
@@ -305,7 +305,7 @@ const EXTERNAL: Words = Words {
 };
 
 const DEBUG_ID: Words = Words {
-    about: "Tells whether codes and their maps have the same debug ids, or gives them these",
+    about: "Reports whether codes and their maps have the same debug ids, or gives them the same ones",
     json: "An object a line, for each code: code, map, codeId, mapId, ids (same, different, missing or no UUID), and without a map why; of --inject code, map, debugId, from (both, map, code or digest)",
     words: &[
         Word("CODE", Kind::Files, "Codes whose maps are found"),
@@ -322,7 +322,7 @@ const DEBUG_ID: Words = Words {
     ],
 };
 
-/// Where a map is written that is changed.
+/// Where a changed map is written.
 const EDITED: Word = Word(
     "output",
     Kind::Output,
@@ -330,7 +330,7 @@ const EDITED: Word = Word(
 );
 
 const DIFF: Words = Words {
-    about: "Tells where two maps say different things",
+    about: "Reports where two maps answer differently",
     json: "An object: different, and if it is true line and column of the first place, places (how many differ) and of (of how many), or member (scopes) if that alone differs",
     words: &[
         Word("A", Kind::File, "A map, or a code whose map is found"),
@@ -364,7 +364,7 @@ const PAGE: Words = Words {
 };
 
 const SIZE: Words = Words {
-    about: "Tells how many bytes of codes come from each source",
+    about: "Reports how many bytes of codes come from each source",
     json: "An object a line, the most bytes first: kind (source, folder, package, own or unmapped), name (but of own and unmapped), bytes, of (all bytes); of --diff old, new and change in place of bytes and of",
     words: &[
         Word(
@@ -375,12 +375,12 @@ const SIZE: Words = Words {
         Word(
             "by",
             Kind::Which("WHAT", &["source", "folder", "package"]),
-            "What the bytes are told of: sources, the folders that they are in, or packages, by the last node_modules/NAME or node_modules/@SCOPE/NAME of a path [default: source]",
+            "What the bytes are reported for: sources, the folders that they are in, or packages, by the last node_modules/NAME or node_modules/@SCOPE/NAME of a path [default: source]",
         ),
         Word(
             "diff",
             Kind::Flag,
-            "Tells what has another number of bytes in the second code than in the first, the greatest change first",
+            "Reports what has another number of bytes in the second code than in the first, the greatest change first",
         ),
     ],
 };
@@ -425,7 +425,7 @@ fn arg_of<'a>(alloc: Global, word: &Word) -> Arg<'a> {
         Kind::Flag => arg.long(name).action(ArgAction::SetTrue),
         Kind::Option(value) => option(arg, name, value),
         Kind::Options(value) => option(arg, name, value).action(ArgAction::Append),
-        // A number below 0 is refused as a value, and not as an option that is not there.
+        // A number below 0 is refused as a value, and not as an unknown option.
         Kind::Number(value) => option(arg, name, value)
             .allow_negative_numbers(true)
             .value_parser(clap::value_parser!(u32)),

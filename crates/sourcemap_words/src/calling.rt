@@ -21,14 +21,14 @@ pub enum FrameForm {
 #[derive(Clone, Copy)]
 pub struct Calling {
     pub form: FrameForm,
-    /// Where begins what belongs to the frame in front of the name: `async`, `new`, or what caused the call.
+    /// Where the frame's text before the name begins: `async`, `new`, or the cause of the call.
     pub lead: usize,
-    /// Where the name begins and ends; where it would stand, if there is none.
+    /// Where the name begins and ends; where it would be, if the frame has no name.
     pub start: usize,
     pub end: usize,
     /// Where the frame ends, with the bracket behind its place.
     pub close: usize,
-    /// What stands for a function without a name.
+    /// The text in place of the name of a function without one.
     pub unnamed: &'static str,
     /// The row that the frame is in, if it is the only one there.
     pub row: Option<Row>,
@@ -112,7 +112,7 @@ fn last_word<'t>(text: &'t str, firsts: &[&str]) -> &'t str {
     text.get(start..).unwrap_or(word)
 }
 
-/// The name in front of `@`. What caused the call stands in front of it, with a star.
+/// The name in front of `@`. The cause of the call is in front of it, with a star.
 fn name_of_at_sign(head: &str) -> Name<'_> {
     let text = last_word(head, &NAMES_OF_TWO);
     let name = Name::new(FrameForm::AtSign, head, text, text);

@@ -164,7 +164,7 @@ fn fish(alloc: Global, program: &Command<'_>) -> Result<String, AllocError> {
     Ok(out)
 }
 
-/// What a shell (`bash`, `zsh` or else `fish`) reads to complete the words of the program.
+/// The script with which a shell (`bash`, `zsh` or else `fish`) completes the words of the program.
 pub fn completions_of(
     alloc: Global,
     program: &Command<'_>,

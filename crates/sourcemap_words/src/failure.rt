@@ -13,7 +13,7 @@ pub enum Failure {
     /// A call of the library failed on maps that were read.
     Library(PlanError),
     Memory,
-    /// Nobody reads what is written any more.
+    /// The reader of the output has closed it.
     Closed,
 }
 

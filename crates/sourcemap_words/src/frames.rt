@@ -11,7 +11,7 @@ use std::alloc::{AllocError, Global};
 /// V8, in the code of an `eval`: the innermost place outside of it, `at f (eval at g (bundle.js:1:2), <anonymous>:3:4)`.
 const V8_EVAL: &str = r"(?:^|\s)at .*\(eval at .*?\((.+?):([0-9]+):([0-9]+)\)";
 /// V8, outside of functions, or in one without a name: `at bundle.js:1:2`. Or in a function: `at f (bundle.js:1:2)`; in Hermes
-/// `at f (address at bundle:1:2)`. Or a component of React: `in App (at bundle.js:1:2)`. Anything may stand before and behind.
+/// `at f (address at bundle:1:2)`. Or a component of React: `in App (at bundle.js:1:2)`. Anything may be before and behind.
 const V8: &str =
     r"(?:^|\s)at (?:async )?((?:\S|\s[^(\s])+?):([0-9]+):([0-9]+)(?:[\s,;]|$)|(?:^|\s)(?:at (?:.*?\s)?\((?:address at )?|in (?:.*?\s)?\(at )((?:[^()]|\([^()]*\))+?):([0-9]+):([0-9]+)\)";
 /// V8, where one frame is all of a line: the file of a call may have any brackets, and that of a bare place too.
@@ -47,7 +47,7 @@ const ELSEWHERE: [(&str, &str); 5] = [
     ),
 ];
 
-/// In place of a byte that is no UTF-8.
+/// Replaces a byte that is not UTF-8.
 pub const NO_TEXT: char = '\0';
 
 /// The place that a frame names: bytes `start` to `end` of its line, which are the name of a file, a line and a column.
@@ -61,7 +61,7 @@ pub struct Named {
     pub column: u32,
     /// Whether it is a place of bytecode.
     pub is_bytecode: bool,
-    /// The strings that it stands in.
+    /// The strings that it is in.
     pub nesting: Nesting,
     /// How it names its function; None if it is of no form that names the function of the place.
     pub calling: Option<Calling>,
@@ -72,7 +72,7 @@ pub struct Named {
 pub struct Line {
     /// From left to right.
     pub frames: Vec<Named>,
-    /// Why the frame of the line has no place that could be led back.
+    /// Why the frame of the line has no place that could be resolved.
     pub elsewhere: Option<&'static str>,
 }
 
@@ -109,7 +109,7 @@ impl Patterns {
         })
     }
 
-    /// What searches for the patterns.
+    /// Makes the finder of the places that these patterns match.
     pub fn finder(&self, alloc: Global) -> Result<Finder<'_>, AllocError> {
         Ok(Finder {
             eval: matchers(alloc, self.eval.as_slice())?,
@@ -129,7 +129,7 @@ fn matchers<'r>(alloc: Global, regexes: &'r [Regex]) -> Result<Vec<Matcher<'r>>,
     Ok(all)
 }
 
-/// What finds the places that lines name.
+/// Finds the places that lines name.
 #[derive(Drop)]
 pub struct Finder<'r> {
     eval: Vec<Matcher<'r>>,
@@ -198,7 +198,7 @@ fn is_path(name: &str) -> bool {
     is_root || has_part && !name.contains(' ')
 }
 
-/// A line without what may stand behind a frame: white space, and the bracket of the properties of an error.
+/// A line without what may follow a frame: white space, and the bracket of the properties of an error.
 fn body_of(text: &str) -> &str {
     let body = text.trim_end();
     match body.strip_suffix('{') {
@@ -207,16 +207,16 @@ fn body_of(text: &str) -> &str {
     }
 }
 
-/// What is to be done with a part of a text. A number is how many frames were found before.
+/// What to do with a part of a text. A number is how many frames were found before.
 #[derive(Clone, Copy)]
 enum Step {
-    /// To search the rows of a string.
+    /// Search the rows of a string.
     Open { is_single: bool },
-    /// To search the strings in double quotes of a row.
+    /// Search the strings in double quotes of a row.
     Double,
-    /// To search those in single quotes, if no frame was found in the others.
+    /// Search those in single quotes, if no frame was found in the others.
     Single(usize),
-    /// To search the row itself, if no frame was found in its strings.
+    /// Search the row itself, if no frame was found in its strings.
     Itself(usize),
 }
 
@@ -234,7 +234,7 @@ struct Part {
 struct Search {
     /// The line, a string of it, a string of that, and so on.
     views: Vec<View>,
-    /// What is to be searched, the next part at the end.
+    /// The parts to search, the next one at the end.
     parts: Vec<Part>,
     frames: Vec<Named>,
 }
@@ -265,7 +265,7 @@ impl Search {
         view.text.as_str().get(part.start..part.end).unwrap_or("")
     }
 
-    /// Has a row searched, but not if it has no colon, and so no frame.
+    /// Schedules the search of a row, unless it has no colon, and so no frame.
     fn add_row(&mut self, row: &str, depth: usize, start: usize) -> Result<(), AllocError> {
         if !row.contains(':') {
             return Ok(());
@@ -300,7 +300,7 @@ impl Search {
         Ok(())
     }
 
-    /// Has the strings of a row opened, the first one first.
+    /// Schedules the opening of the strings of a row, the first one first.
     fn add_strings(
         &mut self,
         row: Part,
@@ -340,7 +340,7 @@ fn strings_of(
     Ok(if has_colon { strings } else { Vec::new(alloc) })
 }
 
-/// Whether a place is one of a row that can be told from what is around it.
+/// Whether a place is one of a row that can be distinguished from the text around it.
 fn is_in_row(text: &str, spot: &Spot<'_>) -> bool {
     is_whole(text.get(..spot.start).unwrap_or("")) && is_whole(text.get(spot.end..).unwrap_or(""))
 }
@@ -466,7 +466,7 @@ impl<'r> Finder<'r> {
         Ok(())
     }
 
-    /// Has the strings of a row searched, if it may be JSON, or names no frame without them; then `next`.
+    /// Schedules the search of the strings of a row, if it may be JSON, or names no frame without them; then `next`.
     fn search_strings(
         &mut self,
         alloc: Global,
@@ -503,7 +503,7 @@ impl<'r> Finder<'r> {
         self.add_frames(alloc, view, (row.start, text), &mut search.frames)
     }
 
-    /// Does what is to be done with a part. Of a row with frames in its strings nothing else is.
+    /// Takes the step of a part. If frames were found in the strings of a row, nothing else of the row is searched.
     fn search(&mut self, alloc: Global, search: &mut Search, part: Part) -> Result<(), AllocError> {
         let count = search.frames.len();
         match part.step {
@@ -517,7 +517,7 @@ impl<'r> Finder<'r> {
         }
     }
 
-    /// What a line names. A byte that is no text stands in it as `NO_TEXT`.
+    /// What a line names. The text has `NO_TEXT` for each byte that is no text.
     pub fn read(&mut self, alloc: Global, line: &str) -> Result<Line, AllocError> {
         let view = View::of_line(alloc, line)?.without_codes(alloc)?;
         let mut search = Search::new(alloc, view)?;

@@ -8,7 +8,7 @@ pub struct Report {
     pub result: Vec<Script>,
 }
 
-/// What V8 tells of one script.
+/// V8's report of one script.
 #[derive(Drop, Deserialize)]
 pub struct Script {
     pub url: String,
@@ -67,7 +67,7 @@ struct Around {
 }
 
 impl Around {
-    /// Goes on to an offset: what lies before it has the count of the innermost range.
+    /// Advances to an offset: the code before it has the count of the innermost range.
     fn go_to(&mut self, offset: u32) -> Result<(), AllocError> {
         if let Some(range) = self.open.as_slice().last()
             && self.at < offset

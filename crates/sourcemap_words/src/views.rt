@@ -2,7 +2,7 @@
 //! byte of a view knows where in the line it comes from.
 use std::alloc::{AllocError, Global};
 
-/// How many strings may be in one another.
+/// How deeply strings may be nested.
 const DEEPEST: usize = 4;
 
 /// The strings that a text of a line is in, from the outermost on.
@@ -15,13 +15,13 @@ pub struct Nesting {
 }
 
 impl Nesting {
-    /// That of a line.
+    /// The nesting of a line.
     const LINE: Nesting = Nesting {
         depth: 0,
         singles: [false; DEEPEST],
     };
 
-    /// That of a string in a text with this one; None if it is too deep.
+    /// The nesting of a string in a text with this one; None if it is too deep.
     fn inside(self, is_single: bool) -> Option<Nesting> {
         let mut nesting = self;
         let slot = nesting.singles.get_mut(self.depth)?;
@@ -40,7 +40,7 @@ impl Nesting {
         self.singles.get(index).copied().unwrap_or(false)
     }
 
-    /// The backslashes that stand in front of an escape of the innermost string, since the strings around it escape its own one.
+    /// The backslashes in front of an escape of the innermost string, since the strings around it escape its own one.
     pub fn slashes(self) -> &'static str {
         match self.depth {
             0 | 1 => "",
@@ -56,7 +56,7 @@ impl Nesting {
 pub struct View {
     pub text: String,
     pub nesting: Nesting,
-    /// For each byte of the text, where in the line that which stands for it begins and ends.
+    /// For each byte of the text, where in the line the bytes that it stands for begin and end.
     starts: Vec<usize>,
     ends: Vec<usize>,
     /// Where in the line the part begins and ends.
@@ -175,7 +175,7 @@ impl View {
         (self.start_of(start), self.end_of(end.saturating_sub(1)))
     }
 
-    /// Where in the line what stands for byte `at` of the text ends.
+    /// Where in the line the bytes that byte `at` of the text stands for end.
     pub fn behind(&self, at: usize) -> usize {
         self.end_of(at)
     }
@@ -207,7 +207,7 @@ impl View {
     }
 }
 
-/// The number of so many hexadecimal digits behind `lead` at the start of a text.
+/// The number of `count` hexadecimal digits behind `lead` at the start of a text.
 fn number_behind(text: &str, lead: &str, count: usize) -> Option<u32> {
     let digits = text.strip_prefix(lead)?.get(..count)?;
     if !digits.bytes().all(|byte| byte.is_ascii_hexdigit()) {
@@ -293,17 +293,17 @@ pub fn json_strings(alloc: Global, line: &str) -> Result<Vec<(usize, usize)>, Al
     Ok(strings)
 }
 
-/// What may stand in front of a string in single quotes, and behind it.
+/// What may be in front of a string in single quotes, and behind it.
 const FRONTS: &[u8] = b" \t([{,:=+";
 
 const BACKS: &[u8] = b" \t\r)]},;:+";
 
-/// The byte in front of one of a text.
+/// The byte in front of the one at an index of a text.
 fn byte_before(text: &str, at: usize) -> Option<u8> {
     text.as_bytes().get(at.checked_sub(1)?).copied()
 }
 
-/// The byte behind one of a text.
+/// The byte behind the one at an index of a text.
 fn byte_behind(text: &str, at: usize) -> Option<u8> {
     text.as_bytes().get(at.saturating_add(1)).copied()
 }
@@ -374,7 +374,7 @@ fn is_of_drive(word: &str) -> bool {
     matches!(word.as_bytes(), [drive, b':', b'\\', ..] if drive.is_ascii_alphabetic())
 }
 
-/// Whether a text in front of a frame or behind it has each of its strings whole, and no escaped line feed: else the frame stands in a
+/// Whether a text in front of a frame or behind it has each of its strings whole, and no escaped line feed: else the frame is in a
 /// string that is cut off or unknown, and how a row ends there is unknown. A mark right behind a word opens no string (`the users' list`).
 pub fn is_whole(text: &str) -> bool {
     let (mut doubles, mut singles, mut ticks) = (false, false, false);

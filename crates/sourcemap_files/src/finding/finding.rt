@@ -16,7 +16,7 @@ use sourcemap_texts::{Prefix, is_url};
 use sourcemap_words::{Outcome, failure_of};
 use std::alloc::{AllocError, Global};
 
-/// Where files are looked for that other files name.
+/// Where to look for files that other files name.
 #[derive(Clone, Copy)]
 pub struct Places<'a> {
     /// The folder that named files are in; empty or with a slash at its end.
@@ -25,7 +25,7 @@ pub struct Places<'a> {
     pub maps: Option<&'a str>,
     /// Whether files outside of the root and of the folder of the code may be read.
     pub outside: bool,
-    /// Where codes lie that engines name by paths with these prefixes.
+    /// Where codes are that engines name by paths with these prefixes.
     pub prefixes: &'a [Prefix],
     /// Whether the compiled map beside a map is read in its place.
     pub takes_compiled: bool,
@@ -45,7 +45,7 @@ pub struct MapText {
     /// Whether it has a file of its own, of this name.
     pub is_file: bool,
     pub written: Written,
-    /// The map that stands behind a compiled one, which is read if that is damaged.
+    /// The map of a compiled one, which is read if the compiled one is damaged.
     pub behind: Option<String>,
 }
 
@@ -86,7 +86,7 @@ fn map_in(
     }))
 }
 
-/// The map in a file; or its compiled form, where that is taken, lies beside it, and is fresh.
+/// The map in a file; or its compiled form, where that is used, is beside it, and is fresh.
 fn map_text(rt: &HostRuntime, path: &str, places: Places<'_>) -> Outcome<Lookup> {
     let alloc = rt.alloc();
     let beside = format!(in alloc; "{path}{COMPILED_END}")?;
@@ -243,7 +243,7 @@ pub fn map_of_code(
     Ok(named)
 }
 
-/// Whether a file may be read that a frame or V8 names.
+/// Whether a file that a frame or V8 names may be read.
 pub fn is_in_root(rt: &HostRuntime, path: &str, places: Places<'_>) -> bool {
     places.outside || is_inside(rt, path, places.root)
 }
@@ -298,11 +298,11 @@ impl<'a> Files for Folder<'a> {
     }
 }
 
-/// The code that a frame or V8 names; it may be its map alone that is there.
+/// The code that a frame or V8 names, or only its map.
 #[derive(Drop)]
 pub struct CodeFile {
     pub path: String,
-    /// The folder that it has to be in, links followed, to be read.
+    /// The folder that it has to be in, links followed, for it to be read.
     pub folder: String,
     /// The prefix of the input that it was found below; None if it was found by its whole path.
     pub prefix: Option<String>,
@@ -357,7 +357,7 @@ fn itself(
     Ok(None)
 }
 
-/// The code that lies below a prefix which the user named.
+/// The code below a prefix which the user named.
 fn below_named(
     rt: &HostRuntime,
     path: &CodePath,
@@ -373,7 +373,7 @@ fn below_named(
     Ok(Some(code_in(rt.alloc(), folder, rest, None)?))
 }
 
-/// The code that lies below a prefix of the input.
+/// The code below a prefix of the input.
 fn below_input(
     rt: &HostRuntime,
     path: &CodePath,
@@ -470,7 +470,7 @@ pub fn map_of_file(rt: &HostRuntime, path: &str, places: Places<'_>) -> Outcome<
     })
 }
 
-/// What stands behind the reason of an error: a number by itself does not tell what is wrong with it.
+/// The text behind the reason of an error: a number by itself does not say what is wrong with it.
 fn behind_reason(error: Error) -> &'static str {
     match error {
         Error::BadSourceReference(_) => ", and the map has no such source",
@@ -479,8 +479,8 @@ fn behind_reason(error: Error) -> &'static str {
     }
 }
 
-/// The text of an error of reading this text, with its place if it has one. Where the error says something else than what is wrong, the
-/// reason stands in its place: `line 0, segment 3 (byte 12): a column below 0`.
+/// The text of an error of reading this text, with its place if it has one. Where the error does not say what is wrong, the
+/// reason replaces it: `line 0, segment 3 (byte 12): a column below 0`.
 fn placed_text(
     alloc: Global,
     text: &str,
@@ -501,12 +501,12 @@ pub fn error_text(alloc: Global, text: &str, error: Error) -> Result<String, All
     placed_text(alloc, text, json_fault_at(alloc, text), error)
 }
 
-/// The same of reading a map as it is found.
+/// The same for reading a map as it is found.
 pub fn found_error_text(alloc: Global, text: &str, error: Error) -> Result<String, AllocError> {
     placed_text(alloc, text, found_fault_at(alloc, text), error)
 }
 
-/// Reads the text of a map as it is found, the source roots of sections applied. What is mended is told as a warning.
+/// Reads the text of a map as it is found, the source roots of sections applied. Warns of what is mended.
 fn read_map_text(rt: &HostRuntime, name: &str, text: &str) -> Outcome<SourceMapParts<'static>> {
     let alloc = rt.alloc();
     match read_found_parts(alloc, text) {
@@ -527,7 +527,7 @@ fn read_map_text(rt: &HostRuntime, name: &str, text: &str) -> Outcome<SourceMapP
     }
 }
 
-/// Reads the map behind a compiled one, which is damaged.
+/// Reads the map of a compiled one, which is damaged.
 fn read_behind(rt: &HostRuntime, map: &MapText, why: &str) -> Outcome<SourceMapParts<'static>> {
     let Some(path) = map.behind.as_deref() else {
         return Err(failure_of(rt.alloc(), map.name.as_str(), why));
@@ -541,7 +541,7 @@ fn read_behind(rt: &HostRuntime, map: &MapText, why: &str) -> Outcome<SourceMapP
     read_map_text(rt, path, text.as_str())
 }
 
-/// Reads a map: its text as it is found, or its compiled form with the contents that lie apart.
+/// Reads a map: its text as it is found, or its compiled form with the contents that are apart.
 pub fn read_map(rt: &HostRuntime, map: &MapText) -> Outcome<SourceMapParts<'static>> {
     let mut parts = read_map_alone(rt, map)?;
     if let Written::Compiled(bytes) = &map.written {
@@ -550,7 +550,7 @@ pub fn read_map(rt: &HostRuntime, map: &MapText) -> Outcome<SourceMapParts<'stat
     Ok(parts)
 }
 
-/// The same, without contents that lie apart.
+/// The same, without contents that are apart.
 pub fn read_map_alone(rt: &HostRuntime, map: &MapText) -> Outcome<SourceMapParts<'static>> {
     match &map.written {
         Written::Text(text) => read_map_text(rt, map.name.as_str(), text.as_str()),
@@ -570,7 +570,7 @@ pub fn text_of_map(rt: &HostRuntime, map: &MapText) -> Outcome<String> {
     Ok(encode_parts_to_string_within(rt.alloc(), &parts, LONGEST)?)
 }
 
-/// The map of a file, given as a map or as a code, with its source root applied; contents that lie apart only if they are asked for.
+/// The map of a file, given as a map or as a code, with its source root applied; contents that are apart only if they are asked for.
 pub fn rooted_map(
     rt: &HostRuntime,
     path: &str,

@@ -23,7 +23,7 @@ pub struct CodePath {
     pub is_remote: bool,
 }
 
-/// The parts of a path of any system, without empty parts and dots; two dots take the part before away. None if a URL has two dots left.
+/// The parts of a path of any system, without empty parts and dots; two dots remove the part before them. None if a URL has two dots left.
 fn normal_path(alloc: Global, path: &str, is_relative: bool) -> Result<String, AllocError> {
     let mut parts: Vec<&str> = Vec::new(alloc);
     for part in path.split(['/', '\\'].as_slice()) {
@@ -148,7 +148,7 @@ impl CodePath {
         }
     }
 
-    /// The first bytes of the path, so many, and what is behind them.
+    /// The path up to byte `end`, and the rest.
     fn split(&self, end: usize) -> (&str, &str) {
         let text = self.text.as_str();
         text.split_at_checked(end).unwrap_or((text, ""))

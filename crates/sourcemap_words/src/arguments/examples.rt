@@ -67,7 +67,7 @@ const STRIP: &str = "Examples:
   sourcemap strip dist/app.js.map -o public/app.js.map";
 
 const INLINE: &str =
-    "The data URL is base64 of the map as it is written, and takes the place of the URL in the comment that names the map. Sources that are
+    "The data URL is base64 of the map as it is written, and replaces the URL in the comment that names the map. Sources that are
 relative to another folder are made relative to that of the code.
 
 Examples:

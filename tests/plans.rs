@@ -23,9 +23,9 @@ const UNSORTED: &str = r#"{"version":3,"sources":[],"mappings":"G,D"}"#;
 const BUNDLE: &str = r#"{"version":3,"names":["x","y"],"sources":["a.js","b.js"],"mappings":"AAAAA,IAAIC;ACCA,KAAK"}"#;
 const OF_A: &str = r#"{"version":3,"names":["add"],"sources":["a.ts"],"sourcesContent":["let a"],"mappings":"AACEA,IAAE"}"#;
 const OF_B: &str = r#"{"version":3,"sources":["b.ts","c.ts"],"ignoreList":[1],"mappings":";ACGC,K"}"#;
-/// The bundle, led back through both maps.
+/// The bundle, traced through both maps.
 const ORIGINALS: &str = r#"{"version":3,"names":["add","y"],"sources":["a.ts","b.ts","c.ts"],"sourcesContent":["let a",null,null],"ignoreList":[2],"mappings":"AACEA,IAAEC;AEEH,K"}"#;
-/// A map of the source of `OF_A`, and the bundle, led back through both of these.
+/// A map of the source of `OF_A`, and the bundle, traced through both of these.
 const OF_A_TS: &str = r#"{"version":3,"sources":["a.coffee"],"mappings":";AAIA"}"#;
 const COFFEE: &str = r#"{"version":3,"names":["add","y"],"sources":["a.coffee","b.js"],"mappings":"AAIAA,IAAAC;ACHI,KAAK"}"#;
 

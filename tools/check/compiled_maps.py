@@ -31,7 +31,7 @@ def made(run, check, folder, text):
 
 
 def resolved(run, folder, text, age):
-    """By which map a frame is led back, and where, if the map has this text and is so much older than its compiled one; what is told."""
+    """By which map a frame is resolved, and where, if the map has this text and is so much older than its compiled one; what is reported."""
     when = os.stat(Path(folder, "app.js.map.smc")).st_mtime - age
     Path(folder, "app.js.map").write_text(text)
     os.utime(Path(folder, "app.js.map"), (when, when))

@@ -50,7 +50,7 @@ export interface LineRange extends Position {
 }
 
 export interface FindPosition extends Position {
-  /** GREATEST_LOWER_BOUND, if it is not said, or LEAST_UPPER_BOUND. */
+  /** GREATEST_LOWER_BOUND (the default) or LEAST_UPPER_BOUND. */
   bias?: number;
 }
 
@@ -138,11 +138,11 @@ export class SourceMapGenerator {
 
   /** Throws Error if a mapping is neither a generated position alone, nor one with an original position and a source. */
   addMapping(mapping: Mapping | { generated: Position }): void;
-  /** Sets the content of a source, or takes it away with null. */
+  /** Sets the content of a source, or removes it with null. */
   setSourceContent(sourceFile: string, sourceContent: string | null): void;
   /**
-   * Leads the mappings of one source, that of the name of the map's file if it is not said, through the map of that source, whose own
-   * sources are found from a path, if it is given. Throws Error if neither says which source it is.
+   * Traces the mappings of one source through the map of that source. The source is by default the one with the name of that map's file;
+   * the map's own sources are resolved from a path, if it is given. Throws Error if neither names the source.
    */
   applySourceMap(consumer: SourceMapConsumer, sourceFile?: string, sourceMapPath?: string): void;
   /** The value of the map. */
@@ -172,7 +172,7 @@ export class SourceNode {
   source: string | null;
   name: string | null;
 
-  /** Adds code behind or before. Throws TypeError of what is no code. */
+  /** Adds code behind or before. Throws TypeError for what is no code. */
   add(chunk: Chunk): SourceNode;
   prepend(chunk: Chunk): SourceNode;
   setSourceContent(sourceFile: string, sourceContent: string): void;

@@ -26,7 +26,7 @@ export interface Store {
 }
 
 /**
- * A folder as a store. What leads out of it is refused: a name that climbs, and a link, of the file or of a folder above it. Nobody else
+ * A folder as a store. It refuses names that resolve outside of it: by `..`, or by a link of the file or of a folder above it. Nobody else
  * may change links in it meanwhile.
  *
  * @example
@@ -108,9 +108,9 @@ export interface Frame {
 }
 
 /**
- * What a frame comes to: the source, as the map lists it and with the source root before it, the original line and column, which count
- * from 0, and the name of the mapping, which is that of a function where the tool that made the map gave it one. If it is not resolved,
- * these are null, and the reason and a detail in words say why.
+ * What a frame resolves to: the source, as the map lists it and with the source root before it, the original line and column, which count
+ * from 0, and the name of the mapping, which is that of a function where the tool that made the map wrote one. For an unresolved frame
+ * these are null, and `reason` and `detail` state why.
  */
 export class Resolved {
   private constructor();

@@ -1,4 +1,4 @@
-/** The scopes of maps. All that index.d.ts says of numbers, texts and errors is true here too. */
+/** The scopes of maps. The rules of index.d.ts for numbers, texts and errors apply here too. */
 
 import type { Bias, CompiledMap, MapInput, Position, SourceMap, Text } from "./index.js";
 
@@ -12,7 +12,7 @@ export type ScopesFault =
   | "TOO_LARGE"
   /** It is empty, or lacks a number. */
   | "MISSING_NUMBER"
-  /** An index leads to no name, scope or value. */
+  /** An index refers to no name, scope or value. */
   | "BAD_INDEX"
   /** It is an end, variables, values or a call site, and nothing that it could belong to is open. */
   | "NOTHING_OPEN"
@@ -80,7 +80,7 @@ export interface ScopeFrame {
   readonly nameId: number | null;
   readonly name: string | null;
   readonly scope: number | null;
-  /** Where the frame is; null of the first one, which is where `SourceMap.trace` leads. */
+  /** Where the frame is; null for the first one, which is at the position that `SourceMap.trace` returns. */
   readonly call: CallSite | null;
 }
 
@@ -117,9 +117,9 @@ export interface ScopeChainEntry {
   readonly variables: readonly ScopeVariable[];
 }
 
-/** A frame of the source with its place. `name` is null if the function has none, or its text is not known. The first frame is where
- *  `SourceMap.trace` leads: `source`, `line` and `column` are null if the map has none there. Any other frame is where it was called: `line`
- *  and `column` are numbers, and `source` is null if the map lacks it. */
+/** A frame of the source with its place. `name` is null if the function has none, or its text is not known. The first frame is at the
+ *  position that `SourceMap.trace` returns: `source`, `line` and `column` are null if the map has none there. Any other frame is at its
+ *  call: `line` and `column` are numbers, and `source` is null if the map lacks it. */
 export interface SourceFrame {
   readonly name: string | null;
   readonly source: string | null;
@@ -223,12 +223,13 @@ export class Scopes {
    *  there is no frame), or that one is the code of none. */
   scopeChainAt(line: number, column: number): readonly ScopeChainEntry[];
   scopeChainAt(position: Position): readonly ScopeChainEntry[];
-  /** The scopes that a frame of the source is in, by its index in `framesAt`: of frame 0 those of `scopeChainAt`, of an inlined call those at
-   *  its place, with the ranges around the inlined body. Null past the last frame, so for frame 0 too where no range contains the position. */
+  /** The scopes that a frame of the source is in, by its index in `framesAt`: for frame 0 those of `scopeChainAt`, for an inlined call
+   *  those at its place, with the ranges around the inlined body. Null past the last frame, so for frame 0 too where no range contains the
+   *  position. */
   scopeChain(frame: number, line: number, column: number): readonly ScopeChainEntry[] | null;
   scopeChain(frame: number, position: Position): readonly ScopeChainEntry[] | null;
-  /** The frames of `framesAt` with the texts of their sources, by the map that has these scopes, which says where the first frame is. Where
-   *  no range contains the position, the frame is that which the map alone knows, without a name. A `map` of another type is a TypeError. */
+  /** The frames of `framesAt` with the texts of their sources, by the map that has these scopes; the map resolves the first frame. Where no
+   *  range contains the position, the frame is the one that the map alone knows, without a name. A `map` of another type is a TypeError. */
   trace(map: SourceMap | CompiledMap, line: number, column: number, bias?: Bias): SourceFrames;
   trace(map: SourceMap | CompiledMap, position: Position & { bias?: Bias | undefined }): SourceFrames;
   /**

@@ -24,7 +24,7 @@ _ODD = re.compile(r"[\x00-\x1f\x7f/\\]")
 
 
 class RefusedError(ValueError):
-    """A name that leads out of a store, or that no store has: with a part `..`, a control character, a slash in a part, a link out.
+    """A name that resolves outside of a store, or that no store has: with a part `..`, a control character, a slash in a part, a link out.
 
     >>> check_name("../a.js")
     Traceback (most recent call last):
@@ -162,14 +162,14 @@ class Bases:
 
 
 class Opened(NamedTuple):
-    """A file that is open, and what the system says of it."""
+    """An open file, and the system's record of it."""
 
     file: int
     status: os.stat_result
 
 
 class Folder:
-    """A folder as a store. What leads out of it is refused: a name that climbs, and a link, of the file or of a folder above it. Nobody
+    """A folder as a store. It refuses names that resolve outside of it: by `..`, or by a link of the file or of a folder above it. Nobody
     else may change links in it meanwhile. Raises OSError if it is not there.
 
     >>> import tempfile

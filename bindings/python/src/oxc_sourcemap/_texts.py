@@ -15,7 +15,7 @@ from ._values import Code, Language, Text
 
 
 def written_bytes(call: Callable[..., int]) -> Optional[bytes]:
-    """The bytes that a call makes, which gets where it puts the string and the fault; None where it says that there are none."""
+    """The bytes that a call makes, which gets where to put the string and the fault; None where it reports that there are none."""
     string, fault, text = ctypes.c_void_p(), _library.Fault(), _library.Text()
     try:
         code = call(byref(string), byref(fault))

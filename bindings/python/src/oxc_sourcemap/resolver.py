@@ -128,9 +128,9 @@ class Limits:
 
 
 class Resolved(NamedTuple):
-    """What a frame comes to: the source, as the map lists it and with the source root before it, the original line and column, which count
-    from 0, and the name of the mapping, which is that of a function where the tool that made the map gave it one. If it is not resolved,
-    these are None, and the reason and a detail in words say why. `map` is the name of the map in the store, `source_id` the source's id.
+    """What a frame resolves to: the source, as the map lists it and with the source root before it, the original line and column, which
+    count from 0, and the name of the mapping, which is that of a function where the tool that made the map wrote one. For an unresolved
+    frame these are None, and `reason` and `detail` state why. `map` is the name of the map in the store, `source_id` the source's id.
 
     >>> Resolved(Frame("app.js", 1, 14), reason=Reason.NO_MAP).source
     """
@@ -283,7 +283,7 @@ class Resolver:
             return Reason(error.reason), error.detail
 
     def resolve_frame(self, url: str, line: int, column: int, debug_id: Optional[str] = None) -> Resolved:
-        """What a place in a code comes to, by its URL or path, and its line and column, which count from 1.
+        """What a place in a code resolves to, by its URL or path, and its line and column, which count from 1.
 
         >>> Resolver({}).resolve_frame("app.js", 1, 14).reason.value
         'not there'
@@ -295,8 +295,8 @@ class Resolver:
     # ---- traces ----
 
     def resolve(self, text: Union[str, bytes], debug_ids: Mapping[str, str] = {}) -> list[Resolved]:
-        """What each frame of a trace comes to, in order. `debug_ids` has the debug id of a code by its URL, as frames name it. The places
-        of frames are those in the str; bytes are read as UTF-8, with surrogates for what is none.
+        """What each frame of a trace resolves to, in order. `debug_ids` has the debug id of a code by its URL, as frames name it. The
+        places of frames are those in the str; bytes are read as UTF-8, with surrogates for what is none.
 
         Raises TooLargeError if the trace has more bytes than the limit.
 
@@ -383,7 +383,7 @@ class Resolver:
         return self._maps.counts() | own | reasons | {"context_bytes_held": self._contents.counts()["bytes_held"]}
 
     def clear(self) -> None:
-        """Lets go of all that is held: what is asked for next is looked for again.
+        """Releases all that is held: later requests search again.
 
         >>> resolver = Resolver({})
         >>> resolver.clear()

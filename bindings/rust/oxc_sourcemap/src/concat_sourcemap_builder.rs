@@ -73,8 +73,8 @@ impl<'a> ConcatSourceMapBuilder<'a> {
         expected(self.try_add_sourcemap(&sourcemap, Position::new(line_offset, 0)))
     }
 
-    /// Adds a map whose code begins at this position; of its first line also the columns are shifted. Fails with `TooLarge` or
-    /// `OutOfMemory`; the builder is then as it was.
+    /// Adds a map whose code begins at this position; the columns of its first line are shifted, too. Fails with `TooLarge` or
+    /// `OutOfMemory`; the builder is then unchanged.
     ///
     /// ```
     /// use oxc_sourcemap::{ConcatSourceMapBuilder, Error, Position, SourceMap};

@@ -10,7 +10,7 @@ use crate::raw::expected;
 use crate::token::{Token, TokenChunk};
 use crate::{OwnedSourceMap, SourceMap, SourceMapParts};
 
-/// Builds a map call by call. It borrows the texts that it is given, and the map that is made of it has copies.
+/// Builds a map call by call. It borrows the texts that it is given; the map that it makes has copies.
 ///
 /// Add tokens in the order of their generated positions; ids are not compared with what was added.
 ///

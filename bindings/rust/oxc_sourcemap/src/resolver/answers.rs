@@ -1,4 +1,4 @@
-//! What frames come to, and what can go wrong.
+//! What frames resolve to, and what can go wrong.
 
 use std::fmt::{self, Write};
 use std::io;
@@ -91,7 +91,7 @@ impl fmt::Display for Reason {
     }
 }
 
-/// That a frame is not resolved, and why: the reason, and more in words.
+/// An unresolved frame, and why: the reason, and a detail in words.
 ///
 /// ```
 /// use oxc_sourcemap::resolver::{Frame, Options, Reason, Resolver};
@@ -117,7 +117,7 @@ impl fmt::Display for Unresolved {
 
 impl std::error::Error for Unresolved {}
 
-/// Where a frame comes from.
+/// The original position of a frame.
 #[derive(Clone, Debug, PartialEq, Eq)]
 #[non_exhaustive]
 pub struct Origin {
@@ -170,7 +170,7 @@ fn quoted(f: &mut fmt::Formatter<'_>, it: char) -> fmt::Result {
     }
 }
 
-/// What a frame comes to.
+/// What a frame resolves to.
 ///
 /// ```
 /// use std::collections::HashMap;
@@ -189,9 +189,9 @@ fn quoted(f: &mut fmt::Formatter<'_>, it: char) -> fmt::Result {
 pub struct Resolved {
     /// The frame that was asked for.
     pub frame: Frame,
-    /// Where it comes from, or why that is not known.
+    /// Its original position, or why that is not known.
     pub original: Result<Origin, Unresolved>,
-    /// The name of the map in the store, if one was looked in.
+    /// The name of the map in the store, if one was searched.
     pub map: Option<String>,
 }
 

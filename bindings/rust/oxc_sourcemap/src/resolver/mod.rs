@@ -118,7 +118,7 @@ impl Default for Limits {
     }
 }
 
-/// How a resolver finds maps, keeps them, and tells the time.
+/// How a resolver finds maps, keeps them, and reads the time.
 ///
 /// ```
 /// use oxc_sourcemap::resolver::{Cache, Options};
@@ -279,7 +279,7 @@ impl Resolver {
         self.maps.get(&key, time, || self.finder.find(key.name.as_deref(), url, key.debug_id.as_deref()))
     }
 
-    /// What a map says of a frame.
+    /// What a map has for a frame.
     fn looked_up(&self, frame: Frame, held: &Held) -> Resolved {
         let map = Some(held.name.clone());
         let is_within = |it: u64| (1..=u64::from(u32::MAX)).contains(&it);
@@ -294,7 +294,7 @@ impl Resolver {
         }
     }
 
-    /// What a frame comes to. What is known of the codes of its trace is asked once.
+    /// What a frame resolves to. What is known of the codes of its trace is asked once.
     fn resolved(&self, frame: Frame, end: Duration, known: &mut Known) -> Resolved {
         if (self.clock)() > end {
             return Resolved::not(frame, Reason::Time, format!("the trace took longer than {:?}", self.limits.time));
@@ -315,7 +315,7 @@ impl Resolver {
         }
     }
 
-    /// What a place in a code comes to.
+    /// What a place in a code resolves to.
     ///
     /// ```
     /// use oxc_sourcemap::resolver::{Frame, Options, Reason, Resolver};
@@ -331,7 +331,7 @@ impl Resolver {
 
     // ---- traces ----
 
-    /// What each frame comes to, in order. The limits of frames and of time are those of all together.
+    /// What each frame resolves to, in order. The limits of frames and of time are those of all together.
     ///
     /// ```
     /// use oxc_sourcemap::resolver::{Frame, Options, Resolver};
@@ -370,7 +370,7 @@ impl Resolver {
         Ok(())
     }
 
-    /// What each frame of a trace comes to, in order. `debug_ids` has the debug ids of codes by their URLs, as frames name them.
+    /// What each frame of a trace resolves to, in order. `debug_ids` has the debug ids of codes by their URLs, as frames name them.
     ///
     /// Fails with [`Error::TooLarge`] if the trace has more bytes than the limit.
     ///
@@ -471,7 +471,7 @@ impl Resolver {
         self.totals.told(self.maps.counts(), self.contents.counts().bytes_held)
     }
 
-    /// Lets go of all that is held: what is asked for next is looked for again.
+    /// Releases all that is held: later requests search again.
     ///
     /// ```
     /// use oxc_sourcemap::resolver::{Options, Resolver};
@@ -492,7 +492,7 @@ impl fmt::Debug for Resolver {
     }
 }
 
-/// What a map says of a position, which counts from 0.
+/// What a map has at a position, which counts from 0.
 fn origin(held: &Held, line: u32, column: u32) -> Result<Origin, Missing> {
     let name = &held.name;
     match held.map()?.trace(line, column, Bias::Before) {

@@ -324,7 +324,7 @@ static int hold(cursor *it, smap_map *map, sqlite3_value *value) {
     return SQLITE_NOMEM;
 }
 
-/* Copies the texts that were found, since the bytes that they are in are lent until xFilter returns. */
+/* Copies the found texts, since their bytes are borrowed only until xFilter returns. */
 static int copy_texts(cursor *it) {
     smap_text *source = &it->found.source, *name = &it->found.name;
     char *texts = sqlite3_realloc64(it->texts, source->len + name->len + 1);

@@ -21,10 +21,10 @@ export interface UrlAndMap {
 export interface Options {
   /** "auto" by default. It has no effect, but another word than these throws an Error. */
   environment?: "auto" | "browser" | "node";
-  /** The text of a file: before, or instead of, that of the file system. */
+  /** Returns the text of a file, before or instead of the file system. */
   retrieveFile?(path: string): string | null;
   overrideRetrieveFile?: boolean;
-  /** The map of a script: before, or instead of, the one that its comment names. */
+  /** Returns the map of a script, before or instead of the one that its comment names. */
   retrieveSourceMap?(source: string): UrlAndMap | null;
   overrideRetrieveSourceMap?: boolean;
   /** Reads the comments of modules as Node compiles them, not as in their files. */

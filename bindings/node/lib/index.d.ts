@@ -147,10 +147,10 @@ export interface RawSourceMap {
  *  the name. */
 export type Segment = [number] | [number, number, number, number] | [number, number, number, number, number];
 
-/** Mappings as a text, or decoded: a list of lines, each of segments, as the packages of npm have them. */
+/** Mappings as a text, or decoded: a list of lines, each of segments, as packages of npm have them. */
 export type Mappings = string | readonly (readonly Segment[])[];
 
-/** The value of a map, as `JSON.parse` or a bundler gives it. Other members are read as those of the text are. */
+/** The value of a map, as `JSON.parse` or a bundler gives it. Other members are read as in the JSON text. */
 export interface MapValue {
   version: number | string;
   file?: string | null | undefined;
@@ -175,7 +175,7 @@ export interface IndexedMapValue {
  */
 export type MapInput = Text | MapValue | IndexedMapValue | { toJSON(): unknown } | { readonly href: string; readonly protocol: string };
 
-/** How a map is read. */
+/** How to read a map. */
 export interface ReadOptions {
   /** Keeps the members whose names begin with `x_`, which the format does not know; otherwise they are dropped. */
   readonly keepUnknown?: boolean | undefined;
@@ -479,13 +479,13 @@ export class SourceMap {
   /** All tokens as decoded mappings, of the lines up to the last token. The tokens have to be in order of lines. */
   readonly decodedMappings: Segment[][];
   /**
-   * All tokens with their texts, as the map has them when the loop begins.
+   * All tokens with their texts, as they are when the loop begins.
    *
    * @example
    * for (const { generatedLine, source } of map) console.log(generatedLine, source);
    */
   [Symbol.iterator](): IterableIterator<Mapping>;
-  /** The same by calls. */
+  /** The same, by a callback. */
   eachMapping(callback: (mapping: Mapping) => void): void;
 
   // ---- lookups ----
@@ -706,7 +706,7 @@ export class SourceMapBuilder {
   /** Adds a name, or finds the equal one that was added before, and returns its id. Ids count from 0 in the order in which names come.
    *  Throws SourceMapError of SMAP_TOO_LARGE if no id is left. */
   addName(name: Text): number;
-  /** The same of a source by its path, with its content if it is known. A path that was added before keeps its id and its first
+  /** The same for a source by its path, with its content if it is known. A path that was added before keeps its id and its first
    *  content. */
   addSource(path: Text, content?: Text | null): number;
   /** Appends a token. Add tokens in the order of their generated positions: otherwise the map is unsorted, and writing it may fail. Ids are

@@ -212,7 +212,7 @@ export interface Native {
   valueAt(scopes: ScopesHandle, range: number, variable: number, line: number, column: number): Code;
   /** Two words for each scope: its index, and that of its range. */
   scopeChainAt(scopes: ScopesHandle, line: number, column: number, out: Uint32Array): Code;
-  /** The same of a frame. 103 past the last one, so of each where no range contains the position. */
+  /** The same for a frame. 103 past the last one, so of each where no range contains the position. */
   scopeChain(scopes: ScopesHandle, frame: number, line: number, column: number, out: Uint32Array): Code;
 
   // ---- changing ----

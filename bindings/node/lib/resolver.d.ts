@@ -44,13 +44,13 @@ export class Folder implements Store {
 
 /** Why a frame is not resolved; `detail` has more. */
 export const Reason: {
-  /** Its URL is below no base. */
+  /** No base contains its URL. */
   readonly OUTSIDE: 'outside';
-  /** A path that climbs, with a control character or a backslash, too long, or a link out of the folder; or a debug id that is none. */
+  /** A path with `..`, a control character or a backslash, one that is too long, or a link out of the folder; or an invalid debug id. */
   readonly REFUSED: 'refused';
-  /** There is neither the code nor a map of its name. */
+  /** The store has neither the code nor a map of its name. */
   readonly NOT_THERE: 'not there';
-  /** There is the code, and no map of it. */
+  /** The store has the code, but no map of it. */
   readonly NO_MAP: 'no map';
   /** The map cannot be read. */
   readonly BAD_MAP: 'bad map';

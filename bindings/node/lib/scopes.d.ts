@@ -233,8 +233,8 @@ export class Scopes {
   trace(map: SourceMap | CompiledMap, line: number, column: number, bias?: Bias): SourceFrames;
   trace(map: SourceMap | CompiledMap, position: Position & { bias?: Bias | undefined }): SourceFrames;
   /**
-   * What a debugger shows that is paused at a generated position: the frames of `trace`, each with the scopes of `scopeChain`, and so with
-   * the values of variables in it. A frame that the map alone knows has no scopes.
+   * What a debugger shows when it is paused at a generated position: the frames of `trace`, each with the scopes of `scopeChain`, and so
+   * with the values of variables in it. A frame that the map alone knows has no scopes.
    *
    * @example
    * const json = { version: 3, sources: ["a.ts"], names: ["f", "a", "x"], mappings: "AAAA", scopes: "BFAAA,DC,CJA,EGAA,GD,FU" };

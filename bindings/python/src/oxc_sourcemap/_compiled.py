@@ -187,7 +187,7 @@ class CompiledMap(Handle):
         return self._read(read)
 
     def trace_all(self, positions: Positions, bias: int = Bias.BEFORE) -> list[Optional[Original]]:
-        """The same of many positions, as `SourceMap.trace_all`.
+        """The same for many positions, as `SourceMap.trace_all`.
 
         >>> map = CompiledMap(SourceMap.from_tokens([Token(0, 4, 2, 1, 0, None)], sources=["a.ts"]).compile())
         >>> [found and found.source for found in map.trace_all([(0, 9), (7, 0)])]
@@ -450,7 +450,7 @@ def _originals(address: int, count: int) -> list[Optional[Original]]:
 
 
 def _original_of(found: _library.Original) -> Optional[Original]:
-    """The same of one, whose texts may be any bytes."""
+    """The same for one, whose texts may be any bytes."""
     if found.kind == Kind.NOTHING:
         return None
     token = token_of(found.token)

@@ -101,6 +101,6 @@ def check(code: int, fault: _library.Fault) -> None:
 
 
 def check_code(code: int) -> None:
-    """The same of a call that reports its code alone."""
+    """The same for a call that reports its code alone."""
     if code:
         raise error_of(_library.Fault(code))

@@ -41,7 +41,7 @@ class Handle:
     _held: dict[int, weakref.ref[Lease]]
     _lock: threading.RLock
     _is_changed = False
-    # How errors begin that say what it is.
+    # How errors begin that name it.
     _it_is: ClassVar[str] = "The map is"
 
     @classmethod

@@ -241,11 +241,11 @@ def listed_or_none(call: Callable[..., int], typecode: str, width: int) -> Optio
 
 
 def listed(call: Callable[..., int], typecode: str, width: int) -> array[int]:
-    """The same of a call that always gives one."""
+    """The same for a call that always gives one."""
     found = listed_or_none(call, typecode, width)
     return zeros(typecode, 0) if found is None else found
 
 
 def listed_texts(call: Callable[..., int]) -> list[Optional[str]]:
-    """The same of texts."""
+    """The same for texts."""
     return texts_of(listed(call, _WORD, 2))

@@ -57,8 +57,8 @@ class Scopes(Handle):
 
     @staticmethod
     def read(json: Text) -> Scopes:
-        """Reads the scopes of a map by its JSON text, of which nothing else is checked. A map without the member, or with null, has the
-        scopes of no source.
+        """Reads the scopes of a map by its JSON text, and checks nothing else of it. A map without the member, or with null, has the scopes
+        of no source.
 
         Raises SourceMapError of NOT_UTF8, JSON_READING (without a place), SCOPES_INDEXED, SCOPES_NOT_TEXT or BAD_SCOPES. Of the last `field` is a
         `ScopesFault`, and `detail` the byte of the member at which the item at fault begins.
@@ -326,9 +326,9 @@ class Scopes(Handle):
     def view(
         self, map: Union[SourceMap, CompiledMap], line: int, column: int, bias: int = Bias.BEFORE
     ) -> list[FrameView]:
-        """What a debugger shows that is paused at a position of the generated code: the frames of `trace`, each with the scopes of
-        `scope_chain`, and so with the values of variables in it. A frame that the map alone knows has no scopes. A `map` of another
-        type raises TypeError.
+        """What a debugger shows when it is paused at a position of the generated code: the frames of `trace`, each with the scopes of
+        `scope_chain`, and so with the values of variables in it. A frame that the map alone knows has no scopes. A `map` of another type
+        raises TypeError.
 
         >>> json = '{"version":3,"sources":["a.js"],"names":["f","a","x"],"mappings":"AAAA","scopes":"BFAAA,DC,CJA,EGAA,GD,FU"}'
         >>> for frame in Scopes.read(json).view(SourceMap.from_json(json), 0, 4):

@@ -195,7 +195,7 @@ class Folder:
         return self._inside(os.path.join(self.path, *check_name(name).split("/")), name)
 
     def place_of(self, name: str) -> str:
-        """The same of a name that is not followed itself if it is a link, but its folder is.
+        """The same for a name that is not followed itself if it is a link, but its folder is.
 
         >>> Folder("/").place_of("a.js.map")
         '/a.js.map'

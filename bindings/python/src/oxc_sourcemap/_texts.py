@@ -35,7 +35,7 @@ def written_or_none(call: Callable[..., int]) -> Optional[str]:
 
 
 def written(call: Callable[..., int]) -> str:
-    """The same of a call that always makes one."""
+    """The same for a call that always makes one."""
     return written_or_none(call) or ""
 
 

@@ -60,13 +60,13 @@ class Reason(str, Enum):
     """
 
     OUTSIDE = "outside"
-    """Its URL is below no base."""
+    """No base contains its URL."""
     REFUSED = "refused"
-    """A path that climbs, with a control character or a backslash, too long, or a link out of the folder; or a debug id that is none."""
+    """A path with `..`, a control character or a backslash, one that is too long, or a link out of the folder; or an invalid debug id."""
     NOT_THERE = "not there"
-    """There is neither the code nor a map of its name."""
+    """The store has neither the code nor a map of its name."""
     NO_MAP = "no map"
-    """There is the code, and no map of it."""
+    """The store has the code, but no map of it."""
     BAD_MAP = "bad map"
     """The map cannot be read."""
     OTHER_BUILD = "other build"
@@ -184,8 +184,8 @@ class Resolver:
     """A resolver over a store: the path of a folder, or an object with `get` (`Store`).
 
     `base` is the URL or path below which frames name what the store has, or pairs of such and a folder of the store; of several the
-    longest counts. A query or fragment of a URL does not count, and neither does the case of its host; `file:` URLs are paths. Nothing
-    is asked for over a network.
+    longest counts. A query or fragment of a URL does not count, and neither does the case of its host; `file:` URLs are paths. The resolver
+    never uses a network.
 
     A code's map is the one that its last comment `sourceMappingURL` names, in the store or as a data URL, else the one with its name
     and `.map`; with `beside_first` the latter, if it is there, and the code is not read. With a debug id it is the one of the name
@@ -321,7 +321,7 @@ class Resolver:
 
     def resolve_text(self, text: _Text, debug_ids: Mapping[str, str] = {}) -> _Text:
         """A trace with the place of each frame that is resolved replaced by the original one, SOURCE:LINE:COLUMN, which count from 1; all
-        else stays to the byte. Raises TooLargeError, as `resolve`. A trace in a JSON text has to be taken out of it before.
+        else stays to the byte. Raises TooLargeError, as `resolve`. Extract a trace from a JSON text first.
 
         >>> Resolver({}).resolve_text(b"f@app.js:1:14\\n")
         b'f@app.js:1:14\\n'

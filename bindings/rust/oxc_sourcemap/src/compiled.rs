@@ -151,7 +151,7 @@ impl<'a> CompiledMap<'a> {
         self.asked(line, column, bias).map_or(Traced::Nothing, |raw| unsafe { traced(&raw) })
     }
 
-    /// The same of many positions, in any order. Fails with `OutOfMemory`.
+    /// The same for many positions, in any order. Fails with `OutOfMemory`.
     ///
     /// ```
     /// use oxc_sourcemap::{Bias, CompiledMap, SourceMap};

@@ -38,7 +38,7 @@ pub struct SourceMap<'a> {
     pub(crate) map: Owned<sys::smap_map>,
     /// The tokens, once a call has listed them.
     tokens: OnceLock<Box<[Token]>>,
-    /// The same of the ignore list.
+    /// The same for the ignore list.
     ignore_list: OnceLock<Option<Box<[u32]>>>,
     token_chunks: Option<Vec<TokenChunk>>,
     texts: PhantomData<&'a str>,
@@ -171,7 +171,7 @@ impl<'a> SourceMap<'a> {
         Ok(map)
     }
 
-    /// The same of parts that stay, without their chunks.
+    /// The same for parts that stay, without their chunks.
     pub(crate) fn try_of_lists(parts: &SourceMapParts<'_>) -> Result<Self> {
         let map = match map_of_lists(&parts.tokens, parts) {
             Err(told) if matches!(told.0.code, sys::SMAP_BAD_SOURCE_REFERENCE | sys::SMAP_BAD_NAME_REFERENCE) => {
@@ -240,7 +240,7 @@ impl<'a> SourceMap<'a> {
         Ok(SourceMap::read(value.as_bytes())?)
     }
 
-    /// The same of bytes, with the place of a fault. Fails also with `NotUtf8`.
+    /// The same for bytes, with the place of a fault. Fails also with `NotUtf8`.
     ///
     /// ```
     /// use oxc_sourcemap::{Error, Field, SourceMap, Spot};

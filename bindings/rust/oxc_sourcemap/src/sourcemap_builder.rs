@@ -61,7 +61,7 @@ impl<'a> SourceMapBuilder<'a> {
         self.add_once(source, Some(source_content))
     }
 
-    /// The same of a source whose content is not known.
+    /// The same for a source whose content is not known.
     pub fn add_source(&mut self, source: &'a str) -> u32 {
         self.add_once(source, None)
     }

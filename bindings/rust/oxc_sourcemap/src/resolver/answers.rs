@@ -15,13 +15,13 @@ use super::names::Refused;
 #[derive(Clone, Copy, Debug, PartialEq, Eq, Hash, PartialOrd, Ord)]
 #[non_exhaustive]
 pub enum Reason {
-    /// Its URL is below no base.
+    /// No base contains its URL.
     Outside,
-    /// A path that climbs, with a control character or a backslash, too long, or a link out of the folder; or a debug id that is none.
+    /// A path with `..`, a control character or a backslash, one that is too long, or a link out of the folder; or an invalid debug id.
     Refused,
-    /// There is neither the code nor a map of its name.
+    /// The store has neither the code nor a map of its name.
     NotThere,
-    /// There is the code, and no map of it.
+    /// The store has the code, but no map of it.
     NoMap,
     /// The map cannot be read.
     BadMap,
@@ -237,7 +237,7 @@ pub fn replace_frames(text: &str, frames: &[Resolved]) -> String {
     out + &text[last..]
 }
 
-/// The same of a text that need not be UTF-8.
+/// The same for a text that need not be UTF-8.
 pub(super) fn replace_in_bytes(text: &[u8], frames: &[Resolved]) -> Vec<u8> {
     let (mut out, mut last) = (Vec::with_capacity(text.len()), 0);
     for it in frames {

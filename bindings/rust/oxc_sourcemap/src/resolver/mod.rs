@@ -185,8 +185,8 @@ type Known = HashMap<(String, Option<String>), Result<Arc<Held>, Missing>>;
 ///
 /// A code's map is the one that its last comment `sourceMappingURL` names, in the store or as a data URL, else the one with its name and
 /// `.map`. With a debug id it is the one of the name [`Options::debug_id_name`], else that of the URL, if its debug id is not another
-/// one. A query or fragment of a URL does not count, and neither does the case of its host; `file:` URLs are paths. Nothing is asked for
-/// over a network.
+/// one. A query or fragment of a URL does not count, and neither does the case of its host; `file:` URLs are paths. The resolver never uses
+/// a network.
 ///
 /// Threads share a resolver. Two that ask for one map read it once, and no thread waits for a map that it does not ask for.
 ///
@@ -344,7 +344,7 @@ impl Resolver {
         self.resolve_all(frames.into_iter().map(Ok))
     }
 
-    /// The same of frames of which some have a URL that is not UTF-8.
+    /// The same for frames of which some have a URL that is not UTF-8.
     fn resolve_all(&self, frames: impl Iterator<Item = Result<Frame, Frame>>) -> Vec<Resolved> {
         let (end, limit, mut known, mut found) = (self.end(), self.limits.frames, Known::new(), Vec::new());
         for frame in frames {
@@ -388,7 +388,7 @@ impl Resolver {
     }
 
     /// A trace with the place of each frame that is resolved replaced by the original one, `SOURCE:LINE:COLUMN`, which count from 1; all
-    /// else stays. A trace in a JSON text has to be taken out of it before.
+    /// else stays. Extract a trace from a JSON text first.
     ///
     /// Fails with [`Error::TooLarge`] if the trace has more bytes than the limit.
     ///
@@ -402,7 +402,7 @@ impl Resolver {
         Ok(replace_frames(text, &self.resolve_trace(text, &HashMap::new())?))
     }
 
-    /// The same of bytes that need not be UTF-8, which stay to the byte.
+    /// The same for bytes that need not be UTF-8, which stay to the byte.
     ///
     /// Fails with [`Error::TooLarge`] if there are more bytes than the limit.
     ///

@@ -14,7 +14,7 @@ export interface StartOfSourceMap {
   sourceRoot?: string;
   /** Takes mappings as they come, without a look at them. One that a map can not hold is refused all the same. */
   skipValidation?: boolean;
-  /** Of source-map-js: warns of a mapping that is none, and passes over it. */
+  /** Of source-map-js: warns about an invalid mapping, and skips it. */
   ignoreInvalidMapping?: boolean;
 }
 
@@ -58,7 +58,7 @@ export interface SourceFindPosition extends FindPosition {
   source: string;
 }
 
-/** A position in a source. All is null where there is none. */
+/** A position in a source. All members are null if there is none. */
 export interface MappedPosition extends Position {
   source: string;
   name?: string;

@@ -122,8 +122,8 @@ export interface Native {
 
   // ---- threads ----
 
-  /** The number by which `takeShared` of another thread finds the map, for as long as any handle of it is there. From now on the map
-   *  takes no change: calls that change it answer SHARED. `words[0]` is the number. A WebAssembly module answers NO_THREADS. */
+  /** The number by which `takeShared` of another thread finds the map, for as long as any handle of it exists. From now on the map takes no
+   *  change: calls that change it answer SHARED. `words[0]` is the number. A WebAssembly module answers NO_THREADS. */
   share(map: MapHandle): Code;
   /** A handle of a map that was shared, or 103 if there is none of this number any more. */
   takeShared(number: number): MapHandle | Code;

@@ -40,7 +40,7 @@ export interface CallSite {
 }
 
 /** A scope of a source: a function, a block, a class or the like, from `start` up to but not including `end`. `name` and `kind` are the
- *  texts of their ids among the names of the map. What is not there is null, and so are texts that are not known. */
+ *  texts of their ids among the names of the map. Missing values are null, and so are unknown texts. */
 export interface OriginalScope {
   readonly index: number;
   readonly sourceId: number;
@@ -57,7 +57,7 @@ export interface OriginalScope {
   readonly parent: number | null;
 }
 
-/** A range of the generated code, from `start` up to but not including `end`. What is not there is null. */
+/** A range of the generated code, from `start` up to but not including `end`. Missing values are null. */
 export interface GeneratedRange {
   readonly index: number;
   readonly start: Readonly<Position>;
@@ -66,7 +66,7 @@ export interface GeneratedRange {
   readonly definition: number | null;
   /** Whether a call of it makes a frame of the stack. */
   readonly isStackFrame: boolean;
-  /** Whether the source has no frame for it, as where a helper was made. */
+  /** Whether the source has no frame for it, as for a generated helper. */
   readonly isHidden: boolean;
   /** Where it was called, if it is the body of a function that was inlined. */
   readonly call: CallSite | null;
@@ -87,7 +87,7 @@ export interface ScopeFrame {
 /** The frames of the source that a frame of a stack trace stands for, from the inside out. */
 export interface ScopeFrames {
   readonly frames: readonly ScopeFrame[];
-  /** Whether the source has no such frame, as where a helper was made: a stack trace leaves it out. */
+  /** Whether the source has no such frame, as for a generated helper: a stack trace omits it. */
   readonly isHidden: boolean;
 }
 
@@ -174,11 +174,11 @@ export type ScopesValue = { readonly names?: readonly string[] | null | undefine
 export class Scopes {
   private constructor(made: never);
   /**
-   * Reads the scopes of a map from what `new SourceMap` takes, but for a SourceMap, which keeps none: that is a TypeError. Nothing else of
+   * Reads the scopes of a map from what `new SourceMap` takes, except a SourceMap, which keeps none: that is a TypeError. Nothing else of
    * the map is checked: a value with `version` or `scopes` needs no mappings. One without the member `scopes`, or with null, has the scopes
-   * of no source. Throws SourceMapError of SMAP_NOT_UTF8, SMAP_JSON_READING (without a place), SMAP_SCOPES_INDEXED, SMAP_SCOPES_NOT_TEXT
-   * or SMAP_BAD_SCOPES. Of an indexed map read the map of each section, whose ranges count from the section's offset. A byte order mark is
-   * not mended.
+   * of no source. Throws SourceMapError of SMAP_NOT_UTF8, SMAP_JSON_READING (without a place), SMAP_SCOPES_INDEXED, SMAP_SCOPES_NOT_TEXT or
+   * SMAP_BAD_SCOPES. Of an indexed map read the map of each section, whose ranges count from the section's offset. A byte order mark is not
+   * mended.
    *
    * Of a value the text of the scopes alone is looked at. Over WebAssembly the scopes of a large JSON text take as much memory as that,
    * until they are freed.

@@ -312,8 +312,8 @@ class Call(NamedTuple):
 
 class Range(NamedTuple):
     """A range of the generated code, from `start` up to but not including `end`, and the index of the scope that it is the code of. If
-    a function was inlined here, `call` is where it was called. What is hidden has no frame in the source, as a helper. `parent` is the
-    index of the innermost range around it."""
+    a function was inlined here, `call` is where it was called. A hidden range, such as a helper, has no frame in the source. `parent` is
+    the index of the innermost range around it."""
 
     start: Position
     end: Position

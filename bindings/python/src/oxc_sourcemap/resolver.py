@@ -259,7 +259,7 @@ class Resolver:
         return Resolved(frame, source, found.line, found.column, found.name, None, "", held.name, found.token.source_id, debug_id)
 
     def _resolved(self, frame: Frame, debug_id: Optional[str], end: float, known: _Known) -> Resolved:
-        """What a frame comes to. What is known of the codes of its trace is asked once."""
+        """What a frame resolves to. What is known of the codes of its trace is asked once."""
         if self._clock() > end:
             return Resolved(frame, reason=Reason.TIME)
         found = known.get(frame.url)
@@ -333,7 +333,7 @@ class Resolver:
 
     def context(self, found: Resolved, lines: int = 3) -> Optional[Context]:
         """The line of a resolved frame in its source, with up to so many lines before and behind it; None if the frame is not resolved, or
-        the map has no content of the source or no such line, or has changed. Raises ValueError of a number below 0.
+        the map has no content of the source or no such line, or has changed. Raises ValueError for a number below 0.
 
         >>> import json
         >>> map = {"version": 3, "sources": ["a.ts"], "sourcesContent": ["let a\\nf()\\n"], "names": [], "mappings": "AAAA,aACE"}

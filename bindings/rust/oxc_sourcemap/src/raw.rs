@@ -172,7 +172,7 @@ pub(crate) unsafe fn lent_if<'t>(call: impl FnOnce(*mut smap_text) -> u32) -> Op
     (call(&mut text) == sys::SMAP_OK).then(|| unsafe { lent(text) })
 }
 
-/// The value of a call whose caller wants no `Result`. Want of memory ends the process, as it does for Rust's own collections.
+/// The value of a call whose caller wants no `Result`. Lack of memory ends the process, as it does for Rust's own collections.
 #[track_caller]
 pub(crate) fn expected<T>(result: Result<T>) -> T {
     match result {

@@ -75,7 +75,7 @@ impl<'a> SourceMapBuilder<'a> {
         })
     }
 
-    /// Adds a source with its content, be there one of this path or not, and returns its id.
+    /// Adds a source with its content, even if there is one of this path, and returns its id.
     pub fn set_source_and_content(&mut self, source: &'a str, source_content: &'a str) -> u32 {
         let id = next_id(&self.sources);
         self.sources.push(source);

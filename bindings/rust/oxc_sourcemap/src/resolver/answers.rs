@@ -270,9 +270,9 @@ pub enum Error {
     TooLarge { length: usize, limit: usize },
     /// A base is a URL or path that is refused.
     Base(Refused),
-    /// Compiled maps can be written beside the maps of a folder alone.
+    /// Compiled maps can be written only beside the maps of a folder.
     NoFolder,
-    /// The folder for compiled maps is not there, and cannot be made.
+    /// The folder for compiled maps does not exist, and cannot be made.
     Cache(io::Error),
 }
 

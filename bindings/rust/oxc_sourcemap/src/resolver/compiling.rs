@@ -58,7 +58,7 @@ impl Held {
         Ok(Held { name: name.to_string(), debug_id, stamp, bytes, text_length, root, sources: Mutex::default() })
     }
 
-    /// The map, which is opened in constant time. Fails for want of memory alone.
+    /// The map, which is opened in constant time. Fails only for lack of memory.
     pub fn map(&self) -> Result<CompiledMap<'_>, Missing> {
         CompiledMap::open(&self.bytes).map_err(|it| Missing::failed(&it))
     }

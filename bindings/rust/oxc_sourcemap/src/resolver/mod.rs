@@ -93,9 +93,9 @@ pub struct Limits {
     pub held_bytes: u64,
     /// Compiled maps that are held: 256. Up to 64 more are in use for each trace that is resolved.
     pub held_maps: usize,
-    /// Codes of which it is held that they have no map: 4096.
+    /// Codes that are known to have no map: 4096.
     pub held_missing: usize,
-    /// Time after which what is held, also that there is no map, is looked for again: 60 seconds.
+    /// Time after which held maps, and held results that there is no map, are searched again: 60 seconds.
     pub held_time: Duration,
     /// Bytes of contents that are held, with their lines: 32 MiB.
     pub held_context_bytes: u64,
@@ -131,7 +131,7 @@ pub struct Options {
     pub cache: Cache,
     /// What is taken and held.
     pub limits: Limits,
-    /// Whether the map with the name of a code and `.map` is taken, if it is there, without reading the code for its comment.
+    /// Whether the map with the name of a code and `.map` is taken, if it exists, without reading the code for its comment.
     pub beside_first: bool,
     /// The name of the map of a debug id, in which `{}` stands for the id in lower case.
     pub debug_id_name: String,

@@ -419,7 +419,7 @@ static void compile(const smap_map *map, const smap_counts *counts, uint32_t is_
     smap_free_string(string);
 }
 
-/* The same of a map that was changed or built, whose ids may be out of range. */
+/* The same for a map that was changed or built, whose ids may be out of range. */
 static void compile_sorted(const smap_map *map) {
     smap_counts counts;
     MUST(smap_get_counts(map, &counts) == SMAP_OK);

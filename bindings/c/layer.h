@@ -10,7 +10,7 @@
 /* What a proved call changes or frees, and what it reads: the address of a copy of the pointer, which is that call's alone. */
 #define HANDLE(at) (&(proved_handle){ at })
 #define LENT(at) (&(proved_lent){ at })
-/* What a call reads that lends texts, by value. */
+/* What a call reads that returns borrowed texts, by value. */
 #define LOAN(at) ((proved_lent){ at })
 
 #endif

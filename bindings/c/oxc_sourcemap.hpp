@@ -3,11 +3,11 @@
  *     auto map = oxc_sourcemap::SourceMap::from_json(json);
  *     if (auto found = map.trace(0, 3); found && found->source) std::cout << *found->source << ':' << found->token.src_line + 1 << '\n';
  *
- * oxc_sourcemap.h says what each call does and when it fails; here an error is thrown as an Error, and what has no entry is nullopt. Each
- * object owns one handle, is moved and not copied, and frees it. A text that an object lends (std::string_view) is valid until the map
- * that it owns is changed or freed: it stays where it is if the object is moved. Any number of threads may call what is const of one
- * object. An object that was moved from has no handle, as one that is made of nothing: its calls throw SMAP_NULL_HANDLE. Lines, columns,
- * ids and indices count from 0; columns are in UTF-16 code units. */
+ * oxc_sourcemap.h describes what each call does and when it fails. Here an error is thrown as an Error, and what has no entry is nullopt.
+ * Each object owns one handle, is moved and not copied, and frees it. A text that a call returns (std::string_view) is borrowed from the
+ * object: it is valid until the map that the object owns is changed or freed, and stays in place if the object is moved. Any number of
+ * threads may call const members of one object. An object that was moved from has no handle, as one that is constructed without one: its
+ * calls throw SMAP_NULL_HANDLE. Lines, columns, ids and indices count from 0; columns are in UTF-16 code units. */
 #ifndef OXC_SOURCEMAP_HPP
 #define OXC_SOURCEMAP_HPP
 
@@ -27,7 +27,7 @@
 #include <utility>
 #include <vector>
 
-/* What a member lends ends with its object, which some compilers look after. */
+/* What a member returns is borrowed from its object; some compilers check that. */
 #if defined(__has_cpp_attribute)
 #if __has_cpp_attribute(clang::lifetimebound)
 #define SMAP_LENT [[clang::lifetimebound]]
@@ -58,7 +58,7 @@ enum class Language : std::uint32_t { JavaScript = SMAP_JAVASCRIPT, Css = SMAP_C
 
 namespace detail {
 
-/* What a call that is given room for `out_len` characters writes. */
+/* The text that a call writes into room for `out_len` characters. */
 template <class Call> std::string written(Call call) {
     std::string out(call(nullptr, std::size_t{0}), '\0');
     out.resize(std::min(out.size(), call(out.data(), out.size())));
@@ -70,7 +70,7 @@ inline std::string_view view(const smap_text &text) { return {text.len ? text.at
 inline smap_text lent(std::string_view text) { return {text.data(), text.size()}; }
 inline smap_text lent(const std::string &text) { return {text.data(), text.size()}; }
 
-/* A text that is known even if it is empty, and one that may not be known. */
+/* A text that is known even if it is empty, and one that may be unknown. */
 inline smap_text lent(const std::optional<std::string_view> &text) {
     if (!text) return {nullptr, 0};
     return {text->data() ? text->data() : "", text->size()};
@@ -93,8 +93,8 @@ template <class Handle, auto FREE> using Owner = std::unique_ptr<Handle, Frees<F
 
 } // namespace detail
 
-/* An error of the library: its code (SMAP_..), message and place in the input. (Want of memory is std::bad_alloc. Where there is too
- * little for the message, that is the name of the code.) */
+/* An error of the library: its code (SMAP_..), message and place in the input. (SMAP_OUT_OF_MEMORY is std::bad_alloc. Where memory is too
+ * short for the message, the message is the name of the code.) */
 class Error : public std::runtime_error {
   public:
     explicit Error(const smap_fault &fault)
@@ -105,14 +105,14 @@ class Error : public std::runtime_error {
     std::uint64_t detail() const noexcept { return fault_.detail; }
     const smap_fault &fault() const noexcept { return fault_; }
 
-    /* Where the fault is, as `line 0, segment 3 (byte 12)`; empty where no place is told. */
+    /* Where the fault is, as `line 0, segment 3 (byte 12)`; empty if there is no place. */
     std::string place() const {
         auto words = detail::written([&](char *out, std::size_t len) { return smap_place_message(&fault_, out, len); });
         if (words.empty() && fault_.place.kind != SMAP_PLACE_NONE) throw std::bad_alloc();
         return words;
     }
 
-    /* What is really wrong there, in the text that was refused; empty where the message tells. */
+    /* The actual cause there, in the text that was refused; empty where the message is exact. */
     std::string reason(std::string_view text) const {
         return detail::written(
             [&](char *out, std::size_t len) { return smap_reason_message(text.data(), text.size(), &fault_, out, len); });
@@ -245,7 +245,7 @@ inline std::vector<std::optional<Original>> originals(const std::vector<smap_ori
 
 class SourceMap;
 
-/* A map in a join, which has to stay until then, and where its code begins there. */
+/* A map in a join, which has to live until then, and where its code begins there. */
 struct JoinPart {
     JoinPart(const SourceMap &part, Position begin) noexcept : map(&part), at(begin) {}
     JoinPart(const SourceMap &&, Position) = delete;
@@ -254,7 +254,7 @@ struct JoinPart {
     Position at;
 };
 
-/* The map of the source with this path. Both have to stay until they are remapped through. */
+/* The map of the source with this path. Both have to live until the call of `remap`. */
 struct RemapInput {
     RemapInput(std::string_view source, const SourceMap &input) noexcept : path(source), map(&input) {}
     RemapInput(std::string_view, const SourceMap &&) = delete;
@@ -271,7 +271,7 @@ class SourceMap {
     SourceMap() noexcept = default;
     explicit SourceMap(smap_map *handle) noexcept : own_(handle) {}
 
-    /* The handle, for calls of oxc_sourcemap.h; and taken away, to be freed by the caller. */
+    /* The handle, for calls of oxc_sourcemap.h; `release` passes it to the caller, who frees it. */
     const smap_map *get() const noexcept { return own_.get(); }
     smap_map *get() noexcept { return own_.get(); }
     smap_map *release() noexcept { return own_.release(); }
@@ -420,7 +420,7 @@ class SourceMap {
     void set_ignore_list(const std::vector<std::uint32_t> &ids) {
         change([&](smap_fault *fault) { return smap_set_ignore_list(get(), ids.data(), ids.size(), fault); });
     }
-    /* Of any list with a size of std::string_view or std::string; contents also of those that may not be known. */
+    /* Take any list with a size of std::string_view or std::string; contents also of those that may be unknown. */
     template <class Texts = std::vector<std::string_view>> void set_sources(const Texts &sources) {
         auto lent = detail::all_lent(sources);
         change([&](smap_fault *fault) { return smap_set_sources(get(), lent.data(), lent.size(), fault); });
@@ -485,7 +485,7 @@ class SourceMap {
     detail::Owner<smap_map, smap_free_map> own_;
 };
 
-/* A map as it was found, and what was mended, in the order in which it was looked at. */
+/* A map as it was found, and what was mended, in the order in which the parts were checked. */
 struct Found {
     SourceMap map;
     std::vector<Mend> mends;
@@ -531,7 +531,7 @@ class SourceMapBuilder {
         detail::called([&](smap_fault *fault) { return smap_builder_set_file(own_.get(), file.data(), file.size(), fault); });
     }
 
-    /* The map that was built. The builder is then as a new one. */
+    /* The map that was built. The builder is then empty, like a new one. */
     [[nodiscard]] SourceMap finish() {
         return detail::made<SourceMap, smap_map>([&](smap_map **out, smap_fault *fault) { return smap_builder_finish(own_.get(), out, fault); });
     }
@@ -546,7 +546,7 @@ class SourceMapBuilder {
     detail::Owner<smap_builder, smap_free_builder> own_;
 };
 
-/* Joins maps one by one, which need not stay. */
+/* Joins maps one by one, which need not live on. */
 class SourceMapJoin {
   public:
     SourceMapJoin() : SourceMapJoin(detail::made<SourceMapJoin, smap_join>(smap_join_new)) {}
@@ -557,7 +557,7 @@ class SourceMapJoin {
         detail::called([&](smap_fault *fault) { return smap_join_add(own_.get(), map.get(), at.line, at.column, fault); });
     }
 
-    /* The joined map. The join is then as a new one. */
+    /* The joined map. The join is then empty, like a new one. */
     [[nodiscard]] SourceMap finish() {
         return detail::made<SourceMap, smap_map>([&](smap_map **out, smap_fault *fault) { return smap_join_finish(own_.get(), out, fault); });
     }
@@ -566,7 +566,7 @@ class SourceMapJoin {
     detail::Owner<smap_join, smap_free_join> own_;
 };
 
-/* A compiled map, opened in bytes that stay where they are, and unchanged, as long as it is there. */
+/* A compiled map, opened in bytes that have to stay where they are, unchanged, as long as it lives. */
 class CompiledMap {
   public:
     CompiledMap() noexcept = default;
@@ -637,7 +637,7 @@ class CompiledMap {
     detail::Owner<smap_compiled, smap_free_compiled> own_;
 };
 
-/* A compiled map in a file, which the system maps into memory. Files are replaced by renaming new ones over them. */
+/* A compiled map in a file, which the system maps into memory. Replace files by renaming new ones over them. */
 class CompiledFile {
   public:
     explicit CompiledFile(const std::string &path) : CompiledFile(mapped(path)) {}
@@ -675,8 +675,8 @@ struct Frames {
     bool is_hidden;
 };
 
-/* The scopes of a map, which have the functions of its sources, what was inlined where, and the values of variables. What is not there
- * is SMAP_NO_ID.
+/* The scopes of a map, which have the functions of its sources, what was inlined where, and the values of variables. A missing id is
+ * SMAP_NO_ID.
  *
  *     auto scopes = oxc_sourcemap::Scopes::read(json);
  *     for (const auto &frame : scopes.frames_at(0, 25).frames) std::cout << map.name(frame.name).value_or("anonymous") << '\n';
@@ -719,7 +719,8 @@ class Scopes {
         return detail::entry<std::uint32_t>([&](std::uint32_t *out) { return smap_range_at(get(), line, column, out); });
     }
 
-    /* The frames at a position of the generated code: none where no range contains it. The first is where the map's `trace` leads. */
+    /* The frames at a position of the generated code: none where no range contains it. The first is at the position that the map's `trace`
+     * returns. */
     Frames frames_at(std::uint32_t line, std::uint32_t column) const {
         std::uint32_t is_hidden = 0;
         auto frames = detail::list<Frame>([&](Frame *out, std::size_t len, std::size_t *count) {

@@ -9,7 +9,7 @@
 /* Stands for a text that is not known, or not there. */
 #define NOT_TOLD UINT32_MAX
 
-/* Where calls put what they answer. */
+/* Where calls put their results. */
 static struct answers {
     smap_fault fault;
     uint32_t words[16];
@@ -83,7 +83,7 @@ typedef struct opened {
 /* Where loader/compiled.js puts the bytes. */
 _Static_assert(sizeof(opened) == 16, "opened");
 
-/* The code of a call that tells no more of its fault. */
+/* The code of a call that reports no more of its fault. */
 static uint32_t told(uint32_t code) {
     static const smap_fault none;
     if (code == SMAP_OK) return code;

@@ -1,5 +1,5 @@
 /* What the compiler calls where it compiles for WebAssembly: numbers of 128 bits of two of 64, comparisons of memory, and the length of a
- * text. test/compiler_test.c compares each with what the compiler of the machine says. */
+ * text. test/compiler_test.c compares each with the results of the machine's compiler. */
 #include <stddef.h>
 #include <stdint.h>
 #include <string.h>

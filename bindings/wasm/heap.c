@@ -1,8 +1,8 @@
 /* The heap of the WebAssembly module: malloc, calloc, realloc and free over one region, which begins where the module's own data ends
  * and grows with the memory. Nothing proves this file; test/heap_test.c tries it.
  *
- * The region is a row of blocks without gaps. Each has a header of 16 bytes: its size, a multiple of 16, whose lowest bit says that the
- * block is free, and the size of the block before. No two free blocks are neighbours. Free blocks are listed by size, in two levels:
+ * The region is a row of blocks without gaps. Each has a header of 16 bytes: its size, a multiple of 16, whose lowest bit marks the
+ * block as free, and the size of the block before. No two free blocks are neighbours. Free blocks are listed by size, in two levels:
  * a power of two, and the eighth of it. A bit for each list that has a block finds one in a few steps. There is one thread. */
 #include <stddef.h>
 #include <stdint.h>
@@ -116,7 +116,7 @@ static block *take_free(size_t size) {
 static block *after(const block *b) { return b == last ? NULL : (block *)((char *)b + size_of(b)); }
 static block *before(const block *b) { return b == first ? NULL : (block *)((char *)b - b->before); }
 
-/* Gives a block that is in use its size, and tells the next one. */
+/* Gives a block that is in use its size, and informs the next one. */
 static void set_size(block *b, size_t size) {
     b->tag = size;
     if (b != last) after(b)->before = size;

@@ -1,8 +1,8 @@
 #!/usr/bin/env python3
 """tools/build/make_program.py NAME KIND   makes the program NAME of crates/ for tools/build/program, and prints its path.
 
-`unproved` compiles it in little time, not for speed; `proved` has it and the libraries below it proved first. Either is told on standard
-error as it begins. Where another run makes it, that is waited for. NAME.sources beside the program has the checksum of its sources, and
+`unproved` compiles it in little time, not for speed; `proved` has it and the libraries below it proved first. Standard error
+reports either as it begins. Where another run makes it, this one waits for that. NAME.sources beside the program has the checksum of its sources, and
 the time from which on a file that changes is none of them. Interrupted, it ends what it began, and leaves nothing behind.
 """
 
@@ -81,7 +81,7 @@ def made(name, kind, room):
 
 
 def put(program, out, sources, began, room):
-    """Puts the program in its place, and then what tells of its sources."""
+    """Puts the program in its place, and then the record of its sources."""
     stamp = room / "sources"
     stamp.write_text(sources)
     os.utime(stamp, ns=(began, began))

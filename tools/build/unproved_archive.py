@@ -3,7 +3,7 @@
 a proof; and, with each SANITIZER (address, thread), into another archive, for programs that are linked with that sanitizer. FILE gets
 the text of the module of LLVM that is compiled, for other processors.
 
-For people at work: half a minute in place of half an hour, and nothing is proved. `rattle build` makes a static library of proved
+For people at work: half a minute instead of half an hour, and nothing is proved. `rattle build` makes a static library of proved
 crates alone. What `rt try` runs needs no proof, but is a program: so this makes one that calls each export behind a condition
 that is false, keeps the module of LLVM that the toolchain makes of it, and compiles its exports under their own names.
 """

@@ -1,7 +1,7 @@
 #!/usr/bin/env python3
 """tools/build/unproved_program.py CRATE PROGRAM   compiles a program of crates/ and the crates below it without a proof.
 
-For the first run of a program (tools/build/program), and for people at work: minutes in place of half an hour, and nothing is proved.
+For the first run of a program (tools/build/program), and for people at work: minutes instead of half an hour, and nothing is proved.
 `rattle build` builds proved crates alone. What `rt try` runs needs no proof, but is watched for misused memory, and is gone afterwards:
 so this keeps the module of LLVM that the toolchain makes for it, and compiles that about as `rattle build` does. LEVEL in the
 environment is how far it is optimized: -O2 if it is not set; -O0 takes half of the time.

@@ -1,5 +1,5 @@
 // Refuses requests for memory of the tests, which are linked with it (./check tests): it stands between them and the allocator
-// of C. tests/refusals/memory.rs says what these functions do.
+// of C. tests/refusals/memory.rs describes these functions.
 //
 // The tests are watched by AddressSanitizer, whose allocator is there under names of its own.
 #include <errno.h>

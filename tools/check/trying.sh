@@ -5,7 +5,7 @@ failed=0
 room=$(mktemp -d)
 trap 'rm -rf "$room"' EXIT
 
-# try NAME WORD..: runs a command, and shows what it said where it fails.
+# try NAME WORD..: runs a command, and shows its output where it fails.
 try() {
     name=$1
     shift
@@ -19,7 +19,7 @@ try() {
     fi
 }
 
-# needs WHAT PROGRAM: whether a program is there. One that is missing is told, and fails under CI=true.
+# needs WHAT PROGRAM: whether a program is there. A missing one is reported, and fails under CI=true.
 needs() {
     command -v "$2" > /dev/null && return 0
     echo "$1: passed over, there is no $2"

@@ -17,7 +17,7 @@ WHAT = """\
  composes and remaps them, and is proved to keep each position.
  .
 """
-# Of each package its section, its first line, and what the last paragraph says.
+# Of each package its section, its first line, and its last paragraph.
 TEXTS = {
     PROGRAMS: (
         "devel",

@@ -16,7 +16,7 @@ MADE = shutil.ignore_patterns("target", "node_modules", "prebuilds", "__pycache_
 
 
 def copied(folder, room, version):
-    """A copy of a folder of bindings/, whose manifests tell this version."""
+    """A copy of a folder of bindings/, whose manifests have this version."""
     copy = Path(room, folder)
     shutil.copytree(TOP / "bindings" / folder, copy, ignore=MADE)
     manifests = [it for name in ("Cargo.toml", "package.json", "__init__.py") for it in copy.rglob(name)]

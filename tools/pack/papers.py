@@ -1,4 +1,4 @@
-"""What is said of the archives: PROVED.txt, the list of materials (SPDX), and SHA256SUMS."""
+"""The papers about the archives: PROVED.txt, the list of materials (SPDX), and SHA256SUMS."""
 
 import hashlib
 import json
@@ -21,7 +21,7 @@ This was packed by ./check itself, before it had ended, to try the archives. It 
 
 
 def tools():
-    """The first line of what each tool of the build says of itself."""
+    """The first line of the version text of each tool of the build."""
     for name in ("cc", "ld", "aarch64-linux-gnu-gcc", "wat2wasm", "wasm-opt", "node", "npm", "cargo", "python3"):
         try:
             yield f"{name}: {run(name, '--version').splitlines()[0]}"

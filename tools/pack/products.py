@@ -24,7 +24,7 @@ PROCESSORS = {
 
 
 def run(*words, **more):
-    """What a program prints. One that fails ends the run, with what it said."""
+    """What a program prints. One that fails ends the run, with its error text."""
     ran = subprocess.run([*map(str, words)], capture_output=True, text=True, **more)
     if ran.returncode:
         sys.exit(f"package: {' '.join(map(str, words))}\n{ran.stdout}{ran.stderr}")

@@ -66,7 +66,7 @@ def text(content, mode=0o644):
 
 
 def usage():
-    """What `smap --help` says, as ./smap of the repository has it, for the program where it is installed."""
+    """The text of `smap --help`, as ./smap of the repository has it, for the installed program."""
     return re.search(r"cat <<'TEXT'\n(.*?)^TEXT\n", (TOP / "smap").read_text(), re.S | re.M)[1].replace("./s", "s")
 
 
@@ -116,7 +116,7 @@ def escaped(words):
 
 
 def smap_page():
-    """The page of the manual of smap: what its help says."""
+    """The page of the manual of smap: the text of its help."""
     return (
         f'.TH SMAP 1 "" "junketscarp {VERSION}" "User Commands"\n.SH NAME\nsmap \\- read, write, look up, join and remap source maps at a shell\n'
         f".SH SYNOPSIS\n.B smap\n[\\-\\-where] COMMAND < INPUT\n.SH DESCRIPTION\n.nf\n{escaped(usage().partition(chr(10))[2])}\n.fi\n"

@@ -1,19 +1,18 @@
 /* A loadable extension of SQLite: source maps in queries. A map is TEXT, the JSON of a source map, or a BLOB, a compiled map.
  *
- *   smap_trace(map, line, column)        where a position of the generated code comes from, as JSON:
- *                                        {"source":..,"line":..,"column":..,"name":..}; NULL where the map has no source for it
+ *   smap_trace(map, line, column) the original position of a generated one, as JSON: {"source":..,"line":..,"column":..,"name":..}; NULL
+ *                                        where the map has no source for it
  *   smap_trace_at(map, line, column)     the same as a table: one row of source, line, column, name, source_id, or none
- *   smap_compile(map)                    the compiled map, a BLOB; of one that is compiled, itself
- *   smap_source_content(map, source_id)  the content of a source, TEXT; NULL if the map does not have it
- *   smap_fault(map)                      why a map cannot be read, TEXT, with the place; NULL if it can be read
+ *   smap_compile(map) the compiled map, a BLOB; a compiled map itself, unchanged smap_source_content(map, source_id) the content of a
+ *   source, TEXT; NULL if the map does not have it smap_fault(map) why a map cannot be read, TEXT, with the place; NULL if it can be read
  *
  * Numbers count from 0, columns in UTF-16 units. Sources are as the map lists them, without the source root. JSON is read as
- * smap_read_found reads it, and what that mends is not told. With an argument that is NULL the answer is NULL, or no row. All else that is
- * no map, and no INTEGER from 0 to 4294967295, is an error of the statement, in the words of the library, with its place; lack of memory
+ * smap_read_found reads it, and what that mends is not reported. With a NULL argument the result is NULL, or no row. Anything else that is
+ * no map, and no INTEGER from 0 to 4294967295, is an error of the statement, with the message of the library and its place; lack of memory
  * is one of smap_fault too.
  *
- * smap_trace and smap_source_content read JSON once in a statement if it is a literal or a parameter, and else in each row; smap_trace_at
- * reads it once for rows with the same JSON that follow each other in a join. Compiled maps are looked up where SQLite holds them; but
+ * smap_trace and smap_source_content read JSON once in a statement if it is a literal or a parameter, and otherwise in each row.
+ * smap_trace_at reads it once for consecutive rows of a join with the same JSON. Compiled maps are searched where SQLite holds them. But
  * SQLite itself copies a map that is larger than a page for each row, if it is no literal and no parameter, also out of a subquery.
  *
  * Build the library first (./build c), then the extension:
@@ -42,7 +41,7 @@ static int failed_with(char *made, char **words) {
     return made ? SQLITE_ERROR : SQLITE_NOMEM;
 }
 
-/* What the library says of a fault, and of its place. The text is the one that it refused, if it was one. */
+/* The library's message of a fault, with its place. The text is the one that it refused, if it was one. */
 static int refused(const char *text, size_t len, const smap_fault *fault, char **words) {
     char place[256], message[256];
     size_t place_len = smap_place_message(fault, place, sizeof place);
@@ -325,7 +324,7 @@ static int hold(cursor *it, smap_map *map, sqlite3_value *value) {
     return SQLITE_NOMEM;
 }
 
-/* Copies the texts that were found, since the bytes that they are in are lent until xFilter returns. */
+/* Copies the found texts, since their bytes are borrowed only until xFilter returns. */
 static int copy_texts(cursor *it) {
     smap_text *source = &it->found.source, *name = &it->found.name;
     char *texts = sqlite3_realloc64(it->texts, source->len + name->len + 1);

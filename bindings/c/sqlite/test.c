@@ -396,7 +396,7 @@ static sqlite3 *opened(void) {
     return db;
 }
 
-/* The same of opening a database, which loads the extension. */
+/* The same for opening a database, which loads the extension. */
 static void refuses_to_open(void) {
     sqlite3 *db;
     int status;

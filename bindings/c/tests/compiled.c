@@ -399,7 +399,7 @@ static int finds_within(const smap_compiled *compiled, const char *bytes, size_t
     return is_so;
 }
 
-/* The same of all other calls, and of the map that comes back. */
+/* The same for all other calls, and for the map that comes back. */
 static int answers_within(const smap_compiled *compiled, const char *bytes, size_t len) {
     smap_compiled_counts counts;
     smap_token token;

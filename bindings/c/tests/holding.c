@@ -122,7 +122,7 @@ static void long_lists_known(size_t len) {
     smap_free_map(map);
 }
 
-/* The same of maps: each has one token. */
+/* The same for maps: each has one token. */
 static void long_lists_of_maps(size_t len) {
     smap_map *one = read_map(B), *map;
     const smap_map *maps[18];

@@ -72,7 +72,7 @@ static void null_readers(void) {
     smap_free_file(NULL);
 }
 
-/* The same of calls with a fault. */
+/* The same for calls with a fault. */
 static void null_handles(void) {
     smap_map *map = read_map(B), *out = (smap_map *)&failed;
     smap_string *string = (smap_string *)&failed;

@@ -39,7 +39,7 @@ smap_map *read_map(const char *json);
 /* Whether this is the text of a string, which is freed. */
 int is_string(smap_string *string, const char *wanted);
 int writes(const smap_map *map, const char *wanted);
-/* The same of a map that is freed. */
+/* The same for a map that is freed. */
 int made(smap_map *map, const char *wanted);
 /* A fault at a place by its numbers. */
 smap_fault placed(uint32_t kind, uint32_t field, uint64_t text, uint64_t section, uint64_t line, uint64_t column,

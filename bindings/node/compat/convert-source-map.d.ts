@@ -19,7 +19,7 @@ export interface Converter {
 }
 
 export declare function fromObject(value: object): Converter;
-/** This and the next ones throw a SyntaxError of what is no JSON. */
+/** This and the next ones throw a SyntaxError for a text that is not JSON. */
 export declare function fromJSON(json: string): Converter;
 export declare function fromURI(uri: string): Converter;
 export declare function fromBase64(base64: string): Converter;

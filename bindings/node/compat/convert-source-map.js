@@ -103,7 +103,7 @@ function fromSource(content) {
   return found === undefined ? null : fromComment(found.trim());
 }
 
-/** The same of one that names a file. */
+/** The same for one that names a file. */
 function fromMapFileSource(content, read) {
   const found = last(content, FILE);
   return found === undefined ? null : fromMapFileComment(found, read);

@@ -1,8 +1,8 @@
 /**
  * The API of @jridgewell/gen-mapping 0.3. Lines count from 1 in mappings, and from 0 in segments; columns count from 0.
  *
- * A line or a column that is no integer from 0 (lines of mappings: 1) to 4294967295 is a RangeError, which tells what was given, and the
- * map stays as it was.
+ * A line or a column that is no integer from 0 (lines of mappings: 1) to 4294967295 is a RangeError, which names the value, and the map
+ * stays unchanged.
  */
 
 import type { SourceMapInput } from "./trace-mapping.js";
@@ -17,7 +17,7 @@ export type Mapping =
   | { generated: Pos; source: string; original: Pos; name: string }
   | { generated: Pos; source: string; original: Pos; name: undefined };
 
-/** What is added: a generated position, and what it comes from. The content counts when the source comes for the first time. */
+/** What is added: a generated position, and what it comes from. Only the content that comes with a source for the first time counts. */
 export type NewMapping =
   | { generated: Pos; source?: null; original?: null; name?: null; content?: null }
   | { generated: Pos; source: string; original: Pos; name?: string | null; content?: string | null };
@@ -61,14 +61,14 @@ export declare function addSegment(
 /** Adds a mapping, lines from 1. It may come before mappings that are there. */
 export declare function addMapping(map: GenMapping, mapping: NewMapping): void;
 
-/** The same, unless the mapping says what the one before it on its line says already. Mappings have to come in order. */
+/** The same, unless the mapping repeats the one before it on its line. Mappings have to come in order. */
 export declare const maybeAddSegment: typeof addSegment;
 export declare const maybeAddMapping: typeof addMapping;
 
-/** Sets the content of a source; null takes it away. */
+/** Sets the content of a source; null removes it. */
 export declare function setSourceContent(map: GenMapping, source: string, content: string | null): void;
 
-/** Says whether debuggers may skip a source; they may if nothing is said. */
+/** Sets whether debuggers may skip a source; by default they may. */
 export declare function setIgnore(map: GenMapping, source: string, ignore?: boolean): void;
 
 /** The value of the map, with decoded or encoded mappings. The lists are copies. */
@@ -79,7 +79,7 @@ export declare function toEncodedMap(map: GenMapping): EncodedSourceMap;
 export declare const decodedMap: typeof toDecodedMap;
 export declare const encodedMap: typeof toEncodedMap;
 
-/** A map that goes on from another one, which stays as it is. Throws as TraceMap and its calls do. */
+/** A map that continues another one, which stays unchanged. Throws as TraceMap and its calls do. */
 export declare function fromMap(input: SourceMapInput): GenMapping;
 
 /** All mappings in order, lines from 1. */

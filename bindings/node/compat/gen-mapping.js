@@ -86,7 +86,7 @@ function isRepeat(tokens, at, line, originalLine, originalColumn, source, name) 
   return isSamePlace && tokens[before + 4] === source && tokens[before + 5] === name;
 }
 
-/** The same of a token without a source: at the beginning of a line there is nothing that it could end. */
+/** The same for a token without a source: at the beginning of a line there is nothing that it could end. */
 function isRepeatedEnd(tokens, at, line) {
   const before = at - WORDS;
   return before < 0 || tokens[before] !== line || tokens[before + 4] === NO_ID;
@@ -101,7 +101,7 @@ function lineOf(given, what, from) {
   return line;
 }
 
-/** The same of a column. */
+/** The same for a column. */
 function columnOf(given, what) {
   if (given >>> 0 !== given) throw new RangeError(noWord(given, `The ${what} column`));
   return given;

@@ -35,7 +35,7 @@ export declare class SourceMapConsumer {
 export declare class SourceMapGenerator {
   constructor(options?: gen.GenMapping | { file?: string | null; sourceRoot?: string | null });
   static fromSourceMap(consumer: SourceMapConsumer): SourceMapGenerator;
-  /** Adds a mapping, unless it says nothing new. */
+  /** Adds a mapping, unless it adds no information. */
   addMapping(mapping: Parameters<typeof gen.maybeAddMapping>[1]): void;
   setSourceContent(source: string, content: string | null): void;
   toJSON(): ReturnType<typeof gen.toEncodedMap>;

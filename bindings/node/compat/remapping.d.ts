@@ -4,16 +4,16 @@ import type * as maps from "./types.js";
 import type { SourceMapInput as Input } from "./trace-mapping.js";
 
 /**
- * Leads the mappings of a map through the maps of its sources, and theirs, down to the original sources.
+ * Traces the mappings of a map through the maps of its sources, and theirs, down to the original sources.
  *
  * The input is a map, or several: the last step first, each with one source, whose map is the next one. The loader is called for each
- * source (of the last map of several) and gives its map, or nothing if it is an original source. A boolean in place of options is
+ * source (of the last map of several) and returns its map, or nothing for an original source. A boolean in place of options is
  * `excludeContent`.
  *
- * By default the map is that of the package. Where the map of a source has nothing for a place, the mapping is dropped, so that its code
- * counts to the mapping before, which may be that of another module; and of mappings in a row that lead to one place only the first
- * stays, with its name or without one. With `exact` it is the map that `SourceMap.remap` makes, where each mapping stays: one to a place in
- * front of all mappings of its line leads where the first of these does, and one that leads nowhere is unmapped.
+ * By default the map is that of the package. Where the map of a source has nothing for a place, the mapping is dropped: its code then
+ * counts as part of the mapping before, which may be that of another module. Of consecutive mappings that resolve to one place only the
+ * first stays, with its name or without one. With `exact` it is the map that `SourceMap.remap` makes, where each mapping stays: one to a
+ * place before all mappings of its line resolves to what the first of these does, and one that resolves to nothing is unmapped.
  *
  * Throws an Error if a map of several but the last has more than one source, and what TraceMap and its calls throw; with `exact` also a
  * TypeError if a text has half a surrogate pair.
@@ -35,7 +35,7 @@ declare namespace remapping {
   export type RawSourceMap = maps.EncodedSourceMap;
   export type DecodedSourceMap = maps.DecodedSourceMap;
 
-  /** What a loader is told. It may set `source`, `content` and `ignore`. */
+  /** What a loader gets. It may set `source`, `content` and `ignore`. */
   export type LoaderContext = {
     /** The source whose map lists this one, or "". */
     readonly importer: string;
@@ -45,18 +45,18 @@ declare namespace remapping {
     source: string;
     /** The content of an original source; undefined for that which its map has. */
     content: string | null | undefined;
-    /** Whether debuggers may skip an original source; if it is not set, what its map says. */
+    /** Whether debuggers may skip an original source; by default as in its map. */
     ignore?: boolean;
   };
 
   export type SourceMapLoader = (file: string, context: LoaderContext) => SourceMapInput | null | undefined | void;
 
   export type Options = {
-    /** Leaves the contents of sources out. */
+    /** Omits the contents of sources. */
     excludeContent?: boolean;
-    /** Gives mappings as lines of segments in place of a text. */
+    /** Returns mappings as lines of segments, not as a text. */
     decodedMappings?: boolean;
-    /** Gives the map that the library makes. This is not in the package. */
+    /** Returns the map that the library makes. The package does not have this. */
     exact?: boolean;
   };
 

@@ -1,5 +1,5 @@
 /**
- * The API of the package source-map 0.7 over this library: as version 0.6, but that consumers come as promises, and are destroyed.
+ * The API of the package source-map 0.7 over this library: as version 0.6, but consumers come as promises, and have to be destroyed.
  *
  * @example
  * const found = await SourceMapConsumer.with(json, null, (consumer) => consumer.originalPositionFor({ line: 1, column: 1041 }));

@@ -19,29 +19,29 @@ export interface UrlAndMap {
 }
 
 export interface Options {
-  /** "auto", if it is not said; nothing hangs on it, and another word than these throws an Error. */
+  /** "auto" by default. It has no effect, but another word than these throws an Error. */
   environment?: "auto" | "browser" | "node";
-  /** The text of a file, before, or in the place of, what the file system has. */
+  /** Returns the text of a file, before or instead of the file system. */
   retrieveFile?(path: string): string | null;
   overrideRetrieveFile?: boolean;
-  /** The map of a script, before, or in the place of, what its comment names. */
+  /** Returns the map of a script, before or instead of the one that its comment names. */
   retrieveSourceMap?(source: string): UrlAndMap | null;
   overrideRetrieveSourceMap?: boolean;
-  /** Reads the comments of modules as Node compiles them, and not as their files have them. */
+  /** Reads the comments of modules as Node compiles them, not as in their files. */
   hookRequire?: boolean;
-  /** Shows the line of the source of an error that nobody catches; true if it is not said. */
+  /** Shows the line of the source of an uncaught error; true by default. */
   handleUncaughtExceptions?: boolean;
   /** Maps are kept. */
   emptyCacheBetweenOperations?: boolean;
 }
 
 export declare function install(options?: Options): void;
-/** Takes away what `install` was given to find files and maps. */
+/** Removes what `install` was given to find files and maps. */
 export declare function resetRetrieveHandlers(): void;
-/** A frame that answers with its original position. */
+/** A frame that returns its original position. */
 export declare function wrapCallSite<Frame extends object>(frame: Frame, state?: unknown): Frame;
-/** The line of the source that the first frame of an error is on, and below it where; null if it is not known. */
+/** The line of the source that the first frame of an error is on, with the column marked below it; null if it is unknown. */
 export declare function getErrorSource(error: Error): string | null;
-/** The original position; the one that is given if there is none. */
+/** The original position; the given one if there is none. */
 export declare function mapSourcePosition(position: Position): Position;
 export declare function retrieveSourceMap(source: string): UrlAndMap | null;

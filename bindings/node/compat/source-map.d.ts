@@ -14,7 +14,7 @@ export interface StartOfSourceMap {
   sourceRoot?: string;
   /** Takes mappings as they come, without a look at them. One that a map can not hold is refused all the same. */
   skipValidation?: boolean;
-  /** Of source-map-js: warns of a mapping that is none, and passes over it. */
+  /** Of source-map-js: warns about an invalid mapping, and skips it. */
   ignoreInvalidMapping?: boolean;
 }
 
@@ -50,7 +50,7 @@ export interface LineRange extends Position {
 }
 
 export interface FindPosition extends Position {
-  /** GREATEST_LOWER_BOUND, if it is not said, or LEAST_UPPER_BOUND. */
+  /** GREATEST_LOWER_BOUND (the default) or LEAST_UPPER_BOUND. */
   bias?: number;
 }
 
@@ -58,7 +58,7 @@ export interface SourceFindPosition extends FindPosition {
   source: string;
 }
 
-/** A position in a source. All is null where there is none. */
+/** A position in a source. All members are null if there is none. */
 export interface MappedPosition extends Position {
   source: string;
   name?: string;
@@ -138,11 +138,11 @@ export class SourceMapGenerator {
 
   /** Throws Error if a mapping is neither a generated position alone, nor one with an original position and a source. */
   addMapping(mapping: Mapping | { generated: Position }): void;
-  /** Sets the content of a source, or takes it away with null. */
+  /** Sets the content of a source, or removes it with null. */
   setSourceContent(sourceFile: string, sourceContent: string | null): void;
   /**
-   * Leads the mappings of one source, that of the name of the map's file if it is not said, through the map of that source, whose own
-   * sources are found from a path, if it is given. Throws Error if neither says which source it is.
+   * Traces the mappings of one source through the map of that source. The source is by default the one with the name of that map's file;
+   * the map's own sources are resolved from a path, if it is given. Throws Error if neither names the source.
    */
   applySourceMap(consumer: SourceMapConsumer, sourceFile?: string, sourceMapPath?: string): void;
   /** The value of the map. */
@@ -172,7 +172,7 @@ export class SourceNode {
   source: string | null;
   name: string | null;
 
-  /** Adds code behind or before. Throws TypeError of what is no code. */
+  /** Adds code behind or before. Throws TypeError for what is no code. */
   add(chunk: Chunk): SourceNode;
   prepend(chunk: Chunk): SourceNode;
   setSourceContent(sourceFile: string, sourceContent: string): void;

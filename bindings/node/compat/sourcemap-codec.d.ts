@@ -17,7 +17,7 @@ export declare function decode(mappings: string): SourceMapMappings;
 
 /**
  * The mappings text of lines of segments, in the order in which they stand. Throws a RangeError if a segment has not 1, 4 or 5 numbers,
- * or has one that is no integer from 0 to 4294967295 (an id: to 4294967294), and a TypeError if it has something that is no number.
+ * or has one that is no integer from 0 to 4294967295 (an id: to 4294967294), and a TypeError if it has a value that is no number.
  */
 export declare function encode(
   decoded: SourceMapMappings | readonly (readonly Readonly<SourceMapSegment>[])[],

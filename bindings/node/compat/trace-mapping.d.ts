@@ -1,8 +1,8 @@
 /**
  * The API of @jridgewell/trace-mapping 0.3. Lines count from 1 in positions, and from 0 in segments; columns count from 0.
  *
- * Mappings are read when they are needed first. The calls that need them throw a SourceMapError if a mappings text has a fault that is
- * not mended, and a RangeError or a TypeError if a decoded segment has a number that is none. `mends` tells what was mended.
+ * Mappings are read when they are first needed. The calls that need them throw a SourceMapError if a mappings text has a fault that is not
+ * mended, and a RangeError or a TypeError if a decoded segment has an invalid number. `mends` lists what was mended.
  */
 
 import type {
@@ -48,9 +48,9 @@ export type EachMapping =
       name: string | null;
     };
 
-/** The mapping at the column, or else the first one after it. */
+/** The mapping at the column, or otherwise the first one after it. */
 export declare const LEAST_UPPER_BOUND: -1;
-/** The mapping at the column, or else the last one before it. */
+/** The mapping at the column, or otherwise the last one before it. */
 export declare const GREATEST_LOWER_BOUND: 1;
 
 /**
@@ -128,9 +128,9 @@ export declare function eachMapping(map: TraceMap, callback: (mapping: EachMappi
 /** The content of a source, which is named as it is listed or resolved; null if it is not known. */
 export declare function sourceContentFor(map: TraceMap, source: string): string | null;
 
-/** Whether the map says that debuggers may skip a source. */
+/** Whether debuggers may skip a source, by the map's list. */
 export declare function isIgnored(map: TraceMap, source: string): boolean;
 
-/** What was mended in the mappings, in the order in which it was met: ids out of range, lines that were not sorted, sections that were
- *  cut. This is not in the package. */
+/** What was mended in the mappings, in the order in which it was met: ids out of range, unsorted lines, truncated sections. The package
+ *  does not have this. */
 export declare function mends(map: TraceMap): Mend[];

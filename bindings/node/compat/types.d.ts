@@ -1,8 +1,8 @@
 // What the maps of all drop-in modules look like.
 
 /**
- * A mapping of a generated column, from 0: alone it says that the code from there on has no source; else it has the id of a source,
- * a line and a column there, all from 0, and the id of a name if it has one.
+ * A mapping of a generated column, from 0: alone it means that the code from there on has no source; else it has the id of a source, a line
+ * and a column there, all from 0, and the id of a name if it has one.
  */
 export type SourceMapSegment =
   | [number]

@@ -38,7 +38,7 @@ function findBefore(tokens, starts, line, column) {
   return index;
 }
 
-/** The same of `Bias.AFTER`. */
+/** The same for `Bias.AFTER`. */
 function findAfter(tokens, starts, line, column) {
   const to = starts[line + 1];
   const index = firstAfter(tokens, starts[line], to, column);
@@ -46,7 +46,7 @@ function findAfter(tokens, starts, line, column) {
   return index < to ? index : -1;
 }
 
-/** The same of any bias. */
+/** The same for any bias. */
 function find(tokens, starts, line, column, bias) {
   if (bias === Bias.AFTER) return findAfter(tokens, starts, line, column);
   const index = findBefore(tokens, starts, line, column);

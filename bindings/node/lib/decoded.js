@@ -112,7 +112,7 @@ function writeUnmapped(tokens, at, segment) {
   return column >>> 0 === column;
 }
 
-/** The same of a segment of four or five numbers. */
+/** The same for a segment of four or five numbers. */
 function writeMapped(tokens, at, segment) {
   const column = segment[0];
   const source = segment[1];

@@ -1,14 +1,13 @@
 /**
  * Source maps of version 3 (ECMA-426): read, written, looked up both ways, built, joined and composed.
  *
- * Lines, columns, ids and indices count from 0; columns are in UTF-16 code units. Each is an integer from 0 to 4294967295: another
- * number, as -1, 1.5, NaN or Infinity, is a RangeError, and what is no number a TypeError.
+ * Lines, columns, ids and indices count from 0; columns are in UTF-16 code units. Each is an integer from 0 to 4294967295: another number,
+ * such as -1, 1.5, NaN or Infinity, is a RangeError, and any other value a TypeError.
  *
  * Texts are strings, or Uint8Arrays of UTF-8 (a Buffer is one). A string with half a surrogate pair is a TypeError; bytes that are
  * not UTF-8 are a SourceMapError of SMAP_NOT_UTF8.
  *
- * A call that fails leaves all that it was given as it was. Each call that makes, adds or sets something may also fail with
- * SMAP_OUT_OF_MEMORY.
+ * A call that fails leaves its arguments unchanged. Each call that makes, adds or sets something may also fail with SMAP_OUT_OF_MEMORY.
  */
 
 declare global {
@@ -124,7 +123,7 @@ export interface Lists {
   debugId?: Text;
 }
 
-/** A map, and where its code begins in the joined code; the column is 0 if it is not said. */
+/** A map, and where its code begins in the joined code; the column is 0 if it is omitted. */
 export interface Part {
   map: SourceMap;
   line: number;
@@ -148,10 +147,10 @@ export interface RawSourceMap {
  *  the name. */
 export type Segment = [number] | [number, number, number, number] | [number, number, number, number, number];
 
-/** Mappings as a text, or decoded: a list of lines, each of segments, as the packages of npm have them. */
+/** Mappings as a text, or decoded: a list of lines, each of segments, as packages of npm have them. */
 export type Mappings = string | readonly (readonly Segment[])[];
 
-/** The value of a map, as `JSON.parse` or a bundler gives it. Other members are read as those of the text are. */
+/** The value of a map, as `JSON.parse` or a bundler gives it. Other members are read as in the JSON text. */
 export interface MapValue {
   version: number | string;
   file?: string | null | undefined;
@@ -171,18 +170,18 @@ export interface IndexedMapValue {
 }
 
 /**
- * What a map is read from: its JSON text; its value, or an object that has it by `toJSON`, as a generator or another SourceMap; or the
- * URL of a file (Node of 20.16 and later) or of data.
+ * What a map is read from: its JSON text; its value, or an object whose `toJSON` returns it, such as a generator or another SourceMap; or
+ * the URL of a file (Node 20.16 and later) or of data.
  */
 export type MapInput = Text | MapValue | IndexedMapValue | { toJSON(): unknown } | { readonly href: string; readonly protocol: string };
 
-/** How a map is read. */
+/** How to read a map. */
 export interface ReadOptions {
-  /** Keeps the members whose names begin with `x_`, which the format does not know; else they are dropped. */
+  /** Keeps the members whose names begin with `x_`, which the format does not know; otherwise they are dropped. */
   readonly keepUnknown?: boolean | undefined;
 }
 
-/** A token with its texts. What is not told is null, as all but the generated position of one without a source. */
+/** A token with its texts. What it does not have is null: for a token without a source, all but the generated position. */
 export interface Mapping {
   generatedLine: number;
   generatedColumn: number;
@@ -301,7 +300,7 @@ export type Code =
   | "SMAP_BAD_OPTION"
   | "SMAP_NO_FILE"
   | "SMAP_UNKNOWN"
-  /** The map is shared with other threads, and takes no change. */
+  /** The map is shared with other threads, and cannot be changed. */
   | "SMAP_SHARED"
   | "SMAP_NO_THREADS";
 
@@ -320,7 +319,7 @@ export type Code =
 export class SourceMapError extends Error {
   private constructor();
   readonly name: "SourceMapError";
-  /** What is wrong, and behind ", at" the place, if that is known. */
+  /** What is wrong, followed by ", at" and the place, if that is known. */
   readonly message: string;
   readonly code: Code;
   /** The number that belongs to the code: an id, an index, a size, a version, or of SMAP_BAD_SCOPES the byte of the text of scopes at which
@@ -333,8 +332,8 @@ export class SourceMapError extends Error {
   /** Where in what was read the fault is, if that is known. */
   readonly place: FaultPlace | null;
   /**
-   * The place in one line, or "". Where a text was read and `message` says something else, what is really wrong stands behind it:
-   * "line 0, segment 1 (byte 5): a column below 0".
+   * The place in one line, or "". Where a text was read and `message` names another cause, the actual cause follows: "line 0, segment 1
+   * (byte 5): a column below 0".
    */
   readonly placeMessage: string;
 }
@@ -349,14 +348,14 @@ export class SourceMapError extends Error {
  */
 export class SourceMap {
   /**
-   * Reads a map from its JSON text, or what stands for it. An indexed map is read as the join of its sections, without their source
-   * roots. Of a value, what the text of JSON.stringify has is read.
+   * Reads a map from a MapInput. An indexed map is read as the join of its sections, without their source roots. A value is read as its
+   * text by JSON.stringify is.
    *
    * Throws SourceMapError of SMAP_JSON_READING, SMAP_JSON_SHAPE, SMAP_JSON_VERSION, SMAP_BAD_SOURCE_REFERENCE (of the ignore list),
    * of a fault of the mappings (SMAP_VLQ_OVERFLOW, SMAP_VLQ_LEFTOVER, SMAP_BAD_SEGMENT_SIZE, SMAP_BAD_SOURCE_REFERENCE,
-   * SMAP_BAD_NAME_REFERENCE, SMAP_TOO_LARGE), or of SMAP_SECTION_ORDER; each has its place. A file that is not read throws what the
-   * file system says; a URL of another kind, or an object that is no value of a map, a TypeError; a bad segment of decoded mappings a
-   * RangeError or a TypeError.
+   * SMAP_BAD_NAME_REFERENCE, SMAP_TOO_LARGE), or of SMAP_SECTION_ORDER; each has its place. An unreadable file throws the error of the file
+   * system; a URL of another kind, or an object that is no value of a map, a TypeError; a bad segment of decoded mappings a RangeError or a
+   * TypeError.
    *
    * @example
    * new SourceMap(bundle.map); // of rollup, webpack, magic-string, babel
@@ -365,12 +364,11 @@ export class SourceMap {
    */
   constructor(json: MapInput, options?: ReadOptions);
 
-  /** What the package runs on: the addon, or the WebAssembly module. */
+  /** What the package runs over: the addon, or the WebAssembly module. */
   static readonly backend: "addon" | "module";
 
   /**
-   * The same on a thread of the pool. The text is copied, and may change meanwhile. What the constructor throws, the promise is
-   * rejected with.
+   * The same on a thread of the pool. The text is copied, and may change meanwhile. The promise rejects with what the constructor throws.
    *
    * @example
    * const map = await SourceMap.read(await fs.promises.readFile("app.js.map"));
@@ -378,9 +376,9 @@ export class SourceMap {
   static read(json: MapInput, options?: ReadOptions): Promise<SourceMap>;
 
   /**
-   * Reads a map as it is found, and tells what was mended in it, as a byte order mark, null sources, or ids out of range. The map is
-   * sorted and sound. A text that the constructor reads as a sorted map is read as this map, with nothing to mend. Throws
-   * SourceMapError of the first fault that is not mended, with its place if it has one (smap_read_found in oxc_sourcemap.h).
+   * Reads a map as it is found, and reports what it mended, such as a byte order mark, null sources, or ids out of range. The map is sorted
+   * and sound. A text that the constructor reads as a sorted map gives the same map, without mends. Throws SourceMapError of the first
+   * fault that is not mended, with its place if it has one (smap_read_found in oxc_sourcemap.h).
    *
    * @example
    * const { map, mends } = SourceMap.found('{"version":"3","sources":[null],"mappings":"AAAA"}');
@@ -400,7 +398,7 @@ export class SourceMap {
   static fromTokens(tokens: Uint32Array | Iterable<Token>, lists?: Lists): SourceMap;
 
   /**
-   * Reads a mappings text alone, whose ids are to be below these numbers of names and sources (else 4294967295). The map has its
+   * Reads a mappings text alone, whose ids have to be below these numbers of names and sources (4294967295 by default). The map has its
    * tokens, and no names and no sources. Throws SourceMapError of a fault of the mappings, as the constructor does.
    *
    * @example
@@ -418,18 +416,18 @@ export class SourceMap {
   static join(parts: Iterable<Part>): SourceMap;
 
   /**
-   * A map that another thread shared, by its number. It takes no change, and lives as long as it is used here, whatever the other
-   * thread does. Throws SourceMapError of SMAP_NO_ENTRY if no thread has a map of this number any more.
+   * A map that another thread shared, by its number. It cannot be changed, and lives as long as it is used here, whatever the other thread
+   * does. Throws SourceMapError of SMAP_NO_ENTRY if no thread has a map of this number any more.
    */
   static shared(number: number): SourceMap;
 
   /**
-   * Shares the map with other threads: the number goes to a worker in a message, and `SourceMap.shared` makes a map of it there. Any
-   * number of threads may then read it at once. From here on the map takes no change: calls that change it fail with SMAP_SHARED
-   * (so call `indexSources` before, if workers look up generated positions).
+   * Shares the map with other threads: send the number to a worker in a message, and `SourceMap.shared` makes a map of it there. Any number
+   * of threads may then read it at once. From then on the map cannot be changed: calls that change it fail with SMAP_SHARED (so call
+   * `indexSources` before, if workers look up generated positions).
    *
-   * The garbage collector does not free a map that was shared. It can be taken until `free`, or until its thread ends, and after that
-   * for as long as another thread has it.
+   * The garbage collector does not free a shared map. Threads can get it until `free`, or until its thread ends, and after that as long as
+   * another thread has it.
    *
    * Throws SourceMapError of SMAP_NO_THREADS where the package runs as a WebAssembly module, which shares no maps.
    *
@@ -456,14 +454,14 @@ export class SourceMap {
   readonly names: readonly string[];
   /** All sources as listed, without the source root, in a frozen array, which is kept. */
   readonly sources: readonly string[];
-  /** All contents, null for one that is not known. The array is made by each call: `getSourceContent` has one of them. */
+  /** All contents, null for one that is not known. Each call makes a new array: for one content use `getSourceContent`. */
   readonly sourcesContent: (string | null)[];
-  /** The name, the source or the content of a source with this id; null if there is none, or it is not known. A source may be told by its
+  /** The name, the source or the content of a source with this id; null if there is none, or it is not known. A source may be given by its
    *  name, too, as `sources` has it; of equal ones the first counts. */
   getName(id: number): string | null;
   getSource(id: number): string | null;
   getSourceContent(source: number | string): string | null;
-  /** The members that `keepUnknown` has kept, which are written with the map, and are those of its clones; null if there are none. */
+  /** The members that `keepUnknown` kept. They are written with the map, and its clones have them; null if there are none. */
   readonly unknownMembers: { readonly [name: string]: unknown } | null;
   /** The name of the generated file, the source root and the debug id; null if the map has none. */
   readonly file: string | null;
@@ -481,13 +479,13 @@ export class SourceMap {
   /** All tokens as decoded mappings, of the lines up to the last token. The tokens have to be in order of lines. */
   readonly decodedMappings: Segment[][];
   /**
-   * All tokens with their texts, as the map has them when the loop begins.
+   * All tokens with their texts, as they are when the loop begins.
    *
    * @example
    * for (const { generatedLine, source } of map) console.log(generatedLine, source);
    */
   [Symbol.iterator](): IterableIterator<Mapping>;
-  /** The same by calls. */
+  /** The same, by a callback. */
   eachMapping(callback: (mapping: Mapping) => void): void;
 
   // ---- lookups ----
@@ -495,8 +493,8 @@ export class SourceMap {
   /**
    * The original position of a generated one; null if there is none.
    *
-   * Throws SourceMapError of SMAP_BAD_OPTION, or of SMAP_LINE_ORDER if the tokens are not in order of lines, as they may be after a
-   * join. Of other maps that are not sorted nothing is promised but that there is an answer.
+   * Throws SourceMapError of SMAP_BAD_OPTION, or of SMAP_LINE_ORDER if the tokens are not in order of lines, as can happen after a join.
+   * For other unsorted maps only this is promised: there is an answer.
    *
    * @example
    * map.trace(0, 1041); // { source: "a.ts", line: 7, column: 2, name: null, index: 91 }
@@ -522,16 +520,16 @@ export class SourceMap {
    * token answers (by BEFORE) at each position. A range that ends at or before its beginning has none.
    */
   pieces(begin: Position, end: Position): Piece[];
-  /** The first generated position at which two maps say different things, by texts and not by ids; null if there is none. Of maps that
-   *  are not sorted nothing is promised but that there is an answer. */
+  /** The first generated position that two maps trace differently, by texts and not by ids; null if there is none. For unsorted maps only
+   *  this is promised: there is an answer. */
   firstDifference(other: SourceMap): Position | null;
 
   /** Makes the index by original positions, which takes 4 bytes a token. The next two calls make it if the map has none. A call that
-   *  changes the tokens, as `sort`, takes it away. Throws SourceMapError of SMAP_TOO_LARGE. */
+   *  changes the tokens, such as `sort`, drops it. Throws SourceMapError of SMAP_TOO_LARGE. */
   indexSources(): void;
   /**
-   * Of the tokens that answer for an original position the first in the order of the map; null if there is none. A source is told by its
-   * id, or its name, as `sources` has it: of equal ones the first counts, and one that is not listed has no answer.
+   * The first token in the order of the map that answers for an original position; null if there is none. The source is given by its id, or
+   * its name, as `sources` has it: of equal ones the first counts, and one that is not listed has no answer.
    *
    * Throws SourceMapError of SMAP_BAD_OPTION, or of SMAP_NO_INDEX if the map is shared without an index.
    *
@@ -541,7 +539,7 @@ export class SourceMap {
    */
   generated(source: number | string, line: number, column: number, direction?: Direction): FoundToken | null;
   generated(position: OriginalPosition): FoundToken | null;
-  /** The indices of all tokens that do, in the order of the map. Fails as `generated` does. */
+  /** The indices of all tokens that answer, in the order of the map. Fails as `generated` does. */
   allGenerated(source: number | string, line: number, column: number, direction?: Direction): Uint32Array;
   allGenerated(position: OriginalPosition): Uint32Array;
 
@@ -555,7 +553,7 @@ export class SourceMap {
   setSources(sources: Iterable<Text>): void;
   setSourcesContent(contents: Iterable<Text | null>): void;
   setIgnoreList(ids: Iterable<number>): void;
-  /** Puts the source root before each source, and takes it away. */
+  /** Puts the source root before each source, and removes it from the map. */
   applySourceRoot(): void;
   /** Sorts the tokens by generated position; those at one position keep their order. */
   sort(): void;
@@ -573,8 +571,8 @@ export class SourceMap {
    */
   compose(input: SourceMap): SourceMap;
   /**
-   * Leads this map through the maps of its sources: `inputs` has a path of a source and its map, as a Map, an object, or pairs; of equal
-   * paths the first counts. Throws SourceMapError of SMAP_INPUT_LINE_ORDER or SMAP_TOO_LARGE.
+   * Traces this map through the maps of its sources: `inputs` pairs the path of a source with its map, as a Map, an object, or pairs; of
+   * equal paths the first counts. Throws SourceMapError of SMAP_INPUT_LINE_ORDER or SMAP_TOO_LARGE.
    *
    * @example
    * bundle.remap({ "a.js": compiled }).sources; // ["a.ts", "b.js"]
@@ -596,14 +594,14 @@ export class SourceMap {
   /** The JSON text as a data URL, of at most `limit` bytes. */
   toDataURL(options?: { readonly limit?: number | undefined }): string;
   /**
-   * The bytes of a compiled map, which CompiledMap opens in constant time and looks up where they lie; in Node a Buffer. They have a
-   * content for each source, null if it is not known, and none past the last. `textLength` is the number of bytes of the map's text, and
-   * `stamp` 32 bytes that are kept as they are, as the SHA-256 of that text; 0 and zero bytes if they are not given. Throws
-   * SourceMapError of SMAP_UNSORTED or SMAP_TOO_LARGE, and TypeError of an option of another name.
+   * The bytes of a compiled map, which CompiledMap opens in constant time and searches in place; in Node a Buffer. They have a content for
+   * each source, null if it is not known, and none past the last. `textLength` is the number of bytes of the map's text, and `stamp` 32
+   * bytes that are stored unchanged, such as the SHA-256 of that text; 0 and zero bytes by default. Throws SourceMapError of SMAP_UNSORTED
+   * or SMAP_TOO_LARGE, and TypeError of an option of another name.
    *
-   * Contents are left out if they are taken away before: `const bare = map.clone(); bare.setSourcesContent([])`. A map of the same
-   * sources, with contents and no tokens, has them apart, by the same ids:
-   * `SourceMap.fromTokens([], { sources: map.sources, sourcesContent: map.sourcesContent })`.
+   * To leave contents out, remove them before: `const bare = map.clone(); bare.setSourcesContent([])`. A map of the same sources, with
+   * contents and no tokens, has them apart, by the same ids: `SourceMap.fromTokens([], { sources: map.sources, sourcesContent:
+   * map.sourcesContent })`.
    *
    * @example
    * // The file that `sourcemap compile` writes, and that `sourcemap resolve` reads instead of app.js.map until this has another text:
@@ -632,11 +630,11 @@ export interface CompiledCounts {
  * A compiled map, open in bytes of `SourceMap.compile`, a file or any other. Its members do what those of SourceMap do; `decompile`
  * gives a SourceMap, which has the others too.
  *
- * The bytes are kept, and nobody may change them before `free`: what is then answered is not said. In Node by the addon they are not
- * copied, so that workers share those in a SharedArrayBuffer. If their buffer is transferred, or made shorter, all calls fail with
+ * The map keeps the bytes, and nobody may change them before `free`: after a change, answers are undefined. The addon in Node does not copy
+ * them, so that workers share bytes in a SharedArrayBuffer. If their buffer is transferred, or made shorter, all calls fail with
  * SMAP_NULL_HANDLE, as after `free`. The WebAssembly module copies them into its memory.
  *
- * Of bytes that `compile` did not make, lookups answer some token of the line, or none, and texts that are not UTF-8 have U+FFFD.
+ * In bytes that `compile` did not make, lookups find some token of the line, or none, and texts that are not UTF-8 have U+FFFD.
  *
  * @example
  * const map = new CompiledMap(fs.readFileSync("app.js.map.smc"));
@@ -647,8 +645,8 @@ export class CompiledMap {
    *  SMAP_COMPILED_SIZES. */
   constructor(bytes: ArrayBufferView | ArrayBufferLike);
   /**
-   * Opens a file of a compiled map, in Node alone. It is read as a whole, so that it may be changed or deleted afterwards. Throws TypeError
-   * of what is no path, errors of the file system, and those of the constructor.
+   * Opens a file of a compiled map, only in Node. It reads the whole file, which may be changed or deleted afterwards. Throws TypeError for
+   * what is no path, errors of the file system, and those of the constructor.
    *
    * @example
    * const map = CompiledMap.openFile("app.js.map.smc");
@@ -657,22 +655,22 @@ export class CompiledMap {
    * const isStale = map.textLength !== text.length || !crypto.createHash("sha256").update(text).digest().equals(map.stamp);
    */
   static openFile(path: string | URL): CompiledMap;
-  /** Frees the map, and lets go of the bytes. */
+  /** Frees the map, and releases the bytes. */
   free(): void;
   [Symbol.dispose](): void;
   /** The map that was compiled. Throws SourceMapError of SMAP_NO_ENTRY if a text is not UTF-8, or, only in bytes that `compile` did not
-   *  make, the tokens of a line or the bytes of a text begin before those of the one in front, or the last ones end before they begin.
-   *  A map of such bytes may be unsorted. */
+   *  make, the tokens of a line or the bytes of a text begin before those of the previous one, or the last ones end before they begin. A
+   *  map of such bytes may be unsorted. */
   decompile(): SourceMap;
 
   readonly counts: CompiledCounts;
-  /** What was given as the length of the map's text, and a copy of the stamp of 32 bytes. */
+  /** The length of the map's text that `compile` was given, and a copy of the stamp of 32 bytes. */
   readonly textLength: number;
   readonly stamp: Uint8Array;
   getName(id: number): string | null;
   getSource(id: number): string | null;
   getSourceContent(id: number): string | null;
-  /** All names, sources and contents, by their ids. Each array is made by each call: `getName` and its sisters have one text. Throws
+  /** All names, sources and contents, by their ids. Each call makes a new array: for one text use `getName` and its like. Throws
    *  SourceMapError of SMAP_NO_ENTRY if they are longer than the bytes, as only those of damaged bytes are. */
   readonly names: string[];
   readonly sources: string[];
@@ -708,10 +706,10 @@ export class SourceMapBuilder {
   /** Adds a name, or finds the equal one that was added before, and returns its id. Ids count from 0 in the order in which names come.
    *  Throws SourceMapError of SMAP_TOO_LARGE if no id is left. */
   addName(name: Text): number;
-  /** The same of a source by its path, with its content if it is known. A path that was added before keeps its id and its first
+  /** The same for a source by its path, with its content if it is known. A path that was added before keeps its id and its first
    *  content. */
   addSource(path: Text, content?: Text | null): number;
-  /** Appends a token. Add tokens in the order of their generated positions: else the map is not sorted, and may not be written. Ids are
+  /** Appends a token. Add tokens in the order of their generated positions: otherwise the map is unsorted, and writing it may fail. Ids are
    *  not compared with what was added. */
   addToken(
     generatedLine: number,
@@ -725,7 +723,7 @@ export class SourceMapBuilder {
   addTokens(tokens: Uint32Array | Iterable<Token>): void;
   /** Sets the name of the generated file. */
   setFile(file: Text): void;
-  /** Makes the map. The builder is then as a new one. */
+  /** Makes the map. The builder is then empty, like a new one. */
   finish(): SourceMap;
   free(): void;
   [Symbol.dispose](): void;
@@ -745,7 +743,7 @@ export class ConcatSourceMapBuilder {
   /** Adds a map, whose code begins at this line and column of the joined code. The map may be changed or freed then. Source roots are
    *  dropped: `applySourceRoot` before keeps them. Throws SourceMapError of SMAP_TOO_LARGE. */
   addSourceMap(map: SourceMap, line: number, column?: number): void;
-  /** Makes the joined map. The builder is then as a new one. */
+  /** Makes the joined map. The builder is then empty, like a new one. */
   finish(): SourceMap;
   free(): void;
   [Symbol.dispose](): void;
@@ -757,16 +755,17 @@ export class ConcatSourceMapBuilder {
  * not need, `join N` joins N times `P LINE`, `joinat N` N times `P LINE COLUMN`, `compose P P` composes, `remap P N` remaps by N times
  * `PATH P`.
  *
- * Throws SourceMapError of SMAP_WORDS, SMAP_NO_TEXT, SMAP_TOO_DEEP, or of the first step that fails; that of a text has its number.
+ * Throws SourceMapError of SMAP_WORDS, SMAP_NO_TEXT, SMAP_TOO_DEEP, or of the first step that fails; the error of a text has the number of
+ * the text.
  *
  * @example
  * evaluate("compose @1 @0", [compiledMap, minifiedMap]).toString();
  */
 export function evaluate(words: string | Iterable<Text>, texts: Iterable<Text>): SourceMap;
 
-/** The mappings text of tokens, or of decoded mappings. Throws SourceMapError of SMAP_LINE_ORDER if a token is on a line before that of
- *  the token in front of it, or of SMAP_TOO_LARGE, also if it has more than `limit` bytes; of decoded mappings with a bad segment a
- *  RangeError or a TypeError. */
+/** The mappings text of tokens, or of decoded mappings. Throws SourceMapError of SMAP_LINE_ORDER if a token is on a line before that of the
+ *  previous token, or of SMAP_TOO_LARGE, also if it has more than `limit` bytes; of decoded mappings with a bad segment a RangeError or a
+ *  TypeError. */
 export function encodeMappings(
   tokens: Uint32Array | Iterable<Token> | readonly (readonly Segment[])[],
   options?: { readonly limit?: number | undefined },

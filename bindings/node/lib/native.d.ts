@@ -1,17 +1,17 @@
 /**
- * What the package stands on: functions over texts, numbers and typed arrays, which know nothing of classes, caches or defaults.
+ * What the package is built on: functions over texts, numbers and typed arrays, which know nothing of classes, caches or defaults.
  *
- * An addon gives them, and any module that gives the same may take its place. Nothing above this file knows which of them it has.
- * It is no part of what the package exports.
+ * An addon has them, and any module with the same functions may replace it. Nothing above this file knows which of them it has. It is no
+ * part of what the package exports.
  *
  * Handles
  *  - A map, a compiled map, scopes, a builder and a join are opaque objects. `free` frees what a handle holds; else the garbage collector does, or the end of
- *    its thread. A handle that was freed is as a null handle of the library: calls answer `SMAP_NULL_HANDLE` (100). So is a compiled map
- *    whose bytes JavaScript has taken away.
+ *    its thread. A freed handle is like a null handle of the library: calls return `SMAP_NULL_HANDLE` (100). So is a compiled map whose
+ *    bytes JavaScript has taken away.
  *
  * Errors
  *  - A call that makes a handle, a text or a list returns it, or a number that is not 0: the code of an error. All other calls return
- *    a code, 0 for success, and write what they answer to `words`, or to an array that the caller lends.
+ *    a code, 0 for success, and write their results to `words`, or to an array of the caller.
  *  - After an error `fault` holds it; after a success it means nothing. Its words are those of `smap_fault`, low word first: code,
  *    field, detail (2), then the place: kind, field, text (2), section (2), line (2), column (2), byte (2), entry (2).
  *  - A call throws for three reasons alone: an argument of another type than is written here (TypeError), a text that is too long for
@@ -28,8 +28,8 @@
  *  - A call that fills a list writes as many entries as fit into `out`, and the number of all to `words[0]`.
  *
  * Arrays
- *  - What is lent is read or written during the call alone, but by `openCompiled`. An array over shared memory is copied first, but by
- *    that; one whose buffer was detached has no entries.
+ *  - A call reads or writes an array of the caller only while it runs, except `openCompiled`. An array over shared memory is copied first,
+ *    but by that; one whose buffer was detached has no entries.
  */
 
 export type Text = string | Uint8Array;
@@ -56,10 +56,10 @@ export type AskedHandle = MapHandle | CompiledHandle;
 /** The code of an error, or 0. */
 export type Code = number;
 
-/** A code that is none of the library's: the map is shared with other threads, and takes no change. */
+/** A code that is none of the library's: the map is shared with other threads, and cannot be changed. */
 export type SHARED = 200;
 
-/** The same, of a module that shares no maps with other threads: what `share` answers there. */
+/** The same, for a module that shares no maps with other threads: what `share` returns there. */
 export type NO_THREADS = 201;
 
 /** The length of a text that is not known, and the id of nothing. */
@@ -91,7 +91,7 @@ export interface Native {
   readonly backend: "addon" | "module";
   /** 18 words: the last error. */
   readonly fault: Uint32Array;
-  /** 16 words: the numbers that the last call answered; in the last four, what `select` and `trace` say of them. */
+  /** 16 words: the numbers that the last call returned; for the last four see `select` and `trace`. */
   readonly words: Uint32Array;
 
   // ---- reading ----
@@ -122,8 +122,8 @@ export interface Native {
 
   // ---- threads ----
 
-  /** The number by which `takeShared` of another thread finds the map, for as long as any handle of it is there. From now on the map
-   *  takes no change: calls that change it answer SHARED. `words[0]` is the number. A WebAssembly module answers NO_THREADS. */
+  /** The number by which `takeShared` of another thread finds the map, for as long as any handle of it exists. From now on the map takes no
+   *  change: calls that change it answer SHARED. `words[0]` is the number. A WebAssembly module answers NO_THREADS. */
   share(map: MapHandle): Code;
   /** A handle of a map that was shared, or 103 if there is none of this number any more. */
   takeShared(number: number): MapHandle | Code;
@@ -212,7 +212,7 @@ export interface Native {
   valueAt(scopes: ScopesHandle, range: number, variable: number, line: number, column: number): Code;
   /** Two words for each scope: its index, and that of its range. */
   scopeChainAt(scopes: ScopesHandle, line: number, column: number, out: Uint32Array): Code;
-  /** The same of a frame. 103 past the last one, so of each where no range contains the position. */
+  /** The same for a frame. 103 past the last one, so of each where no range contains the position. */
   scopeChain(scopes: ScopesHandle, frame: number, line: number, column: number, out: Uint32Array): Code;
 
   // ---- changing ----
@@ -263,7 +263,7 @@ export interface Native {
   message(fault: Uint32Array): string;
   placeMessage(fault: Uint32Array): string;
   mendMessage(mend: Uint32Array): string;
-  /** What is really wrong with the text that a call refused with this fault, where the message says something else; else "". */
+  /** The actual cause in the text that a call refused with this fault, where the message names another; else "". */
   reasonMessage(text: Text, fault: Uint32Array): string;
   codeName(code: Code): string;
 }

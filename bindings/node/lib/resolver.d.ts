@@ -15,8 +15,8 @@ export const BESIDE: unique symbol;
 
 /**
  * What has codes and maps: a folder (`Folder`), or any object with this method. A name has slashes between its parts, none of which is
- * empty, `.` or `..`. If it answers by a promise, only the calls whose names end in `Async` can be used. What it throws leaves frames
- * unchanged, with Reason.STORE; an answer that is not there after the limit of seconds is asked for again by a later trace.
+ * empty, `.` or `..`. If it returns a promise, only the calls whose names end in `Async` can be used. What it throws leaves frames
+ * unchanged, with Reason.STORE; if an answer takes longer than the limit of seconds, a later trace asks again.
  *
  * @example
  * const store = { get: async (name) => new Uint8Array(await (await fetch(`http://maps.internal/${name}`)).arrayBuffer()) };
@@ -26,14 +26,14 @@ export interface Store {
 }
 
 /**
- * A folder as a store. What leads out of it is refused: a name that climbs, and a link, of the file or of a folder above it. Nobody else
+ * A folder as a store. It refuses names that resolve outside of it: by `..`, or by a link of the file or of a folder above it. Nobody else
  * may change links in it meanwhile.
  *
  * @example
  * new Folder("dist").get("app.js"); // a Buffer, or null
  */
 export class Folder implements Store {
-  /** Throws an error of the system if the folder is not there. */
+  /** Throws an error of the system if the folder does not exist. */
   constructor(path: string);
   /** Its path, links followed. */
   readonly path: string;
@@ -44,13 +44,13 @@ export class Folder implements Store {
 
 /** Why a frame is not resolved; `detail` has more. */
 export const Reason: {
-  /** Its URL is below no base. */
+  /** No base contains its URL. */
   readonly OUTSIDE: 'outside';
-  /** A path that climbs, with a control character or a backslash, too long, or a link out of the folder; or a debug id that is none. */
+  /** A path with `..`, a control character or a backslash, one that is too long, or a link out of the folder; or an invalid debug id. */
   readonly REFUSED: 'refused';
-  /** There is neither the code nor a map of its name. */
+  /** The store has neither the code nor a map of its name. */
   readonly NOT_THERE: 'not there';
-  /** There is the code, and no map of it. */
+  /** The store has the code, but no map of it. */
   readonly NO_MAP: 'no map';
   /** The map cannot be read. */
   readonly BAD_MAP: 'bad map';
@@ -79,7 +79,7 @@ export interface Limits {
   readonly traceBytes: number;
   /** Frames of a trace that are looked up: 1000. */
   readonly frames: number;
-  /** Seconds for a trace: 10. What is begun (one map that is read) ends, and is held for the next trace. */
+  /** Seconds for a trace: 10. Work that has begun (reading one map) is completed, and held for the next trace. */
   readonly seconds: number;
   /** Bytes of a code, which is read for the comment that names its map: 64 * 2 ** 20. */
   readonly codeBytes: number;
@@ -91,7 +91,7 @@ export interface Limits {
   readonly heldMaps: number;
   /** Codes that are known to have no map: 4096. */
   readonly heldMissing: number;
-  /** Seconds after which what is held, also that there is no map, is looked for again: 60. */
+  /** Seconds after which held maps, and held results that there is no map, are searched again: 60. */
   readonly heldSeconds: number;
   /** Bytes of contents that are held, with their lines: 32 * 2 ** 20. */
   readonly heldContextBytes: number;
@@ -108,9 +108,9 @@ export interface Frame {
 }
 
 /**
- * What a frame comes to: the source, as the map lists it and with the source root before it, the original line and column, which count
- * from 0, and the name of the mapping, which is that of a function where the tool that made the map gave it one. If it is not resolved,
- * these are null, and the reason and a detail in words say why.
+ * What a frame resolves to: the source, as the map lists it and with the source root before it, the original line and column, which count
+ * from 0, and the name of the mapping, which is that of a function where the tool that made the map wrote one. For an unresolved frame
+ * these are null, and `reason` and `detail` state why.
  */
 export class Resolved {
   private constructor();
@@ -183,7 +183,7 @@ export interface ResolverOptions {
    *  many bytes as X.map has, and its file is no older or, with `alwaysHashes` in any case, its SHA-256 is that of X.map. */
   readonly cache?: typeof BESIDE | string | null | undefined;
   readonly limits?: Partial<Limits> | undefined;
-  /** The map of the code's name and `.map` is taken, if it is there, and the code is not read. */
+  /** If the map with the code's name and `.map` exists, it is taken, and the code is not read. */
   readonly besideFirst?: boolean | undefined;
   /** The name of the map of a debug id, in which `{}` stands for the id in lower case: `{}.map`. */
   readonly debugIdName?: string | undefined;
@@ -219,12 +219,12 @@ export class Resolver {
   constructor(store: string | Store, base?: string | Readonly<Record<string, string>>, options?: ResolverOptions);
   readonly limits: Limits;
 
-  /** What a place in a code comes to, by its URL or path, and its line and column, which count from 1. Throws TypeError of a line or a
-   *  column that is no integer, and if the store answers by a promise, or with what is no Uint8Array; so do the calls below. */
+  /** What a place in a code resolves to, by its URL or path, and its line and column, which count from 1. Throws TypeError for a line or a
+   *  column that is no integer, and if the store returns a promise, or anything but a Uint8Array; so do the calls below. */
   resolveFrame(url: string, line: number, column: number, debugId?: string | null): Resolved;
   resolveFrameAsync(url: string, line: number, column: number, debugId?: string | null): Promise<Resolved>;
 
-  /** What each frame of a trace comes to, in order. Throws TooLargeError if the trace has more bytes than the limit. */
+  /** What each frame of a trace resolves to, in order. Throws TooLargeError if the trace has more bytes than the limit. */
   resolve(text: string | Uint8Array, debugIds?: DebugIds): Resolved[];
   resolveAsync(text: string | Uint8Array, debugIds?: DebugIds): Promise<Resolved[]>;
 

@@ -1,4 +1,4 @@
-/** The scopes of maps. All that index.d.ts says of numbers, texts and errors is true here too. */
+/** The scopes of maps. The rules of index.d.ts for numbers, texts and errors apply here too. */
 
 import type { Bias, CompiledMap, MapInput, Position, SourceMap, Text } from "./index.js";
 
@@ -12,7 +12,7 @@ export type ScopesFault =
   | "TOO_LARGE"
   /** It is empty, or lacks a number. */
   | "MISSING_NUMBER"
-  /** An index leads to no name, scope or value. */
+  /** An index refers to no name, scope or value. */
   | "BAD_INDEX"
   /** It is an end, variables, values or a call site, and nothing that it could belong to is open. */
   | "NOTHING_OPEN"
@@ -40,7 +40,7 @@ export interface CallSite {
 }
 
 /** A scope of a source: a function, a block, a class or the like, from `start` up to but not including `end`. `name` and `kind` are the
- *  texts of their ids among the names of the map. What is not there is null, and so are texts that are not known. */
+ *  texts of their ids among the names of the map. Missing values are null, and so are unknown texts. */
 export interface OriginalScope {
   readonly index: number;
   readonly sourceId: number;
@@ -57,7 +57,7 @@ export interface OriginalScope {
   readonly parent: number | null;
 }
 
-/** A range of the generated code, from `start` up to but not including `end`. What is not there is null. */
+/** A range of the generated code, from `start` up to but not including `end`. Missing values are null. */
 export interface GeneratedRange {
   readonly index: number;
   readonly start: Readonly<Position>;
@@ -66,7 +66,7 @@ export interface GeneratedRange {
   readonly definition: number | null;
   /** Whether a call of it makes a frame of the stack. */
   readonly isStackFrame: boolean;
-  /** Whether the source has no frame for it, as where a helper was made. */
+  /** Whether the source has no frame for it, as for a generated helper. */
   readonly isHidden: boolean;
   /** Where it was called, if it is the body of a function that was inlined. */
   readonly call: CallSite | null;
@@ -80,14 +80,14 @@ export interface ScopeFrame {
   readonly nameId: number | null;
   readonly name: string | null;
   readonly scope: number | null;
-  /** Where the frame is; null of the first one, which is where `SourceMap.trace` leads. */
+  /** Where the frame is; null for the first one, which is at the position that `SourceMap.trace` returns. */
   readonly call: CallSite | null;
 }
 
 /** The frames of the source that a frame of a stack trace stands for, from the inside out. */
 export interface ScopeFrames {
   readonly frames: readonly ScopeFrame[];
-  /** Whether the source has no such frame, as where a helper was made: a stack trace leaves it out. */
+  /** Whether the source has no such frame, as for a generated helper: a stack trace omits it. */
   readonly isHidden: boolean;
 }
 
@@ -117,9 +117,9 @@ export interface ScopeChainEntry {
   readonly variables: readonly ScopeVariable[];
 }
 
-/** A frame of the source with its place. `name` is null if the function has none, or its text is not known. The first frame is where
- *  `SourceMap.trace` leads: `source`, `line` and `column` are null if the map has none there. Any other frame is where it was called: `line`
- *  and `column` are numbers, and `source` is null if the map lacks it. */
+/** A frame of the source with its place. `name` is null if the function has none, or its text is not known. The first frame is at the
+ *  position that `SourceMap.trace` returns: `source`, `line` and `column` are null if the map has none there. Any other frame is at its
+ *  call: `line` and `column` are numbers, and `source` is null if the map lacks it. */
 export interface SourceFrame {
   readonly name: string | null;
   readonly source: string | null;
@@ -174,11 +174,11 @@ export type ScopesValue = { readonly names?: readonly string[] | null | undefine
 export class Scopes {
   private constructor(made: never);
   /**
-   * Reads the scopes of a map from what `new SourceMap` takes, but for a SourceMap, which keeps none: that is a TypeError. Nothing else of
+   * Reads the scopes of a map from what `new SourceMap` takes, except a SourceMap, which keeps none: that is a TypeError. Nothing else of
    * the map is checked: a value with `version` or `scopes` needs no mappings. One without the member `scopes`, or with null, has the scopes
-   * of no source. Throws SourceMapError of SMAP_NOT_UTF8, SMAP_JSON_READING (without a place), SMAP_SCOPES_INDEXED, SMAP_SCOPES_NOT_TEXT
-   * or SMAP_BAD_SCOPES. Of an indexed map read the map of each section, whose ranges count from the section's offset. A byte order mark is
-   * not mended.
+   * of no source. Throws SourceMapError of SMAP_NOT_UTF8, SMAP_JSON_READING (without a place), SMAP_SCOPES_INDEXED, SMAP_SCOPES_NOT_TEXT or
+   * SMAP_BAD_SCOPES. Of an indexed map read the map of each section, whose ranges count from the section's offset. A byte order mark is not
+   * mended.
    *
    * Of a value the text of the scopes alone is looked at. Over WebAssembly the scopes of a large JSON text take as much memory as that,
    * until they are freed.
@@ -223,17 +223,18 @@ export class Scopes {
    *  there is no frame), or that one is the code of none. */
   scopeChainAt(line: number, column: number): readonly ScopeChainEntry[];
   scopeChainAt(position: Position): readonly ScopeChainEntry[];
-  /** The scopes that a frame of the source is in, by its index in `framesAt`: of frame 0 those of `scopeChainAt`, of an inlined call those at
-   *  its place, with the ranges around the inlined body. Null past the last frame, so for frame 0 too where no range contains the position. */
+  /** The scopes that a frame of the source is in, by its index in `framesAt`: for frame 0 those of `scopeChainAt`, for an inlined call
+   *  those at its place, with the ranges around the inlined body. Null past the last frame, so for frame 0 too where no range contains the
+   *  position. */
   scopeChain(frame: number, line: number, column: number): readonly ScopeChainEntry[] | null;
   scopeChain(frame: number, position: Position): readonly ScopeChainEntry[] | null;
-  /** The frames of `framesAt` with the texts of their sources, by the map that has these scopes, which says where the first frame is. Where
-   *  no range contains the position, the frame is that which the map alone knows, without a name. A `map` of another type is a TypeError. */
+  /** The frames of `framesAt` with the texts of their sources, by the map that has these scopes; the map resolves the first frame. Where no
+   *  range contains the position, the frame is the one that the map alone knows, without a name. A `map` of another type is a TypeError. */
   trace(map: SourceMap | CompiledMap, line: number, column: number, bias?: Bias): SourceFrames;
   trace(map: SourceMap | CompiledMap, position: Position & { bias?: Bias | undefined }): SourceFrames;
   /**
-   * What a debugger shows that is paused at a generated position: the frames of `trace`, each with the scopes of `scopeChain`, and so with
-   * the values of variables in it. A frame that the map alone knows has no scopes.
+   * What a debugger shows when it is paused at a generated position: the frames of `trace`, each with the scopes of `scopeChain`, and so
+   * with the values of variables in it. A frame that the map alone knows has no scopes.
    *
    * @example
    * const json = { version: 3, sources: ["a.ts"], names: ["f", "a", "x"], mappings: "AAAA", scopes: "BFAAA,DC,CJA,EGAA,GD,FU" };

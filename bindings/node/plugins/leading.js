@@ -1,6 +1,6 @@
 'use strict';
-// What the plugins for bundlers do: the map of a bundle leads to its modules, some of which were made from other files and have maps
-// themselves; through these it is led back to the files that people wrote.
+// What the plugins for bundlers do: the map of a bundle resolves to its modules, some of which were made from other files and have maps
+// themselves; traced through these it resolves to the files that people wrote.
 
 const { readFileSync } = require('node:fs');
 const { dirname, relative, resolve } = require('node:path');
@@ -35,7 +35,7 @@ function foundMap(file) {
 /** A path as maps have it. */
 const slashed = (path) => path.replaceAll('\\', '/');
 
-/** The map of a module, whose sources are told from a folder; null if it has none. */
+/** The map of a module, whose sources are relative to a folder; null if it has none. */
 function moduleMap(file, folder, mapOf) {
   const given = mapOf?.(file);
   const found = given ? { text: given, from: file } : foundMap(file);
@@ -48,8 +48,8 @@ function moduleMap(file, folder, mapOf) {
 }
 
 /**
- * The map of a bundle, led through the maps of its modules; null if none has any. `fileOf` says which file a source of the bundle is, or
- * null, and `folder` is where the map is, from which its sources are told.
+ * The map of a bundle, traced through the maps of its modules; null if none has any. `fileOf` returns which file a source of the bundle is,
+ * or null. `folder` is where the map is, which its sources are relative to.
  */
 function ledBack(given, folder, { mapOf, fileOf = (source) => resolve(folder, source) } = {}) {
   const bundle = SourceMap.found(given, { keepUnknown: true }).map;

@@ -1,5 +1,5 @@
 'use strict';
-// A plugin for Rollup, and so for Vite: the maps of chunks are led back through the maps of their modules.
+// A plugin for Rollup, and so for Vite: it traces the maps of chunks through the maps of their modules.
 
 const { dirname, resolve } = require('node:path');
 

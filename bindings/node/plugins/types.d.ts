@@ -1,15 +1,15 @@
-/** What the plugins for bundlers may be told. */
+/** The options of the plugins for bundlers. */
 export interface Options {
-  /** The map of a module, as its text or its value, whose sources are told from the folder of the module; null for that which its last
-   *  comment names, or which is beside it. */
+  /** The map of a module, as its text or its value, whose sources are relative to the folder of the module; null for the one that its last
+   *  comment names, or that is beside it. */
   mapOf?(file: string): string | Uint8Array | object | null;
   /** Which file a source of the bundle's map is; null if it is none. */
   fileOf?(source: string): string | null;
 }
 
 /**
- * A plugin for Rollup, and so for Vite, that leads the maps of chunks back through the maps of their modules: each position leads where
- * `SourceMap.remap` says.
+ * A plugin for Rollup, and so for Vite, that traces the maps of chunks through the maps of their modules: each position maps to what
+ * `SourceMap.remap` maps it to.
  *
  * @example
  * export default { input: "app.js", plugins: [junketscarp()], output: { file: "out.js", sourcemap: true } };
@@ -17,7 +17,7 @@ export interface Options {
 export declare function rollup(options?: Options): { name: string; generateBundle(output: any, bundle: any): void };
 
 /**
- * A plugin for esbuild, which follows the comments of modules by itself: this one leads the maps of a build that are files through the
+ * A plugin for esbuild, which follows the comments of modules by itself: this one traces the maps of a build that are files through the
  * maps beside modules, too, or through those that it is given.
  *
  * @example
@@ -26,8 +26,8 @@ export declare function rollup(options?: Options): { name: string; generateBundl
 export declare function esbuild(options?: Options): { name: string; setup(build: any): void };
 
 /**
- * A plugin for webpack 5 that leads the maps of `devtool: "source-map"` back through the maps of their modules. A source such as
- * `webpack://app/./src/a.js` is a file of the context, if `fileOf` does not say another.
+ * A plugin for webpack 5 that traces the maps of `devtool: "source-map"` through the maps of their modules. A source such as
+ * `webpack://app/./src/a.js` is a file of the context, unless `fileOf` returns another.
  *
  * @example
  * module.exports = { devtool: "source-map", plugins: [new JunketscarpPlugin()] };

@@ -1,5 +1,5 @@
 'use strict';
-// A plugin for webpack 5: the maps that `devtool: "source-map"` makes are led back through the maps of their modules.
+// A plugin for webpack 5: it traces the maps that `devtool: "source-map"` makes through the maps of their modules.
 
 const { dirname, resolve } = require('node:path');
 

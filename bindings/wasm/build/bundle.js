@@ -1,7 +1,7 @@
 #!/usr/bin/env node
 // bundle.js MODULE.wasm FOLDER   makes the folder of the package that has the module: the module, what loads it in Node, and the package's
 // own JavaScript as modules of ECMAScript for browsers and other hosts, which know no `require`:
-//   node.js     what native.d.ts says, for lib/native.js: with the module in it, so that bundlers, which follow no paths, can take it in
+//   node.js     the functions of native.d.ts, for lib/native.js: with the module in it, so that bundlers, which follow no paths, can take it in
 //   loader      what it requires, with literal names
 //   load.mjs    load(response, bytes or module) and loadSync, which give what the package exports
 //   index.mjs   the package, which fetches the module beside it

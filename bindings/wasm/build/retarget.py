@@ -29,7 +29,7 @@ INTRINSICS = set(
     "uadd.with.overflow sadd.with.overflow usub.with.overflow ssub.with.overflow umin umax smin smax abs fshl fshr fptoui.sat fptosi.sat "
     "uadd.sat usub.sat sadd.sat ssub.sat lifetime.start lifetime.end vector.reduce.or vector.reduce.and vector.reduce.add".split()
 )
-# Attributes of functions that say nothing of a processor, and those that do and go. The sanitizer's go too.
+# Attributes of functions that concern no processor, and those that do and go. The sanitizer's go too.
 KEPT = set(
     "nounwind cold noreturn nocallback nofree nosync willreturn speculatable nocreateundeforpoison nobuiltin noinline alwaysinline "
     "inlinehint norecurse mustprogress minsize optsize hot noalias readnone readonly builtin".split()

@@ -3,7 +3,7 @@ import { SourceMap, SourceMapError } from './junketscarp/index.mjs';
 
 const element = (id) => document.getElementById(id);
 
-/** What the page says of a position. */
+/** What the page shows for a position. */
 function answer(text, line, column) {
   try {
     const found = new SourceMap(text).trace(line, column);

@@ -1,5 +1,5 @@
 'use strict';
-// Arguments of the types that native.d.ts says. What is of another one throws.
+// Arguments of the types in native.d.ts. Those of another type throw.
 
 const { COMPILED, MAP, SCOPES, Handle } = require('./handles.js');
 const { NOT_TOLD } = require('./layout.js');

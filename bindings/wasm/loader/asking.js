@@ -27,7 +27,7 @@ function fills(host, { instance, at: map }, out, size, run) {
   );
 }
 
-/** The same of a map, or of another handle that `of` takes. */
+/** The same for a map, or for another handle that `of` takes. */
 function lists(host, handle, out, size, run, of = mapOf) {
   const map = of(handle);
   const to = wordsOf(out);

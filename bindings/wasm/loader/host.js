@@ -26,7 +26,7 @@ class Host {
 
   // ---- codes ----
 
-  /** An error that is told by its code alone. */
+  /** An error that has its code alone. */
   told(code) {
     if (code !== 0) this.fault.fill(0).fill(code, 0, 1);
     return code;
@@ -78,7 +78,7 @@ class Host {
     return this.within(() => this.instances.shared(), run);
   }
 
-  /** A map, or what else a call makes in an instance, or the code of the call, which may be given what it lends. */
+  /** A map, or what else a call makes in an instance, or the code of the call, which may borrow things. */
   makes(instanceFor, run, kind = MAP) {
     return this.orNoMemory(() => {
       const instance = instanceFor();

@@ -1,5 +1,5 @@
 'use strict';
-// What bindings/node/lib/native.d.ts says, over the WebAssembly module, in Node, browsers and wherever there is WebAssembly.
+// The functions of bindings/node/lib/native.d.ts over the WebAssembly module, in Node, browsers and wherever there is WebAssembly.
 //
 // Small maps share an instance of the module, so a memory: as many as go into 16 MiB; then another instance begins. One that is freed or
 // collected leaves its place to others, and an instance goes with its last map. The collector takes one whose maps are all dropped also

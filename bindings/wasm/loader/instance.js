@@ -112,7 +112,7 @@ class Instance {
     for (let i = 0; i < count; i++) out[i] = from[begin + i];
   }
 
-  /** The text that a call has lent as an answer. */
+  /** The text that a call has returned, which is borrowed. */
   lentText(by = decoder) {
     return this.text(this.answer(ANSWER.TEXT), this.answer(ANSWER.TEXT + 8), by);
   }

@@ -1,5 +1,5 @@
 'use strict';
-// What a call is lent in the memory of an instance.
+// What a call borrows in the memory of an instance.
 
 const { NoMemory } = require('./instance.js');
 
@@ -40,7 +40,7 @@ class Lender {
   }
 }
 
-/** What `run` gives, over things that are lent to it. */
+/** What `run` returns, over things that it borrows. */
 function lending(instance, run) {
   const lender = new Lender(instance);
   try {

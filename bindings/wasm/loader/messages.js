@@ -1,5 +1,5 @@
 'use strict';
-// Faults and mends in words.
+// Messages of faults and mends.
 
 const { textOf, word, wordsOf } = require('./arguments.js');
 const { Words } = require('./layout.js');
@@ -10,7 +10,7 @@ const REASON = 256;
 
 const stringOr = (said) => (typeof said === 'number' ? '' : said);
 
-/** What a call says of a struct, by its words. */
+/** The message that a call writes of a struct, by its words. */
 const says = (name, size) => (host, given) => {
   const struct = wordsOf(given).slice();
   if (struct.length !== size) throw new TypeError('It is no fault and no mend');

@@ -158,7 +158,7 @@ def by_npx(empty, dist):
 
 
 def by_drop_ins(empty, dist):
-    """Each package for overrides, beside the package that it hands on to; one of them does the job, in the place of another."""
+    """Each package for overrides, beside the package that it re-exports; one of them does the job, in place of another."""
     others = sorted(dist.glob("junketscarp-[a-z]*.tgz"))
     others = [it for it in others if it.suffix == ".tgz"]
     npm_install(empty, next(dist.glob("junketscarp-[0-9]*.tgz")), *others)

@@ -1,4 +1,4 @@
-"""`sourcemap ARGUMENTS`, or `python -m oxc_sourcemap ARGUMENTS`: the program of the wheel, with the template of its pages, in the place of
+"""`sourcemap ARGUMENTS`, or `python -m oxc_sourcemap ARGUMENTS`: runs the program of the wheel, with the template of its pages, in place of
 this process. Without one the status is 1."""
 
 from __future__ import annotations

@@ -1,4 +1,4 @@
-"""`CompiledMap`: bytes that `SourceMap.compile` makes, opened in constant time and looked up where they lie."""
+"""`CompiledMap`: bytes that `SourceMap.compile` makes, opened in constant time and searched in place."""
 
 from __future__ import annotations
 
@@ -47,7 +47,7 @@ _given_back = ctypes.PYFUNCTYPE(None, ctypes.POINTER(_PyBuffer))(("PyBuffer_Rele
 
 
 def _address_of(view: memoryview) -> int:
-    """Where the bytes of a view lie, which stay there as long as it is not released. (ctypes tells it of writable ones alone.)"""
+    """Where the bytes of a view lie, which stay there as long as it is not released. (ctypes reports it only for writable ones.)"""
     buffer = _PyBuffer()
     try:
         _got(view, byref(buffer), 0)
@@ -69,14 +69,14 @@ def _view_of(buffer: Buffer) -> memoryview:
 
 @final
 class CompiledMap(Handle):
-    """A compiled map, in a buffer that it lies in: bytes, a memoryview, an mmap, shared memory. It takes some hundred bytes beside
-    them, and nothing is copied but what a call returns. Threads may share one, as a `SourceMap`.
+    """A compiled map, searched in its buffer: bytes, a memoryview, an mmap, shared memory. It takes some hundred bytes more, and copies
+    nothing but what a call returns. Threads may share one, as a `SourceMap`.
 
     Until it is closed (by `close`, a `with` or the collector) the buffer cannot be resized or closed; its bytes must not be changed.
 
-    Any bytes may be opened. Of such that `SourceMap.compile` did not make, a lookup finds some token of the line, or none, and a text
-    that is not UTF-8 counts as None: a token whose source is none has no source. `names`, `sources` and `source_contents` raise ValueError
-    if texts overlap so far that all are longer than the bytes.
+    Any bytes may be opened. In bytes that `SourceMap.compile` did not make, a lookup finds some token of the line, or none, and a text that
+    is not UTF-8 counts as None: a token whose source is none has no source. `names`, `sources` and `source_contents` raise ValueError if
+    texts overlap so far that all are longer than the bytes.
 
     Raises SourceMapError of NOT_COMPILED, COMPILED_VERSION, COMPILED_LENGTH or COMPILED_SIZES, and ValueError if the buffer is not
     contiguous.
@@ -105,8 +105,8 @@ class CompiledMap(Handle):
     def open_file(path: StrPath) -> CompiledMap:
         """Opens a file, which the system maps into memory: processes that open one file share it. It keeps a descriptor of the file.
 
-        The file must not be changed or cut meanwhile, since that may end the process: rename a new one over it. Raises OSError, also of
-        what is no plain file, as a pipe.
+        The file must not be changed or truncated meanwhile, since that may end the process: rename a new one over it. Raises OSError, also
+        for what is no plain file, such as a pipe.
 
         >>> import os, tempfile
         >>> with tempfile.TemporaryDirectory() as folder:
@@ -138,7 +138,7 @@ class CompiledMap(Handle):
             raise
 
     def close(self) -> None:
-        """Closes the map, if it is not closed yet, and lets go of the buffer. All other calls then raise ValueError.
+        """Closes the map, if it is not closed yet, and releases the buffer. All other calls then raise ValueError.
 
         >>> data = bytearray(SourceMap.from_tokens([]).compile())
         >>> map = CompiledMap(data)
@@ -161,7 +161,7 @@ class CompiledMap(Handle):
     # ---- lookups ----
 
     def trace(self, line: int, column: int, bias: int = Bias.BEFORE) -> Optional[Original]:
-        """What the map says of a generated position, as `SourceMap.trace`. Raises SourceMapError of BAD_OPTION.
+        """Traces a generated position, as `SourceMap.trace` does. Raises SourceMapError of BAD_OPTION.
 
         >>> map = CompiledMap(SourceMap.from_tokens([Token(0, 4, 2, 1, 0, None)], sources=["a.ts"]).compile())
         >>> map.trace(0, 9)[:3]
@@ -187,7 +187,7 @@ class CompiledMap(Handle):
         return self._read(read)
 
     def trace_all(self, positions: Positions, bias: int = Bias.BEFORE) -> list[Optional[Original]]:
-        """The same of many positions, as `SourceMap.trace_all`.
+        """The same for many positions, as `SourceMap.trace_all`.
 
         >>> map = CompiledMap(SourceMap.from_tokens([Token(0, 4, 2, 1, 0, None)], sources=["a.ts"]).compile())
         >>> [found and found.source for found in map.trace_all([(0, 9), (7, 0)])]
@@ -378,7 +378,7 @@ class CompiledMap(Handle):
 
     @property
     def text_length(self) -> int:
-        """The number of bytes of the map's text, as `SourceMap.compile` was told.
+        """The number of bytes of the map's text that `SourceMap.compile` was given.
 
         >>> CompiledMap(SourceMap.from_tokens([]).compile(text_length=700)).text_length
         700
@@ -404,8 +404,8 @@ class CompiledMap(Handle):
 
     def decompile(self) -> Optional[SourceMap]:
         """The map that was compiled. None if a text is not UTF-8, or, only in bytes that `SourceMap.compile` did not make, the tokens
-        of a line or the bytes of a text begin before those of the one in front, or the last ones end before they begin. A map of such
-        bytes may be unsorted.
+        of a line or the bytes of a text begin before those of the previous one, or the last ones end before they begin. A map of such bytes
+        may be unsorted.
 
         >>> CompiledMap(SourceMap.from_tokens([], sources=["a.ts"]).compile()).decompile().to_json()
         '{"version":3,"names":[],"sources":["a.ts"],"mappings":""}'
@@ -425,7 +425,7 @@ def _counts_in(at: int) -> _library.CompiledCounts:
 
 
 def _checked(text: _library.Text) -> Optional[str]:
-    """A copy of a text that a compiled map lends, which may be any bytes; None if they are not UTF-8."""
+    """A copy of a text of a compiled map, which may be any bytes; None if they are not UTF-8."""
     try:
         return ctypes.string_at(text.at or 0, text.len).decode() if text.len else ""
     except UnicodeDecodeError:
@@ -450,7 +450,7 @@ def _originals(address: int, count: int) -> list[Optional[Original]]:
 
 
 def _original_of(found: _library.Original) -> Optional[Original]:
-    """The same of one, whose texts may be any bytes."""
+    """The same for one, whose texts may be any bytes."""
     if found.kind == Kind.NOTHING:
         return None
     token = token_of(found.token)

@@ -71,7 +71,7 @@ _Opened = tuple[Held, os.stat_result]
 
 
 class MapText:
-    """The text of a map that a store has: its name, what the system says of its file (None if it is not one, or changes), and its bytes,
+    """The text of a map that a store has: its name, the system's record of its file (None if it is not one, or changes), and its bytes,
     which are read when they are first asked for."""
 
     def __init__(self, name: str, read: Union[bytes, Callable[[], bytes]], status: Optional[os.stat_result] = None) -> None:
@@ -100,7 +100,7 @@ class Compiler:
         return os.path.join(self._cache, hashlib.sha256(f"{self._store_name}\0{name}".encode()).hexdigest()[:40] + ENDING)
 
     def _beside_path(self, name: str) -> Optional[str]:
-        """The file beside a map; None if a link leads out of the folder."""
+        """The file beside a map; None if a link resolves outside of the folder."""
         try:
             return self._folder.path_of(name + ENDING) if self._folder else None
         except (RefusedError, OSError):
@@ -126,7 +126,7 @@ class Compiler:
             yield beside, self._writes_beside, False
 
     def _opened(self, path: str, name: str) -> Optional[_Opened]:
-        """A compiled map, and what the system said of its file before: of one that is put in its place meanwhile the time is not told."""
+        """A compiled map, and the system's record of its file before: the time is not that of a file that replaces it meanwhile."""
         try:
             status = os.stat(path)
             return Held(name, CompiledMap.open_file(path), status.st_size), status

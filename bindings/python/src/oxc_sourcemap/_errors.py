@@ -10,7 +10,7 @@ from ._values import Code, FaultPlace, Field, PlaceKind, ScopesFault, message_of
 
 
 class SourceMapError(ValueError):
-    """A call that was refused. What it was given, it left as it was.
+    """A call that was refused. It left its arguments unchanged.
 
     >>> from oxc_sourcemap import SourceMap
     >>> try:
@@ -25,7 +25,7 @@ class SourceMapError(ValueError):
     name: str
     """The name of the code in oxc_sourcemap.h."""
     message: str
-    """What `str` says: the error as words."""
+    """The text of `str`: the error as a message."""
     field: Union[Field, ScopesFault, int, None]
     """The member that is missing or has the wrong type, of Code.JSON_SHAPE; what is wrong, of Code.BAD_SCOPES."""
     detail: int
@@ -101,6 +101,6 @@ def check(code: int, fault: _library.Fault) -> None:
 
 
 def check_code(code: int) -> None:
-    """The same of a call that reports its code alone."""
+    """The same for a call that reports its code alone."""
     if code:
         raise error_of(_library.Fault(code))

@@ -44,7 +44,7 @@ def outside(url: str) -> MissingError:
 
 
 class Finder:
-    """What finds maps. Each error is a MissingError, but for want of memory."""
+    """What finds maps. Each error is a MissingError, except lack of memory."""
 
     def __init__(self, store: Store, bases: Bases, compiler: Compiler, limits: tuple[int, int], ways: tuple[bool, str]) -> None:
         self._store, self._bases, self._compiler = store, bases, compiler

@@ -31,17 +31,17 @@ class Lease:
 
 
 class Handle:
-    """A map by its address, which calls lend to each other: many that read it, or one that changes it."""
+    """A map by its address, which calls borrow: many that read it, or one that changes it."""
 
     # The address of the map, null once it is freed. For each thread the lease that it may take, with the address, and that which
-    # calls of it may have. The lock for lending and changes (what interrupts who has it has it too), and whether the map is
-    # being changed.
+    # calls of it may have. The lock for borrowing and changes (what interrupts who has it has it too), and whether the map is being
+    # changed.
     _at: ctypes.c_void_p
     _leases: dict[int, tuple[int, Lease]]
     _held: dict[int, weakref.ref[Lease]]
     _lock: threading.RLock
     _is_changed = False
-    # How errors begin that say what it is.
+    # How errors begin that name it.
     _it_is: ClassVar[str] = "The map is"
 
     @classmethod
@@ -53,7 +53,7 @@ class Handle:
         return made
 
     def _read(self, call: Callable[[int], T]) -> T:
-        """What a call says that gets the address of the map, which nobody changes meanwhile."""
+        """The result of a call that gets the address of the map, which nobody changes meanwhile."""
         held = None
         try:
             held = self._leases.get(get_ident()) or self._lent()
@@ -73,7 +73,7 @@ class Handle:
 
     @staticmethod
     def _read_all(maps: Sequence[Handle], call: Callable[[list[int]], T]) -> T:
-        """What a call says that gets the addresses of several maps. While one of them is waited for, no other is held."""
+        """The result of a call that gets the addresses of several maps. While one of them is waited for, no other is held."""
         thread, held = get_ident(), list[Optional[tuple[int, Lease]]]()
         while True:
             try:
@@ -130,7 +130,7 @@ class Handle:
         raise ValueError(f"{self._it_is} closed")
 
     def _exclusively(self, call: Callable[[int], T], closes: bool = False) -> T:
-        """What a call says that gets the address of the map while nobody else has it."""
+        """The result of a call that gets the address of the map while nobody else has it."""
         # (before the lock is waited for, since who has it may wait for the lease of this thread)
         thread = get_ident()
         self._leases.pop(thread, None)
@@ -201,6 +201,6 @@ class Handle:
 
 
 def _watch(held: weakref.ref[Lease], gone: threading.Event) -> Optional[weakref.ref[Lease]]:
-    """Tells by an event when a lease is not held any more; None if it is not now."""
+    """Reports by an event when a lease is not held any more; None if it is not now."""
     lease = held()
     return None if lease is None else weakref.ref(lease, lambda _: gone.set())

@@ -1,4 +1,4 @@
-"""`Lookups`: what a map says of positions."""
+"""`Lookups`: how a map traces positions."""
 
 from __future__ import annotations
 
@@ -35,11 +35,10 @@ class Lookups(Handle):
     """Lookups by generated and by original positions."""
 
     def trace(self, line: int, column: int, bias: int = Bias.BEFORE) -> Optional[Original]:
-        """What the map says of a generated position: the token that answers for it by this bias, and where it points; None if
-        there is none.
+        """Traces a generated position: the token that answers for it by this bias, and where it points; None if there is none.
 
-        Raises SourceMapError of BAD_OPTION, or of LINE_ORDER if the tokens are not in order of lines, as they may be after a join.
-        Of other maps that are not sorted (`is_sorted`) nothing is promised but that there is an answer.
+        Raises SourceMapError of BAD_OPTION, or of LINE_ORDER if the tokens are not in order of lines, as can happen after a join. For other
+        unsorted maps (`is_sorted`) only this is promised: there is an answer.
 
         >>> map = SourceMap.from_tokens([Token(0, 4, 2, 1, 0, None)], sources=["a.ts"])
         >>> found = map.trace(0, 9)
@@ -63,8 +62,8 @@ class Lookups(Handle):
         return self._read(read)
 
     def trace_all(self, positions: Positions, bias: int = Bias.BEFORE) -> list[Optional[Original]]:
-        """What `trace` says of many positions, in any order, by one call of the library. Positions are pairs of line and column, or
-        a buffer of unsigned 32-bit numbers, two for each. Fails as `trace` does, also for no position.
+        """What `trace` returns for each of many positions, in any order, by one call of the library. Positions are pairs of line and
+        column, or a buffer of unsigned 32-bit numbers, two for each. Fails as `trace` does, even without positions.
 
         >>> map = SourceMap.from_tokens([Token(0, 4, 2, 1, 0, None)], sources=["a.ts"])
         >>> [found and found.source for found in map.trace_all([(0, 9), (7, 0)])]
@@ -124,14 +123,14 @@ class Lookups(Handle):
 
     def index_sources(self) -> None:
         """Makes the index by original positions, which `generated` and `all_generated` need, if the map has none. It takes 4 bytes
-        a token. A call that sets the tokens, as `sort`, takes it away. Raises SourceMapError of TOO_LARGE.
+        a token. A call that sets the tokens, such as `sort`, drops it. Raises SourceMapError of TOO_LARGE.
 
         >>> SourceMap.from_tokens([]).index_sources()
         """
         self._change(lib.smap_index_sources)
 
     def generated(self, source_id: int, line: int, column: int, direction: int = Direction.AT) -> Optional[Generated]:
-        """Of the tokens that answer for an original position the first in the order of the map; None if there is none.
+        """The first token in the order of the map that answers for an original position; None if there is none.
 
         Raises SourceMapError of BAD_OPTION, or of NO_INDEX without `index_sources`.
 

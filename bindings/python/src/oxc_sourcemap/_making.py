@@ -32,7 +32,7 @@ class _Maker:
         check(type(self)._new(byref(self._at), byref(fault)), fault)
 
     def _coded(self, call: Callable[..., T], *arguments: Any) -> T:
-        """What a call says, which gets the handle and these."""
+        """The result of a call, which gets the handle and these."""
         with self._lock:
             self._check_unused()
             self._is_used = True
@@ -54,7 +54,7 @@ class _Maker:
         check(self._coded(call, *arguments, byref(fault)), fault)
 
     def finish(self) -> SourceMap:
-        """Makes the map. What made it is then as a new one.
+        """Makes the map. What made it is then empty, like a new one.
 
         >>> from oxc_sourcemap import SourceMapBuilder
         >>> with SourceMapBuilder() as builder:
@@ -151,8 +151,8 @@ class SourceMapBuilder(_Maker):
         return self._added(lib.smap_builder_add_source_and_content, path=path, content=content)
 
     def add_token(self, token: Token) -> None:
-        """Appends a token. Add tokens in the order of their generated positions: else the map is not sorted, and may not be
-        written. Ids are not compared with what was added.
+        """Appends a token. Add tokens in the order of their generated positions: otherwise the map is unsorted, and writing it may fail.
+        Ids are not compared with what was added.
 
         >>> SourceMapBuilder().add_token(Token(0, 4, 0, 4, None, None))
         """

@@ -45,11 +45,11 @@ class SourceMap(Contents, Lookups):
 
     Threads may share a map: one that changes or closes it waits for those that read it, and they for it. What interrupts a call on
     a map in its own thread (a handler of a signal, a finalizer, `__index__` of a number) may read that map if the call does; where
-    it would wait for that call, it raises RuntimeError. A map that is closed raises ValueError. A call that fails leaves all that
-    it was given as it was, and one that is interrupted has done all of its work or none; want of memory is MemoryError. Do not use
-    maps in a child that a process with several threads has forked.
+    it would wait for that call, it raises RuntimeError. A map that is closed raises ValueError. A call that fails leaves its arguments
+    unchanged, and one that is interrupted has done all of its work or none; lack of memory is MemoryError. Do not use maps in a child that
+    a process with several threads has forked.
 
-    As a collection a map is that of its tokens, but it is true also without any.
+    As a collection a map contains its tokens, but it is true even without any.
 
     >>> with SourceMap.from_json('{"version":3,"sources":["a.ts"],"names":["f"],"mappings":"AAEA,IAAIA"}') as map:
     ...     len(map), map.sources, map.trace(0, 5)[:4]
@@ -77,10 +77,10 @@ class SourceMap(Contents, Lookups):
 
     @staticmethod
     def read_found(text: Text) -> Found:
-        """Reads a map as it is found, and tells what was mended in it, as a byte order mark, null sources, or ids out of range.
+        """Reads a map as it is found, and reports what it mended, such as a byte order mark, null sources, or ids out of range.
 
-        The map is sorted and sound. A text that `from_json` reads as a sorted map is read as this map, with nothing to mend.
-        Raises SourceMapError of the first fault that is not mended, with its place if it has one (smap_read_found in oxc_sourcemap.h).
+        The map is sorted and sound. A text that `from_json` reads as a sorted map gives the same map, without mends. Raises SourceMapError
+        of the first fault that is not mended, with its place if it has one (smap_read_found in oxc_sourcemap.h).
 
         >>> map, mends = SourceMap.read_found('{"version":"3","sources":[null],"mappings":"AAAA"}')
         >>> [mend.message for mend in mends]
@@ -102,9 +102,8 @@ class SourceMap(Contents, Lookups):
         source_contents: Iterable[Optional[Text]] = (),
         ignore_list: Ids = (),
     ) -> SourceMap:
-        """Makes a map of whole lists. There may be fewer contents than sources, and one that is None is not known. An ignore list
-        that is empty is none. Tokens are `Token`, or a buffer of unsigned 32-bit numbers, six for each, where NO_ID stands for no
-        id.
+        """Makes a map of whole lists. There may be fewer contents than sources, and None is an unknown one. An empty ignore list is none.
+        Tokens are `Token`, or a buffer of unsigned 32-bit numbers, six for each, where NO_ID stands for no id.
 
         Raises SourceMapError of BAD_SOURCE_REFERENCE or BAD_NAME_REFERENCE if an id is out of range, or of TOO_LARGE if a list is
         too long.
@@ -120,8 +119,8 @@ class SourceMap(Contents, Lookups):
 
     @staticmethod
     def decode_mappings(mappings: Text, names: int, sources: int) -> SourceMap:
-        """Reads a `mappings` text alone, whose ids are to be below these numbers of names and sources. The map has its tokens, and
-        no names and no sources. Raises SourceMapError of a fault of the mappings, as `from_json` does.
+        """Reads a `mappings` text alone, whose ids have to be below these numbers of names and sources. The map has its tokens, and no
+        names and no sources. Raises SourceMapError of a fault of the mappings, as `from_json` does.
 
         >>> SourceMap.decode_mappings("AAAA;C", names=0, sources=1).tokens()[1]
         Token(dst_line=1, dst_col=1, src_line=0, src_col=0, source_id=None, name_id=None)
@@ -155,7 +154,7 @@ class SourceMap(Contents, Lookups):
         drops what lookups do not need, `join N` joins N times `P LINE`, `joinat N` N times `P LINE COLUMN`, `compose P P` composes,
         `remap P N` remaps by N times `PATH P`.
 
-        Raises SourceMapError of WORDS, NO_TEXT, TOO_DEEP, or of the first step that fails; that of a text has its number.
+        Raises SourceMapError of WORDS, NO_TEXT, TOO_DEEP, or of the first step that fails; the error of a text has the number of the text.
 
         >>> text = '{"version":3,"sources":["a.ts"],"mappings":"AAAA"}'
         >>> SourceMap.evaluate("join 2 @0 0 @0 5", [text]).sources
@@ -253,7 +252,7 @@ class SourceMap(Contents, Lookups):
         self._change(lib.smap_set_source_contents, texts.words, texts.count)
 
     def apply_source_root(self) -> None:
-        """Puts the source root before each source, and takes it away.
+        """Puts the source root before each source, and removes it from the map.
 
         >>> map = SourceMap.from_json('{"version":3,"sourceRoot":"src","sources":["a.ts"],"mappings":""}')
         >>> map.apply_source_root()
@@ -287,8 +286,8 @@ class SourceMap(Contents, Lookups):
     # ---- two maps, and more ----
 
     def first_difference(self, other: SourceMap) -> Optional[Position]:
-        """The first generated position at which two maps say different things, by texts and not by ids; None if there is none. Of
-        maps that are not sorted nothing is promised but that there is an answer.
+        """The first generated position that two maps trace differently, by texts and not by ids; None if there is none. For unsorted maps
+        only this is promised: there is an answer.
 
         >>> map = SourceMap.from_tokens([Token(0, 4, 2, 1, None, None)])
         >>> map.first_difference(SourceMap.from_tokens([]))
@@ -314,8 +313,8 @@ class SourceMap(Contents, Lookups):
         return SourceMap._made(lambda *out: SourceMap._read_all(maps, lambda at: lib.smap_compose(*at, *out)))
 
     def remap(self, inputs: Union[Mapping[str, SourceMap], Iterable[tuple[Text, SourceMap]]]) -> SourceMap:
-        """Leads this map through the maps of its sources: inputs has a path of a source and its map, of equal paths the first
-        counts. Source roots are dropped: `apply_source_root`, called before, keeps them. Raises SourceMapError of INPUT_LINE_ORDER or TOO_LARGE.
+        """Traces this map through the maps of its sources: inputs pairs the path of a source with its map; of equal paths the first counts.
+        Source roots are dropped: `apply_source_root`, called before, keeps them. Raises SourceMapError of INPUT_LINE_ORDER or TOO_LARGE.
 
         >>> bundle = SourceMap.from_tokens([Token(0, 4, 2, 0, 0, None)], sources=["a.js", "b.js"])
         >>> compiled = SourceMap.from_tokens([Token(2, 0, 7, 1, 0, None)], sources=["a.ts"])
@@ -367,9 +366,10 @@ class SourceMap(Contents, Lookups):
         return self._written_within(lib.smap_get_mappings, lib.smap_get_mappings_within, limit)
 
     def compile(self, text_length: int = 0, stamp: Buffer = bytes(32)) -> bytes:
-        """The bytes of the compiled map, which `CompiledMap` opens. They mean the map, with a content for each source, known or not, and
-        none past the last. `text_length` is the number of bytes of the map's text, and the stamp 32 bytes that are kept, as the SHA-256
-        of that text: with both, a file X.map.smc beside X.map is as `sourcemap compile` writes it, and `sourcemap resolve` reads it.
+        """The bytes of the compiled map, which `CompiledMap` opens. They represent the map, with a content for each source, known or not,
+        and none past the last. `text_length` is the number of bytes of the map's text, and the stamp 32 bytes that are stored, such as the
+        SHA-256 of that text: with both, a file X.map.smc beside X.map is as `sourcemap compile` writes it, and `sourcemap resolve` reads
+        it.
 
         Raises SourceMapError of UNSORTED or TOO_LARGE.
 

@@ -199,12 +199,12 @@ def addresses_of(addresses: Iterable[int]) -> array[int]:
 
 
 def text_at(at: Optional[int], length: int) -> str:
-    """A copy of a text that the library lends."""
+    """A copy of a text of the library."""
     return ctypes.string_at(at or 0, length).decode() if length else ""
 
 
 def texts_of(words: array[int]) -> list[Optional[str]]:
-    """Copies of texts that the library lends, by their addresses and lengths; None for one that is not known."""
+    """Copies of texts of the library, by their addresses and lengths; None for an unknown one."""
     return [text_at(at, length) if at else None for at, length in zip(words[::2], words[1::2])]
 
 
@@ -229,7 +229,7 @@ def zeros(typecode: str, count: int) -> array[int]:
 
 def listed_or_none(call: Callable[..., int], typecode: str, width: int) -> Optional[array[int]]:
     """What a call gives as a list, with so many numbers for each entry. It gets an address, how many fit, and where it counts; None
-    where it says that there is no list."""
+    where it reports that there is no list."""
     count = ctypes.c_size_t()
     code = call(None, 0, ctypes.byref(count))
     if code == Code.NO_ENTRY:
@@ -241,11 +241,11 @@ def listed_or_none(call: Callable[..., int], typecode: str, width: int) -> Optio
 
 
 def listed(call: Callable[..., int], typecode: str, width: int) -> array[int]:
-    """The same of a call that always gives one."""
+    """The same for a call that always gives one."""
     found = listed_or_none(call, typecode, width)
     return zeros(typecode, 0) if found is None else found
 
 
 def listed_texts(call: Callable[..., int]) -> list[Optional[str]]:
-    """The same of texts."""
+    """The same for texts."""
     return texts_of(listed(call, _WORD, 2))

@@ -18,7 +18,7 @@ def bind(call: int, compiled: int, original: type[Original], token: type[Token])
 
 
 def original_of(found: _library.Original) -> Optional[Original]:
-    """What a lookup found; the map that lends its texts is not changed meanwhile."""
+    """What a lookup found; the map whose texts it borrows is not changed meanwhile."""
     kind, token = found.kind, found.token
     if kind == Kind.NOTHING:
         return None

@@ -57,8 +57,8 @@ class Scopes(Handle):
 
     @staticmethod
     def read(json: Text) -> Scopes:
-        """Reads the scopes of a map by its JSON text, of which nothing else is checked. A map without the member, or with null, has the
-        scopes of no source.
+        """Reads the scopes of a map by its JSON text, and checks nothing else of it. A map without the member, or with null, has the scopes
+        of no source.
 
         Raises SourceMapError of NOT_UTF8, JSON_READING (without a place), SCOPES_INDEXED, SCOPES_NOT_TEXT or BAD_SCOPES. Of the last `field` is a
         `ScopesFault`, and `detail` the byte of the member at which the item at fault begins.
@@ -253,7 +253,7 @@ class Scopes(Handle):
     ) -> list[ScopeChainEntry]:
         """The scopes that a position of the generated code is in, from the inside out, with their variables, whose texts are those of the
         map: the scope that the innermost range is the code of, and those around it. An empty list where no range contains the position
-        (there `scope_chain` answers None, as there is no frame), or that one is the code of no scope. A `map` of another type raises
+        (there `scope_chain` returns None, as there is no frame), or that one is the code of no scope. A `map` of another type raises
         TypeError.
 
         >>> json = '{"version":3,"sources":["a.js"],"names":["f","a","x"],"mappings":"AAAA","scopes":"BFAAA,DC,CJA,EGAA,GD,FU"}'
@@ -266,8 +266,8 @@ class Scopes(Handle):
     def scope_chain(
         self, frame: int, line: int, column: int, map: Union[SourceMap, CompiledMap, None] = None
     ) -> Optional[list[ScopeChainEntry]]:
-        """The scopes that a frame of the source is in, by its index in `frames_at`, from the inside out, with their variables: of frame 0
-        those of `scope_chain_at`, of an inlined call those at its place, with the ranges around the inlined body. None past the last
+        """The scopes that a frame of the source is in, by its index in `frames_at`, from the inside out, with their variables: for frame 0
+        those of `scope_chain_at`, for an inlined call those at its place, with the ranges around the inlined body. None past the last
         frame, so for frame 0 too where no range contains the position. A `map` of another type raises TypeError.
 
         >>> scopes = Scopes.decode("BFAAA,BFCAC,CCA,CFA,EGAA,ECKC,IAFC,FK,FU", names=2)
@@ -280,7 +280,7 @@ class Scopes(Handle):
     def _chain(
         self, call: Callable[..., int], place: tuple[int, int], map: Union[SourceMap, CompiledMap, None]
     ) -> Optional[list[ScopeChainEntry]]:
-        """The chain that a call gives, or None if it says that there is none."""
+        """The chain that a call returns, or None if it reports that there is none."""
         if map is not None:
             _check_map(map)
 
@@ -301,10 +301,9 @@ class Scopes(Handle):
     def trace(
         self, map: Union[SourceMap, CompiledMap], line: int, column: int, bias: int = Bias.BEFORE
     ) -> list[SourceFrame]:
-        """The frames of `frames_at`, from the inside out, with the texts of the map that has these scopes, which says where the first
-        frame is. An empty list where the frame is that of a helper (`is_hidden` of `frames_at`), and where neither ranges nor the map know
-        the position; where no range contains it, the place that the map alone knows, without a name. A `map` of another type raises
-        TypeError.
+        """The frames of `frames_at`, from the inside out, with the texts of the map that has these scopes; the map resolves the first
+        frame. An empty list where the frame is that of a helper (`is_hidden` of `frames_at`), and where neither ranges nor the map know the
+        position; where no range contains it, the place that the map alone knows, without a name. A `map` of another type raises TypeError.
 
         >>> json = '{"version":3,"sources":["a.js"],"names":["f"],"mappings":"AAAA","scopes":"BFAAA,CJA,EGAA,FK"}'
         >>> Scopes.read(json).trace(SourceMap.from_json(json), 0, 4)
@@ -327,9 +326,9 @@ class Scopes(Handle):
     def view(
         self, map: Union[SourceMap, CompiledMap], line: int, column: int, bias: int = Bias.BEFORE
     ) -> list[FrameView]:
-        """What a debugger shows that is paused at a position of the generated code: the frames of `trace`, each with the scopes of
-        `scope_chain`, and so with the values of variables in it. A frame that the map alone knows has no scopes. A `map` of another
-        type raises TypeError.
+        """What a debugger shows when it is paused at a position of the generated code: the frames of `trace`, each with the scopes of
+        `scope_chain`, and so with the values of variables in it. A frame that the map alone knows has no scopes. A `map` of another type
+        raises TypeError.
 
         >>> json = '{"version":3,"sources":["a.js"],"names":["f","a","x"],"mappings":"AAAA","scopes":"BFAAA,DC,CJA,EGAA,GD,FU"}'
         >>> for frame in Scopes.read(json).view(SourceMap.from_json(json), 0, 4):

@@ -24,7 +24,7 @@ _ODD = re.compile(r"[\x00-\x1f\x7f/\\]")
 
 
 class RefusedError(ValueError):
-    """A name that leads out of a store, or that no store has: with a part `..`, a control character, a slash in a part, a link out.
+    """A name that resolves outside of a store, or that no store has: with a part `..`, a control character, a slash in a part, a link out.
 
     >>> check_name("../a.js")
     Traceback (most recent call last):
@@ -92,7 +92,7 @@ def check_name(name: str) -> str:
 
 
 def decoded(part: str) -> str:
-    """A part of the path of a URL without its escapes. Raises RefusedError if they are no UTF-8.
+    """A part of the path of a URL without its escapes. Raises RefusedError if they are not UTF-8.
 
     >>> decoded("my%20app.js")
     'my app.js'
@@ -162,15 +162,15 @@ class Bases:
 
 
 class Opened(NamedTuple):
-    """A file that is open, and what the system says of it."""
+    """An open file, and the system's record of it."""
 
     file: int
     status: os.stat_result
 
 
 class Folder:
-    """A folder as a store. What leads out of it is refused: a name that climbs, and a link, of the file or of a folder above it. Nobody
-    else may change links in it meanwhile. Raises OSError if it is not there.
+    """A folder as a store. It refuses names that resolve outside of it: by `..`, or by a link of the file or of a folder above it. Nobody
+    else may change links in it meanwhile. Raises OSError if it does not exist.
 
     >>> import tempfile
     >>> with tempfile.TemporaryDirectory() as path:
@@ -195,7 +195,7 @@ class Folder:
         return self._inside(os.path.join(self.path, *check_name(name).split("/")), name)
 
     def place_of(self, name: str) -> str:
-        """The same of a name that is not followed itself if it is a link, but its folder is.
+        """The same for a name that is not followed itself if it is a link, but its folder is.
 
         >>> Folder("/").place_of("a.js.map")
         '/a.js.map'
@@ -210,7 +210,7 @@ class Folder:
         return found
 
     def open(self, name: str) -> Optional[Opened]:
-        """A plain file, opened; None if there is none. Who calls closes it. Raises RefusedError, and OSError.
+        """A plain file, opened; None if there is none. The caller closes it. Raises RefusedError, and OSError.
 
         >>> print(Folder("/srv").open("no.js"))
         None
@@ -243,7 +243,7 @@ class Folder:
 
 
 def read_within(opened: Opened, name: str, limit: Optional[int]) -> bytes:
-    """All bytes of a file, from its begin, which are no more than the limit."""
+    """All bytes of a file, from its beginning, which are no more than the limit."""
     if limit is not None and opened.status.st_size > limit:
         raise TooLargeError(name, opened.status.st_size, limit)
     with os.fdopen(opened.file, "rb", closefd=False) as file:

@@ -11,7 +11,7 @@ from typing import Generic, Protocol, TypeVar
 
 
 class Sized(Protocol):
-    """What says of how many bytes it is."""
+    """What has a size in bytes."""
 
     @property
     def size(self) -> int:

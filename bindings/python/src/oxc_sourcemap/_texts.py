@@ -15,7 +15,7 @@ from ._values import Code, Language, Text
 
 
 def written_bytes(call: Callable[..., int]) -> Optional[bytes]:
-    """The bytes that a call makes, which gets where it puts the string and the fault; None where it says that there are none."""
+    """The bytes that a call makes, which gets where to put the string and the fault; None where it reports that there are none."""
     string, fault, text = ctypes.c_void_p(), _library.Fault(), _library.Text()
     try:
         code = call(byref(string), byref(fault))
@@ -35,7 +35,7 @@ def written_or_none(call: Callable[..., int]) -> Optional[str]:
 
 
 def written(call: Callable[..., int]) -> str:
-    """The same of a call that always makes one."""
+    """The same for a call that always makes one."""
     return written_or_none(call) or ""
 
 

@@ -1,4 +1,4 @@
-"""What goes into calls and comes out of them: constants, and tuples with named fields."""
+"""What calls take and return: constants, and tuples with named fields."""
 
 from __future__ import annotations
 
@@ -94,12 +94,10 @@ class ScopesFault(IntEnum):
     CUT_SHORT: its last number ends in a digit after which another has to follow.
     TOO_LARGE: a number has more than seven digits, or with it a line, a column or a source is above its limit.
     MISSING_NUMBER: it is empty, or lacks a number.
-    BAD_INDEX: an index leads to no name, scope or value.
-    NOTHING_OPEN: it is an end, variables, values, sub-ranges or a call site, and nothing that it could belong to is open.
-    NOT_CLOSED: a source without scopes comes within the scopes of another.
-    TOO_DEEP: more than 1024 scopes or ranges are nested.
-    LEFT_OPEN: the text ends, and a scope or a range has no end.
-    SPLIT_TWICE: it is sub-ranges of a value that has some already.
+    BAD_INDEX: an index refers to no name, scope or value. NOTHING_OPEN: it is an end, variables, values, sub-ranges or a call site, and
+    nothing that it could belong to is open. NOT_CLOSED: a source without scopes comes within the scopes of another. TOO_DEEP: more than
+    1024 scopes or ranges are nested. LEFT_OPEN: the text ends, and a scope or a range has no end. SPLIT_TWICE: it is sub-ranges of a value
+    that has some already.
     """
 
     NOT_A_DIGIT = 1
@@ -314,8 +312,8 @@ class Call(NamedTuple):
 
 class Range(NamedTuple):
     """A range of the generated code, from `start` up to but not including `end`, and the index of the scope that it is the code of. If
-    a function was inlined here, `call` is where it was called. What is hidden has no frame in the source, as a helper. `parent` is the
-    index of the innermost range around it."""
+    a function was inlined here, `call` is where it was called. A hidden range, such as a helper, has no frame in the source. `parent` is
+    the index of the innermost range around it."""
 
     start: Position
     end: Position
@@ -328,7 +326,7 @@ class Range(NamedTuple):
 
 class ScopeFrame(NamedTuple):
     """A frame of a stack trace in the source: the id of the name of its function, the index of the scope that is the function, and the
-    call of an inlined function where the frame is; `call` is None for the first frame, which is where `SourceMap.trace` leads."""
+    call of an inlined function where the frame is; `call` is None for the first frame, which is at the position of `SourceMap.trace`."""
 
     name_id: Optional[int]
     scope: Optional[int]
@@ -363,9 +361,9 @@ class ScopeChainEntry(NamedTuple):
 
 
 class SourceFrame(NamedTuple):
-    """A frame of a stack trace in the source, with the texts of its map: of the first frame the place to which `SourceMap.trace` leads,
-    or None three times if it leads to none; of any other that of the call, whose source is None if the map lacks it. `name` is None if
-    the function has none, or the map lacks it."""
+    """A frame of a stack trace in the source, with the texts of its map: for the first frame the position that `SourceMap.trace` returns,
+    or None three times if there is none; for any other that of the call, whose source is None if the map lacks it. `name` is None if the
+    function has none, or the map lacks it."""
 
     source: Optional[str]
     line: Optional[int]

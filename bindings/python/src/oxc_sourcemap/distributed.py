@@ -1,8 +1,8 @@
-"""The resolver on several machines, by an engine that is there: a client of dask.distributed, or any with `submit` and `gather` like it.
+"""The resolver on several machines, by an existing engine: a client of dask.distributed, or any with `submit` and `gather` like it.
 
-The engine brings parts to workers, starts them again elsewhere if a worker ends, and brings answers back. Here frames are divided by their
+The engine sends parts to workers, restarts them elsewhere if a worker ends, and returns the answers. Here frames are divided by their
 codes, so that a part needs few maps; each worker process holds one `Resolver` over a folder that all of them see, and its bounds; and
-answers are put back into the order of the frames. A part has no effect but its answer, so that one that runs twice is told once.
+answers are put back into the order of the frames. A part has no effect but its answer, so that one that runs twice counts once.
 
 A frame's own line and column count from 1; all else counts from 0, columns in UTF-16 code units.
 
@@ -110,7 +110,7 @@ class _Window:
         self.futures = [client.submit(_answers, settings, given, pure=False, retries=3) for given in words]
 
     def resolved(self) -> Iterator[Resolved]:
-        """What they come to, in their order, once all of them are there."""
+        """What they resolve to, in their order, once all of them are done."""
         answers: list[Optional[_Answer]] = [None] * len(self.frames)
         for numbers, said in zip(self.parts, self.client.gather(self.futures)):
             for number, answer in zip(numbers, said, strict=True):
@@ -123,10 +123,10 @@ class _Window:
 def resolve_frames(
     client: Client, frames: Iterable[Frame], settings: Settings, *, window: int = 100_000, part: int = 2000
 ) -> Iterator[Resolved]:
-    """What each frame comes to, in order: as `Resolver.resolve_frame` of the url, line and column of each. Frames are read as they are
+    """What each frame resolves to, in order: as `Resolver.resolve_frame` of the url, line and column of each. Frames are read as they are
     needed: three windows of them are held at once, each in parts that a worker does in one go.
 
-    Raises what the engine raises, as where a part has ended its workers again and again, and ValueError of numbers below 1.
+    Raises what the engine raises, for example if a part has ended its workers repeatedly, and ValueError for numbers below 1.
 
     The module has an example.
 

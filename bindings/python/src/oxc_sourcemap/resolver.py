@@ -60,13 +60,13 @@ class Reason(str, Enum):
     """
 
     OUTSIDE = "outside"
-    """Its URL is below no base."""
+    """No base contains its URL."""
     REFUSED = "refused"
-    """A path that climbs, with a control character or a backslash, too long, or a link out of the folder; or a debug id that is none."""
+    """A path with `..`, a control character or a backslash, one that is too long, or a link out of the folder; or an invalid debug id."""
     NOT_THERE = "not there"
-    """There is neither the code nor a map of its name."""
+    """The store has neither the code nor a map of its name."""
     NO_MAP = "no map"
-    """There is the code, and no map of it."""
+    """The store has the code, but no map of it."""
     BAD_MAP = "bad map"
     """The map cannot be read."""
     OTHER_BUILD = "other build"
@@ -128,9 +128,9 @@ class Limits:
 
 
 class Resolved(NamedTuple):
-    """What a frame comes to: the source, as the map lists it and with the source root before it, the original line and column, which count
-    from 0, and the name of the mapping, which is that of a function where the tool that made the map gave it one. If it is not resolved,
-    these are None, and the reason and a detail in words say why. `map` is the name of the map in the store, `source_id` the source's id.
+    """What a frame resolves to: the source, as the map lists it and with the source root before it, the original line and column, which
+    count from 0, and the name of the mapping, which is that of a function where the tool that made the map wrote one. For an unresolved
+    frame these are None, and `reason` and `detail` state why. `map` is the name of the map in the store, `source_id` the source's id.
 
     >>> Resolved(Frame("app.js", 1, 14), reason=Reason.NO_MAP).source
     """
@@ -184,8 +184,8 @@ class Resolver:
     """A resolver over a store: the path of a folder, or an object with `get` (`Store`).
 
     `base` is the URL or path below which frames name what the store has, or pairs of such and a folder of the store; of several the
-    longest counts. A query or fragment of a URL does not count, and neither does the case of its host; `file:` URLs are paths. Nothing
-    is asked for over a network.
+    longest counts. A query or fragment of a URL does not count, and neither does the case of its host; `file:` URLs are paths. The resolver
+    never uses a network.
 
     A code's map is the one that its last comment `sourceMappingURL` names, in the store or as a data URL, else the one with its name
     and `.map`; with `beside_first` the latter, if it is there, and the code is not read. With a debug id it is the one of the name
@@ -259,7 +259,7 @@ class Resolver:
         return Resolved(frame, source, found.line, found.column, found.name, None, "", held.name, found.token.source_id, debug_id)
 
     def _resolved(self, frame: Frame, debug_id: Optional[str], end: float, known: _Known) -> Resolved:
-        """What a frame comes to. What is known of the codes of its trace is asked once."""
+        """What a frame resolves to. What is known of the codes of its trace is asked once."""
         if self._clock() > end:
             return Resolved(frame, reason=Reason.TIME)
         found = known.get(frame.url)
@@ -283,7 +283,7 @@ class Resolver:
             return Reason(error.reason), error.detail
 
     def resolve_frame(self, url: str, line: int, column: int, debug_id: Optional[str] = None) -> Resolved:
-        """What a place in a code comes to, by its URL or path, and its line and column, which count from 1.
+        """What a place in a code resolves to, by its URL or path, and its line and column, which count from 1.
 
         >>> Resolver({}).resolve_frame("app.js", 1, 14).reason.value
         'not there'
@@ -295,8 +295,8 @@ class Resolver:
     # ---- traces ----
 
     def resolve(self, text: Union[str, bytes], debug_ids: Mapping[str, str] = {}) -> list[Resolved]:
-        """What each frame of a trace comes to, in order. `debug_ids` has the debug id of a code by its URL, as frames name it. The places
-        of frames are those in the str; bytes are read as UTF-8, with surrogates for what is none.
+        """What each frame of a trace resolves to, in order. `debug_ids` has the debug id of a code by its URL, as frames name it. The
+        places of frames are those in the str; bytes are read as UTF-8, with surrogates for what is none.
 
         Raises TooLargeError if the trace has more bytes than the limit.
 
@@ -321,7 +321,7 @@ class Resolver:
 
     def resolve_text(self, text: _Text, debug_ids: Mapping[str, str] = {}) -> _Text:
         """A trace with the place of each frame that is resolved replaced by the original one, SOURCE:LINE:COLUMN, which count from 1; all
-        else stays to the byte. Raises TooLargeError, as `resolve`. A trace in a JSON text has to be taken out of it before.
+        else stays to the byte. Raises TooLargeError, as `resolve`. Extract a trace from a JSON text first.
 
         >>> Resolver({}).resolve_text(b"f@app.js:1:14\\n")
         b'f@app.js:1:14\\n'
@@ -333,7 +333,7 @@ class Resolver:
 
     def context(self, found: Resolved, lines: int = 3) -> Optional[Context]:
         """The line of a resolved frame in its source, with up to so many lines before and behind it; None if the frame is not resolved, or
-        the map has no content of the source or no such line, or has changed. Raises ValueError of a number below 0.
+        the map has no content of the source or no such line, or has changed. Raises ValueError for a number below 0.
 
         >>> import json
         >>> map = {"version": 3, "sources": ["a.ts"], "sourcesContent": ["let a\\nf()\\n"], "names": [], "mappings": "AAAA,aACE"}
@@ -383,7 +383,7 @@ class Resolver:
         return self._maps.counts() | own | reasons | {"context_bytes_held": self._contents.counts()["bytes_held"]}
 
     def clear(self) -> None:
-        """Lets go of all that is held: what is asked for next is looked for again.
+        """Releases all that is held: later requests search again.
 
         >>> resolver = Resolver({})
         >>> resolver.clear()

@@ -1,9 +1,9 @@
 //! The declarations of `oxc_sourcemap.h`, version 1, for Rust. The header describes each call and what its caller has to keep;
 //! the crate `oxc_sourcemap` beside this one is the safe way to use them.
 //!
-//! `build.rs` finds the library, and its head says where: a packed crate has it in `lib/TARGET`. It is
-//! linked as `OXC_SOURCEMAP_LINK` says, `static` or `dynamic`; without it statically where the folder has an archive. A program that
-//! is linked dynamically has to find the library when it runs, as by `LD_LIBRARY_PATH`.
+//! `build.rs` finds the library, and its head lists where: a packed crate has it in `lib/TARGET`. `OXC_SOURCEMAP_LINK` sets how it is
+//! linked, `static` or `dynamic`; without it the link is static where the folder has an archive. A program that is linked dynamically has
+//! to find the library when it runs, as by `LD_LIBRARY_PATH`.
 //!
 //! ```
 //! use oxc_sourcemap_sys::*;
@@ -115,7 +115,7 @@ pub const SMAP_BEFORE: u32 = 0;
 pub const SMAP_CLAMPED: u32 = 1;
 pub const SMAP_AFTER: u32 = 2;
 
-// The kinds of what a lookup answers.
+// The kinds of what a lookup returns.
 pub const SMAP_NOTHING: u32 = 0;
 pub const SMAP_UNMAPPED: u32 = 1;
 pub const SMAP_MAPPED: u32 = 2;
@@ -217,7 +217,7 @@ pub struct smap_file {
     _marker: Own,
 }
 
-/// A text: bytes that you pass, or that a handle lends.
+/// A text: bytes that you pass, or that belong to a handle.
 #[repr(C)]
 #[derive(Clone, Copy, Debug)]
 pub struct smap_text {
@@ -225,7 +225,7 @@ pub struct smap_text {
     pub len: usize,
 }
 
-/// Where in the input an error is. Which numbers tell it follows from its kind; the others are 0.
+/// Where in the input an error is. Its kind determines which numbers describe it; the others are 0.
 #[repr(C)]
 #[derive(Clone, Copy, Debug, Default, PartialEq, Eq)]
 pub struct smap_fault_place {
@@ -282,7 +282,7 @@ pub struct smap_position {
     pub column: u32,
 }
 
-/// What a lookup answers: a token, its index, and the texts that it points to.
+/// What a lookup returns: a token, its index, and the texts that it points to.
 #[repr(C)]
 #[derive(Clone, Copy, Debug)]
 pub struct smap_original {

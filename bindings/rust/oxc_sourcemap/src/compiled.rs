@@ -1,4 +1,4 @@
-//! Compiled maps: bytes that are made once, opened in constant time, and looked up where they lie.
+//! Compiled maps: bytes that are made once, opened in constant time, and searched in place.
 
 use std::fmt;
 use std::marker::PhantomData;
@@ -41,8 +41,8 @@ pub fn compile(parts: &SourceMapParts<'_>, text_length: u64, stamp: &[u8; 32]) -
 }
 
 impl SourceMap<'_> {
-    /// Compiles this map: makes the bytes that [`CompiledMap::open`] opens. They mean the map, with a content for each source, known or
-    /// not, and none past the last. `text_length` is the number of bytes of the map's text, 0 if there is none; the stamp is kept as it
+    /// Compiles this map: makes the bytes that [`CompiledMap::open`] opens. They represent the map, with a content for each source, known
+    /// or not, and none past the last. `text_length` is the number of bytes of the map's text, 0 if there is none; the stamp is kept as it
     /// is, as the SHA-256 of that text.
     ///
     /// Fails with `Unsorted`, `TooLarge` or `OutOfMemory`.
@@ -64,13 +64,13 @@ impl SourceMap<'_> {
         // SAFETY: the handle is live, and the output is ours.
         done(|_| unsafe { sys::smap_get_text(string.get(), &mut text) })?;
         bytes.try_reserve_exact(text.len).map_err(|_| Error::OutOfMemory)?;
-        // SAFETY: the handle lends these bytes, and lives until they are copied.
+        // SAFETY: these bytes are borrowed from the handle, which lives until they are copied.
         bytes.extend_from_slice(unsafe { lent_bytes(text) });
         Ok(bytes)
     }
 }
 
-/// A compiled map, in the bytes that it lies in. What it lends is lent by the bytes.
+/// A compiled map, searched in its bytes. What it returns is borrowed from the bytes.
 ///
 /// Any bytes may be opened. Of such that [`SourceMap::compile`] did not make, a lookup finds some token of the line, or none, and a text
 /// that is not UTF-8 counts as none.
@@ -106,7 +106,7 @@ impl<'a> CompiledMap<'a> {
 
     // ---- lookups ----
 
-    /// What the library says of a generated position. Without a refusal: the handle is there, and so is the bias.
+    /// What the library finds for a generated position. It cannot fail: neither the handle nor the bias is at fault.
     fn asked(&self, line: u32, column: u32, bias: Bias) -> Option<sys::smap_original> {
         let mut out = MaybeUninit::uninit();
         // SAFETY: the map is live, and the output is ours.
@@ -135,7 +135,7 @@ impl<'a> CompiledMap<'a> {
         self.token_for(line, col, Bias::After)
     }
 
-    /// What the map says of a generated position. A token whose source is not UTF-8 is [`Traced::Unmapped`].
+    /// Traces a generated position. A token whose source is not UTF-8 is [`Traced::Unmapped`].
     ///
     /// ```
     /// use oxc_sourcemap::{Bias, CompiledMap, SourceMap, Traced};
@@ -151,7 +151,7 @@ impl<'a> CompiledMap<'a> {
         self.asked(line, column, bias).map_or(Traced::Nothing, |raw| unsafe { traced(&raw) })
     }
 
-    /// The same of many positions, in any order. Fails with `OutOfMemory`.
+    /// The same for many positions, in any order. Fails with `OutOfMemory`.
     ///
     /// ```
     /// use oxc_sourcemap::{Bias, CompiledMap, SourceMap};
@@ -243,7 +243,7 @@ impl<'a> CompiledMap<'a> {
         (counts.has_ignore_list == 1).then_some(counts.ignored as usize)
     }
 
-    /// The number of bytes of the text that the map was read from, as `compile` was told.
+    /// The number of bytes of the text that the map was read from, which `compile` was given.
     pub fn text_length(&self) -> u64 {
         self.counts().text_length
     }
@@ -365,7 +365,7 @@ impl fmt::Debug for CompiledMap<'_> {
 ///
 /// # Safety
 ///
-/// A call lent it, and the bytes of the map stay as they are for this long.
+/// A call returned it, and the bytes of the map stay unchanged for this long.
 unsafe fn checked<'t>(text: sys::smap_text) -> Option<&'t str> {
     // SAFETY: as the caller states.
     std::str::from_utf8(unsafe { lent_bytes(text) }).ok()
@@ -408,7 +408,7 @@ mod file {
     /// # Ok::<(), oxc_sourcemap::Error>(())
     /// ```
     pub struct CompiledFile {
-        // (fields are dropped in this order; the lifetime is that of the file, and no call lends it for longer)
+        // (fields are dropped in this order; the lifetime is that of the file, and no call lets it be borrowed for longer)
         map: CompiledMap<'static>,
         _file: Owned<sys::smap_file>,
     }

@@ -51,7 +51,7 @@ impl<'a> ConcatSourceMapBuilder<'a> {
         builder
     }
 
-    /// The same of maps that are not needed any more. Each is freed as soon as it was added.
+    /// The same for maps that are not needed any more. Each is freed as soon as it was added.
     #[track_caller]
     pub fn from_owned_sourcemaps(sourcemap_and_line_offsets: Vec<(SourceMap<'a>, u32)>) -> Self {
         let mut builder = Self::default();
@@ -67,14 +67,14 @@ impl<'a> ConcatSourceMapBuilder<'a> {
         expected(self.try_add_sourcemap(sourcemap, Position::new(line_offset, 0)))
     }
 
-    /// The same of a map that is not needed any more.
+    /// The same for a map that is not needed any more.
     #[track_caller]
     pub fn add_sourcemap_owned(&mut self, sourcemap: SourceMap<'a>, line_offset: u32) {
         expected(self.try_add_sourcemap(&sourcemap, Position::new(line_offset, 0)))
     }
 
-    /// Adds a map whose code begins at this position; of its first line also the columns are shifted. Fails with `TooLarge` or
-    /// `OutOfMemory`; the builder is then as it was.
+    /// Adds a map whose code begins at this position; the columns of its first line are shifted, too. Fails with `TooLarge` or
+    /// `OutOfMemory`; the builder is then unchanged.
     ///
     /// ```
     /// use oxc_sourcemap::{ConcatSourceMapBuilder, Error, Position, SourceMap};

@@ -7,10 +7,10 @@ use sys::smap_fault;
 
 use crate::raw::Told;
 
-/// The result of a call that may be refused.
+/// The result of a call that may fail.
 pub type Result<T, E = Error> = std::result::Result<T, E>;
 
-/// Why a call is refused. Its text is that of the library.
+/// Why a call fails. Its text is that of the library.
 ///
 /// ```
 /// use oxc_sourcemap::{Error, SourceMap};
@@ -23,7 +23,7 @@ pub type Result<T, E = Error> = std::result::Result<T, E>;
 pub enum Error {
     /// A number in the mappings ends in a digit with the continuation bit.
     VlqLeftover,
-    /// A segment without a number. No call answers this.
+    /// A segment without a number. No call returns this.
     VlqNoValues,
     /// A number in the mappings is too large.
     VlqOverflow,
@@ -41,7 +41,7 @@ pub enum Error {
     TooLarge,
     /// The first token that lies on a line before that of the token before.
     LineOrder(usize),
-    /// The first chunk that does not fit the tokens. No call of this crate answers this.
+    /// The first chunk that does not fit the tokens. No call of this crate returns this.
     BadChunks(usize),
     /// The number of sources of the first map of a composition, above 1.
     SeveralSources(usize),
@@ -49,9 +49,9 @@ pub enum Error {
     Unsorted,
     /// A plan is deeper than 64.
     TooDeep,
-    /// The words say no plan.
+    /// The words are no plan.
     Words,
-    /// The number of a text that a plan names, and that is not there.
+    /// The number of a text that a plan names, and that does not exist.
     NoText(usize),
     /// The first section of an indexed map that begins before the end of those before it.
     SectionOrder(usize),
@@ -101,7 +101,7 @@ pub enum CompiledError {
     NotCompiled,
     /// The version, which is not 1.
     Version(u32),
-    /// There are not as many bytes as they say, as where a file is cut.
+    /// The number of bytes is not the one that they state, as in a truncated file.
     Length,
     /// The parts take more bytes than there are.
     Sizes,
@@ -128,7 +128,7 @@ pub enum ScopesFaultKind {
     TooLarge,
     /// It is empty, or lacks a number.
     MissingNumber,
-    /// An index leads to no name, scope or value.
+    /// An index refers to no name, scope or value.
     BadIndex,
     /// It is an end, variables, values or a call site, and nothing that it could belong to is open.
     NothingOpen,
@@ -469,7 +469,7 @@ impl Fault {
         Error::of(&self.0)
     }
 
-    /// Where it is, if that is told.
+    /// Where it is, if that is known.
     pub fn place(&self) -> Option<Place> {
         let place = &self.0.place;
         let told = |number: u64| (number != sys::SMAP_NOT_TOLD).then_some(number as usize);
@@ -485,14 +485,14 @@ impl Fault {
         Some(Place { text: told(place.text), section: told(place.section), spot })
     }
 
-    /// The place in words, if it is told.
+    /// The place as a message, if it is known.
     pub fn place_text(&self) -> Option<String> {
         // SAFETY: the fault and the buffer are live, and the buffer has this length.
         words(|at, len| unsafe { sys::smap_place_message(&self.0, at, len) })
     }
 
-    /// What is really wrong at the place, where the error says something else: `a column below 0` for a segment of size 0. The text is
-    /// the one that was refused with this fault.
+    /// The actual cause at the place, where the error names another: `a column below 0` for a segment of size 0. The text is the one that
+    /// was refused with this fault.
     pub fn reason_text(&self, text: &str) -> Option<String> {
         // SAFETY: the text, the fault and the buffer are live, and have these lengths.
         words(|at, len| unsafe { sys::smap_reason_message(text.as_ptr().cast(), text.len(), &self.0, at, len) })
@@ -534,7 +534,7 @@ impl From<Fault> for Error {
 mod tests {
     use super::*;
 
-    // Codes that no call answers to this crate are still told apart, with their messages.
+    // Codes that no call returns to this crate are still distinguished, with their messages.
     #[test]
     fn every_code_has_its_error() {
         for code in (1..=29).chain([101, 102, 104, 106]) {

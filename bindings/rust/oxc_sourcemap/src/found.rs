@@ -8,7 +8,7 @@ use crate::SourceMap;
 use crate::error::{Fault, Result, words};
 use crate::raw::{Owned, listed, made};
 
-/// What was mended in a map. Its text says it in words.
+/// What was mended in a map. Its text is the message.
 #[derive(Clone, Copy, PartialEq, Eq)]
 pub struct Mend(sys::smap_mend);
 
@@ -104,7 +104,7 @@ impl fmt::Display for Mend {
 }
 
 impl SourceMap<'_> {
-    /// Reads a map as it is found, and says what was mended, in the order in which it was looked at. The map is sorted and sound.
+    /// Reads a map as it is found, and reports what was mended, in the order in which the parts were checked. The map is sorted and sound.
     ///
     /// What [`read`](Self::read) reads as a sorted map is read as this map, and nothing is mended. Fails with the first fault that
     /// is not mended, and its place in the text: of a text that is not JSON counted in the whole text, but of a data URL in the text that

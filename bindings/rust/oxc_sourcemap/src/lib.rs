@@ -1,15 +1,15 @@
 //! Source maps of version 3 (ECMA-426), by the proved library `oxc_sourcemap`.
 //!
-//! This crate has the names and signatures of the crate `oxc_sourcemap` 9.0.0, so that it can take its place:
+//! This crate has the names and signatures of the crate `oxc_sourcemap` 9.0.0, so that it can replace it:
 //!
 //! ```toml
 //! [dependencies]
 //! oxc_sourcemap = { path = "bindings/rust/oxc_sourcemap" }
 //! ```
 //!
-//! and beside them the other calls of the library. Reading, writing, lookups, joins and compositions are the library's, which is
-//! proved to do what its contracts say; what is here holds handles and converts, and is tested. Where the two crates differ is in
-//! `docs/DIFFERENCES.md` of the repository.
+//! and beside them the other calls of the library. Reading, writing, lookups, joins and compositions are the library's, which is proved to
+//! meet its contracts; the code here holds handles and converts, and is tested. `docs/DIFFERENCES.md` of the repository lists where the two
+//! crates differ.
 //!
 //! ```
 //! use oxc_sourcemap::{ConcatSourceMapBuilder, SourceMap, SourceMapBuilder};

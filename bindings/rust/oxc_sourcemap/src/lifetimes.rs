@@ -1,5 +1,5 @@
-//! Programs that must not compile: each keeps what a call lends longer than what it is lent by. Its twin, which lets go of it first,
-//! compiles and runs, so that the refusal is for that reason alone.
+//! Programs that must not compile: each keeps what a call returns longer than its owner. Its twin, which drops it first, compiles and runs,
+//! so that the refusal is for that reason alone.
 
 macro_rules! lent {
     ($($name:ident: $owner:ident, $lent:literal;)*) => {$(
@@ -86,7 +86,7 @@ lent! {
     VisualizerCode: text, "SourcemapVisualizer::new(&owner, &other)";
     MappingUrl: text, "source_mapping_url(&owner, Language::JavaScript).unwrap()";
 
-    // (what a compiled map lends is lent by the bytes: each twin lets go of the map)
+    // (what a compiled map returns is borrowed from the bytes: each twin drops the map)
     Compiled: bytes, "CompiledMap::open(&owner).unwrap()";
     CompiledName: bytes, "CompiledMap::open(&owner).unwrap().get_name(0).unwrap()";
     CompiledSource: bytes, "CompiledMap::open(&owner).unwrap().get_source(0).unwrap()";

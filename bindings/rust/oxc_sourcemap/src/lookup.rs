@@ -54,7 +54,7 @@ impl Direction {
     }
 }
 
-/// What a map says of a generated position.
+/// What tracing a generated position finds.
 #[derive(Clone, Copy, Debug, PartialEq, Eq)]
 pub enum Traced<'m> {
     /// There is no token.
@@ -140,7 +140,7 @@ pub struct Piece {
     pub index: Option<u32>,
 }
 
-/// The token that a table says. Only for tables of other maps: those of the map itself are searched by the library.
+/// The token that a table has. Only for tables of other maps: the library searches those of the map itself.
 fn token_on(line: &[Token], col: u32, bias: Bias) -> Option<Token> {
     let at = line.partition_point(|token| token.get_dst_col() < col);
     let exact = line.get(at).filter(|token| token.get_dst_col() == col);
@@ -204,7 +204,7 @@ impl<'a> SourceMap<'a> {
     /// The token of a table that answers for a generated position: on its line the last at or before its column; of several at the
     /// column itself the first.
     ///
-    /// What is read is the table, be it of this map or of another one.
+    /// The call reads the table, of this map or of another one.
     #[inline]
     pub fn lookup_token(&self, lookup_table: &[&[Token]], line: u32, col: u32) -> Option<Token> {
         self.in_table(lookup_table, line, col, Bias::Before)
@@ -237,10 +237,10 @@ impl<'a> SourceMap<'a> {
 
     // ---- of generated positions ----
 
-    /// What the map says of a generated position.
+    /// Traces a generated position.
     ///
-    /// Fails with `LineOrder` if the tokens go back in lines, as they may after a join. Of other maps that are not
-    /// [sorted](Self::is_sorted) nothing is promised but that there is an answer.
+    /// Fails with `LineOrder` if the tokens go back in lines, as can happen after a join. For other maps that are not
+    /// [sorted](Self::is_sorted) only this is promised: there is an answer.
     ///
     /// ```
     /// use oxc_sourcemap::{Bias, SourceMap, Traced};
@@ -263,7 +263,7 @@ impl<'a> SourceMap<'a> {
         Ok(unsafe { Traced::of(&out.assume_init()) })
     }
 
-    /// The same of many positions, in any order.
+    /// The same for many positions, in any order.
     ///
     /// ```
     /// use oxc_sourcemap::{Bias, SourceMap};
@@ -301,8 +301,8 @@ impl<'a> SourceMap<'a> {
         Ok(out.into_iter().map(id).collect())
     }
 
-    /// The same into a list that is there, where `u32::MAX` stands for none. Fails with `Lengths` if that has not as many entries
-    /// as there are positions, then as [`trace`](Self::trace) does, also for no position.
+    /// The same into a given list, where `u32::MAX` stands for none. Fails with `Lengths` if the list has not as many entries as there are
+    /// positions, then as [`trace`](Self::trace) does, even without positions.
     pub fn find_all_into(&self, positions: &[Position], bias: Bias, out: &mut [u32]) -> Result<()> {
         // SAFETY: the map is live, pointers and lengths are those of live lists, and positions have the layout of the library's.
         done(|fault| unsafe {
@@ -338,7 +338,7 @@ impl<'a> SourceMap<'a> {
         expected(pieces.map_err(Error::from)).into_iter().map(piece).collect()
     }
 
-    /// The first generated position at which this map and another say different things, by texts and not by ids.
+    /// The first generated position that this map and another trace differently, by texts and not by ids.
     ///
     /// ```
     /// use oxc_sourcemap::{Position, SourceMap};
@@ -358,13 +358,13 @@ impl<'a> SourceMap<'a> {
     // ---- of original positions ----
 
     /// Makes the index by original positions, if there is none. It takes 4 bytes a token. [`sort`](Self::sort) and
-    /// [`simplify`](Self::simplify) take it away. Fails with `TooLarge` or `OutOfMemory`.
+    /// [`simplify`](Self::simplify) drop it. Fails with `TooLarge` or `OutOfMemory`.
     pub fn index_sources(&mut self) -> Result<()> {
         // SAFETY: the map is live and used by nobody else, and the fault is ours.
         Ok(done(|fault| unsafe { sys::smap_index_sources(self.map.get_mut(), fault) })?)
     }
 
-    /// Of the tokens that answer for an original position the first in the order of the map. Fails with `NoIndex` if
+    /// The first token in the order of the map that answers for an original position. Fails with `NoIndex` if
     /// [`index_sources`](Self::index_sources) was not called.
     ///
     /// ```
@@ -390,7 +390,7 @@ impl<'a> SourceMap<'a> {
         }
     }
 
-    /// The indices of all tokens that do, in the order of the map. Fails as [`generated`](Self::generated) does.
+    /// The indices of all tokens that answer, in the order of the map. Fails as [`generated`](Self::generated) does.
     pub fn all_generated(&self, source_id: u32, line: u32, column: u32, direction: Direction) -> Result<Vec<u32>> {
         // SAFETY: the map is live, and there is room for as many entries as is said.
         Ok(listed(|at, len, count| unsafe {

@@ -38,9 +38,9 @@ impl SourceMap<'_> {
         Ok(SourceMap::of(map))
     }
 
-    /// Leads this map through the maps of its sources: each input is a path, byte for byte as this map has it, and the map of that
-    /// source; of equal paths the first counts. Sources without an input stay. Source roots, of inputs too, are dropped:
-    /// `apply_source_root`, called before, keeps them.
+    /// Traces this map through the maps of its sources: each input is a path, byte for byte as this map has it, and the map of that source;
+    /// of equal paths the first counts. Sources without an input stay. Source roots, of inputs too, are dropped: `apply_source_root`,
+    /// called before, keeps them.
     ///
     /// Fails with `InputLineOrder`, `TooLarge` or `OutOfMemory`.
     ///

@@ -20,7 +20,7 @@ use crate::error::{Error, Result};
 pub(crate) unsafe trait Handled {
     /// # Safety
     ///
-    /// A call made this handle, it was not freed before, and nobody uses it or what it lent any more.
+    /// A call made this handle, it was not freed before, and nobody uses it or what is borrowed from it any more.
     unsafe fn free(at: *mut Self);
 }
 
@@ -74,12 +74,12 @@ impl<T: Handled> Owned<T> {
 
 impl<T: Handled> Drop for Owned<T> {
     fn drop(&mut self) {
-        // SAFETY: this is the only owner of the handle, and what it lent is borrowed from this.
+        // SAFETY: this is the only owner of the handle, and its texts are borrowed from this.
         unsafe { T::free(self.0.as_ptr()) }
     }
 }
 
-/// An error as the library told it.
+/// An error as the library reported it.
 #[derive(Clone, Copy)]
 pub(crate) struct Told(pub(crate) smap_fault);
 
@@ -105,7 +105,7 @@ pub(crate) fn made_text(call: impl FnOnce(*mut *mut smap_string, *mut smap_fault
     let mut text = no_text();
     // SAFETY: the handle is live, and the output is ours.
     done(|_| unsafe { sys::smap_get_text(string.get(), &mut text) })?;
-    // SAFETY: the handle lends this text, and lives until the text is copied.
+    // SAFETY: this text is borrowed from the handle, which lives until the text is copied.
     Ok(unsafe { lent(text) }.to_owned())
 }
 
@@ -138,17 +138,17 @@ pub(crate) fn texts<'t>(list: impl Iterator<Item = Option<&'t str>>) -> Vec<smap
     list.map(|entry| entry.map_or(no_text(), text)).collect()
 }
 
-/// A text that the library lent.
+/// A text that the library returned.
 ///
 /// # Safety
 ///
-/// The library lent it, and its handle is not changed or freed for this long.
+/// The library returned it, and its handle is not changed or freed for this long.
 pub(crate) unsafe fn lent<'t>(text: smap_text) -> &'t str {
     // SAFETY: as the caller states; texts of the library are UTF-8.
     unsafe { std::str::from_utf8_unchecked(lent_bytes(text)) }
 }
 
-/// The bytes of a text that the library lent, which need not be UTF-8.
+/// The bytes of a text that the library returned, which need not be UTF-8.
 ///
 /// # Safety
 ///
@@ -161,7 +161,7 @@ pub(crate) unsafe fn lent_bytes<'t>(text: smap_text) -> &'t [u8] {
     unsafe { std::slice::from_raw_parts(text.at.cast(), text.len) }
 }
 
-/// A text that is there or not: a call that has no entry, or whose entry has no address, gives none.
+/// A text that is there or not: a call that has no entry, or whose entry has no address, returns none.
 ///
 /// # Safety
 ///
@@ -172,7 +172,7 @@ pub(crate) unsafe fn lent_if<'t>(call: impl FnOnce(*mut smap_text) -> u32) -> Op
     (call(&mut text) == sys::SMAP_OK).then(|| unsafe { lent(text) })
 }
 
-/// The value of a call whose caller wants no `Result`. Want of memory ends the process, as it does for Rust's own collections.
+/// The value of a call whose caller wants no `Result`. Lack of memory ends the process, as it does for Rust's own collections.
 #[track_caller]
 pub(crate) fn expected<T>(result: Result<T>) -> T {
     match result {

@@ -87,8 +87,8 @@ pub struct ScopeFrame {
     pub name: Option<u32>,
     /// The index of the scope that is the function.
     pub scope: Option<u32>,
-    /// Where the frame is: the call of a function that was inlined. None for the first frame, which is where
-    /// [`SourceMap::trace`](crate::SourceMap::trace) leads.
+    /// Where the frame is: the call of a function that was inlined. None for the first frame, which is at the position of
+    /// [`SourceMap::trace`](crate::SourceMap::trace).
     pub call_site: Option<CallSite>,
 }
 

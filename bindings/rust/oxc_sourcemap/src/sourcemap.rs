@@ -13,8 +13,8 @@ use crate::token::{SourceViewToken, Token, TokenChunk};
 
 /// A source map.
 ///
-/// It is a handle of the library, which owns all texts; what the calls lend is borrowed from the map. So `'a`, the lifetime of
-/// what a map is made of, says less here than in the crate whose place this one takes: nothing is borrowed for it.
+/// It is a handle of the library, which owns all texts; what the calls return is borrowed from the map. So `'a`, the lifetime of what a map
+/// is made of, means less here than in the crate that this one replaces: nothing is borrowed for it.
 ///
 /// Any number of threads may read one map.
 ///
@@ -31,20 +31,20 @@ use crate::token::{SourceViewToken, Token, TokenChunk};
 ///
 /// # Panics
 ///
-/// Calls that may be refused, but that return no `Result` in the crate whose place this one takes, panic with the message of the
-/// error; beside each stands one that returns it, as [`try_to_json_string`](Self::try_to_json_string). Calls that need memory, and
-/// have no `Result` to say that there is none, end the process then, as Rust's own collections do.
+/// Calls that may fail, but return no `Result` in the crate that this one replaces, panic with the message of the error; each has a variant
+/// that returns it, such as [`try_to_json_string`](Self::try_to_json_string). Calls that need memory, and have no `Result` to report its
+/// lack, end the process then, as Rust's own collections do.
 pub struct SourceMap<'a> {
     pub(crate) map: Owned<sys::smap_map>,
-    /// The tokens, once a call has lent them.
+    /// The tokens, once a call has listed them.
     tokens: OnceLock<Box<[Token]>>,
-    /// The same of the ignore list.
+    /// The same for the ignore list.
     ignore_list: OnceLock<Option<Box<[u32]>>>,
     token_chunks: Option<Vec<TokenChunk>>,
     texts: PhantomData<&'a str>,
 }
 
-/// What a map holds, as lists of Rust. See [`SourceMap::into_parts`].
+/// The contents of a map, as lists of Rust. See [`SourceMap::into_parts`].
 #[derive(Debug, Clone, Default)]
 #[allow(missing_docs)]
 pub struct SourceMapParts<'a> {
@@ -171,7 +171,7 @@ impl<'a> SourceMap<'a> {
         Ok(map)
     }
 
-    /// The same of parts that stay, without their chunks.
+    /// The same for parts that stay, without their chunks.
     pub(crate) fn try_of_lists(parts: &SourceMapParts<'_>) -> Result<Self> {
         let map = match map_of_lists(&parts.tokens, parts) {
             Err(told) if matches!(told.0.code, sys::SMAP_BAD_SOURCE_REFERENCE | sys::SMAP_BAD_NAME_REFERENCE) => {
@@ -228,7 +228,7 @@ impl<'a> SourceMap<'a> {
 
     /// Reads a map from its JSON text. An indexed map is read as the join of its sections.
     ///
-    /// Fails with the first fault of the text; [`read`](Self::read) also says where it is.
+    /// Fails with the first fault of the text; [`read`](Self::read) also reports where it is.
     ///
     /// ```
     /// use oxc_sourcemap::{Error, JsonFault, SourceMap};
@@ -240,7 +240,7 @@ impl<'a> SourceMap<'a> {
         Ok(SourceMap::read(value.as_bytes())?)
     }
 
-    /// The same of bytes, with the place of a fault. Fails also with `NotUtf8`.
+    /// The same for bytes, with the place of a fault. Fails also with `NotUtf8`.
     ///
     /// ```
     /// use oxc_sourcemap::{Error, Field, SourceMap, Spot};
@@ -303,7 +303,7 @@ impl<'a> SourceMap<'a> {
 
     /// Writes the JSON text, if it has at most `limit` bytes. A map that others send may have four gigabytes of lines, in a
     /// text of some hundred bytes. Fails as [`try_to_json_string`](Self::try_to_json_string) does, and then with `TooLarge` for a
-    /// longer text; what has too many lines is not written before.
+    /// longer text; a map with too many lines fails before anything is written.
     ///
     /// ```
     /// use oxc_sourcemap::{Error, SourceMap};
@@ -480,7 +480,7 @@ impl<'a> SourceMap<'a> {
         self.tokens.get_or_init(|| expected(self.copied_tokens()))
     }
 
-    /// The list of tokens, if it was lent before.
+    /// The list of tokens, if a call has listed them before.
     pub(crate) fn own_tokens(&self) -> Option<&[Token]> {
         self.tokens.get().map(|tokens| &**tokens)
     }
@@ -579,7 +579,7 @@ impl<'a> SourceMap<'a> {
         self.token_chunks = None;
     }
 
-    /// Puts the source root before each source, and takes it away. Fails with `OutOfMemory`; the map is then as it was.
+    /// Puts the source root before each source, and removes it from the map. Fails with `OutOfMemory`; the map is then unchanged.
     ///
     /// ```
     /// use oxc_sourcemap::SourceMap;
@@ -595,8 +595,7 @@ impl<'a> SourceMap<'a> {
         Ok(done(|fault| unsafe { sys::smap_apply_source_root(self.map.get_mut(), fault) })?)
     }
 
-    /// Sorts the tokens by generated position; those at one position keep their order. Fails with `OutOfMemory`; the map is then
-    /// as it was.
+    /// Sorts the tokens by generated position; those at one position keep their order. Fails with `OutOfMemory`; the map is then unchanged.
     ///
     /// ```
     /// use oxc_sourcemap::SourceMap;
@@ -614,7 +613,7 @@ impl<'a> SourceMap<'a> {
     }
 
     /// Drops tokens, names and sources that no lookup needs (`smap_simplify` in oxc_sourcemap.h). Fails with `Unsorted`, `TooLarge` or
-    /// `OutOfMemory`; the map is then as it was.
+    /// `OutOfMemory`; the map is then unchanged.
     ///
     /// ```
     /// use oxc_sourcemap::SourceMap;

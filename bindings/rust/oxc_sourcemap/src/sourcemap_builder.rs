@@ -10,7 +10,7 @@ use crate::raw::expected;
 use crate::token::{Token, TokenChunk};
 use crate::{OwnedSourceMap, SourceMap, SourceMapParts};
 
-/// Builds a map call by call. It borrows the texts that it is given, and the map that is made of it has copies.
+/// Builds a map call by call. It borrows the texts that it is given; the map that it makes has copies.
 ///
 /// Add tokens in the order of their generated positions; ids are not compared with what was added.
 ///
@@ -61,7 +61,7 @@ impl<'a> SourceMapBuilder<'a> {
         self.add_once(source, Some(source_content))
     }
 
-    /// The same of a source whose content is not known.
+    /// The same for a source whose content is not known.
     pub fn add_source(&mut self, source: &'a str) -> u32 {
         self.add_once(source, None)
     }
@@ -75,7 +75,7 @@ impl<'a> SourceMapBuilder<'a> {
         })
     }
 
-    /// Adds a source with its content, be there one of this path or not, and returns its id.
+    /// Adds a source with its content, even if there is one of this path, and returns its id.
     pub fn set_source_and_content(&mut self, source: &'a str, source_content: &'a str) -> u32 {
         let id = next_id(&self.sources);
         self.sources.push(source);

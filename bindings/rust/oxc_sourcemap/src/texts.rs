@@ -44,7 +44,7 @@ pub fn encode_mappings_within(tokens: &[Token], limit: usize) -> Result<String> 
     })?)
 }
 
-/// The tokens of mappings, whose ids are to be below these numbers of names and sources. Fails with the first fault of the mappings.
+/// The tokens of mappings, whose ids have to be below these numbers of names and sources. Fails with the first fault of the mappings.
 ///
 /// ```
 /// use oxc_sourcemap::{decode_mappings, Error, Token};

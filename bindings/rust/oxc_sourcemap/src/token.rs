@@ -101,7 +101,7 @@ pub(crate) fn id(id: u32) -> Option<u32> {
 
 /// A part of the tokens of a map, from `start` up to but not including `end`, and what is before it.
 ///
-/// Maps keep the chunks that they are given, and give them back. Nothing here reads them: the text of a map is that of its tokens.
+/// Maps keep the chunks that they are given, and return them. Nothing here reads them: the text of a map is that of its tokens.
 #[derive(Clone, Debug, Default, PartialEq, Eq)]
 #[allow(missing_docs)]
 pub struct TokenChunk {

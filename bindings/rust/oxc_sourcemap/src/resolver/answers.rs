@@ -1,4 +1,4 @@
-//! What frames come to, and what can go wrong.
+//! What frames resolve to, and what can go wrong.
 
 use std::fmt::{self, Write};
 use std::io;
@@ -15,13 +15,13 @@ use super::names::Refused;
 #[derive(Clone, Copy, Debug, PartialEq, Eq, Hash, PartialOrd, Ord)]
 #[non_exhaustive]
 pub enum Reason {
-    /// Its URL is below no base.
+    /// No base contains its URL.
     Outside,
-    /// A path that climbs, with a control character or a backslash, too long, or a link out of the folder; or a debug id that is none.
+    /// A path with `..`, a control character or a backslash, one that is too long, or a link out of the folder; or an invalid debug id.
     Refused,
-    /// There is neither the code nor a map of its name.
+    /// The store has neither the code nor a map of its name.
     NotThere,
-    /// There is the code, and no map of it.
+    /// The store has the code, but no map of it.
     NoMap,
     /// The map cannot be read.
     BadMap,
@@ -91,7 +91,7 @@ impl fmt::Display for Reason {
     }
 }
 
-/// That a frame is not resolved, and why: the reason, and more in words.
+/// An unresolved frame, and why: the reason, and a detail in words.
 ///
 /// ```
 /// use oxc_sourcemap::resolver::{Frame, Options, Reason, Resolver};
@@ -117,7 +117,7 @@ impl fmt::Display for Unresolved {
 
 impl std::error::Error for Unresolved {}
 
-/// Where a frame comes from.
+/// The original position of a frame.
 #[derive(Clone, Debug, PartialEq, Eq)]
 #[non_exhaustive]
 pub struct Origin {
@@ -170,7 +170,7 @@ fn quoted(f: &mut fmt::Formatter<'_>, it: char) -> fmt::Result {
     }
 }
 
-/// What a frame comes to.
+/// What a frame resolves to.
 ///
 /// ```
 /// use std::collections::HashMap;
@@ -189,9 +189,9 @@ fn quoted(f: &mut fmt::Formatter<'_>, it: char) -> fmt::Result {
 pub struct Resolved {
     /// The frame that was asked for.
     pub frame: Frame,
-    /// Where it comes from, or why that is not known.
+    /// Its original position, or why that is not known.
     pub original: Result<Origin, Unresolved>,
-    /// The name of the map in the store, if one was looked in.
+    /// The name of the map in the store, if one was searched.
     pub map: Option<String>,
 }
 
@@ -237,7 +237,7 @@ pub fn replace_frames(text: &str, frames: &[Resolved]) -> String {
     out + &text[last..]
 }
 
-/// The same of a text that need not be UTF-8.
+/// The same for a text that need not be UTF-8.
 pub(super) fn replace_in_bytes(text: &[u8], frames: &[Resolved]) -> Vec<u8> {
     let (mut out, mut last) = (Vec::with_capacity(text.len()), 0);
     for it in frames {
@@ -270,9 +270,9 @@ pub enum Error {
     TooLarge { length: usize, limit: usize },
     /// A base is a URL or path that is refused.
     Base(Refused),
-    /// Compiled maps can be written beside the maps of a folder alone.
+    /// Compiled maps can be written only beside the maps of a folder.
     NoFolder,
-    /// The folder for compiled maps is not there, and cannot be made.
+    /// The folder for compiled maps does not exist, and cannot be made.
     Cache(io::Error),
 }
 

@@ -58,7 +58,7 @@ impl Held {
         Ok(Held { name: name.to_string(), debug_id, stamp, bytes, text_length, root, sources: Mutex::default() })
     }
 
-    /// The map, which is opened in constant time. Fails for want of memory alone.
+    /// The map, which is opened in constant time. Fails only for lack of memory.
     pub fn map(&self) -> Result<CompiledMap<'_>, Missing> {
         CompiledMap::open(&self.bytes).map_err(|it| Missing::failed(&it))
     }
@@ -78,8 +78,8 @@ impl Held {
     }
 }
 
-/// The text of a map that a store has: its name, what the system says of its file (None if it is not one, or changes), and its bytes,
-/// which are read when they are first asked for.
+/// The text of a map that a store has: its name, the system's record of its file (None if it is not one, or changes), and its bytes, which
+/// are read when they are first asked for.
 pub(super) struct MapText {
     name: String,
     status: Option<Metadata>,
@@ -164,7 +164,7 @@ impl Compiler {
 
     fn candidates(&self, folder: Option<&FolderStore>, name: &str) -> Vec<Candidate> {
         let cached = self.cache_path(folder, name).map(|path| Candidate { path, is_own: true, is_exact: true });
-        // (none if a link leads out of the folder)
+        // (none if a link resolves outside of the folder)
         let beside = folder.and_then(|it| it.path_of(&format!("{name}{ENDING}")).ok());
         let is_own = self.writes_beside;
         cached.into_iter().chain(beside.map(|path| Candidate { path, is_own, is_exact: false })).collect()
@@ -183,7 +183,7 @@ impl Compiler {
         Ok(None)
     }
 
-    /// A compiled map, and what the system says of its file; None if there is none, or it is damaged.
+    /// A compiled map, and the system's record of its file; None if there is none, or it is damaged.
     fn opened(&self, path: &Path, name: &str) -> Option<(Held, Metadata)> {
         let mut file = match opened(path) {
             Ok(file) => file?,

@@ -279,7 +279,7 @@ impl<'t> Line<'t> {
         sign.map(|it| it + 1).or(is_place(&rest[word..]).then_some(word)).map(|it| self.low + it)
     }
 
-    /// Where the file of these numbers begins, whether its columns count from 0, and whether the form of the line says that it is one.
+    /// Where the file of these numbers begins, whether its columns count from 0, and whether the form of the line shows that it is one.
     fn start(&self, numbers: &Numbers) -> Option<(usize, bool, bool)> {
         if self.text.get(numbers.end) == Some(&b')') {
             return self.in_brackets(numbers.at).map(|(start, is_bytecode)| (start, is_bytecode, true));

@@ -93,9 +93,9 @@ pub struct Limits {
     pub held_bytes: u64,
     /// Compiled maps that are held: 256. Up to 64 more are in use for each trace that is resolved.
     pub held_maps: usize,
-    /// Codes of which it is held that they have no map: 4096.
+    /// Codes that are known to have no map: 4096.
     pub held_missing: usize,
-    /// Time after which what is held, also that there is no map, is looked for again: 60 seconds.
+    /// Time after which held maps, and held results that there is no map, are searched again: 60 seconds.
     pub held_time: Duration,
     /// Bytes of contents that are held, with their lines: 32 MiB.
     pub held_context_bytes: u64,
@@ -118,7 +118,7 @@ impl Default for Limits {
     }
 }
 
-/// How a resolver finds maps, keeps them, and tells the time.
+/// How a resolver finds maps, keeps them, and reads the time.
 ///
 /// ```
 /// use oxc_sourcemap::resolver::{Cache, Options};
@@ -131,7 +131,7 @@ pub struct Options {
     pub cache: Cache,
     /// What is taken and held.
     pub limits: Limits,
-    /// Whether the map with the name of a code and `.map` is taken, if it is there, without reading the code for its comment.
+    /// Whether the map with the name of a code and `.map` is taken, if it exists, without reading the code for its comment.
     pub beside_first: bool,
     /// The name of the map of a debug id, in which `{}` stands for the id in lower case.
     pub debug_id_name: String,
@@ -185,8 +185,8 @@ type Known = HashMap<(String, Option<String>), Result<Arc<Held>, Missing>>;
 ///
 /// A code's map is the one that its last comment `sourceMappingURL` names, in the store or as a data URL, else the one with its name and
 /// `.map`. With a debug id it is the one of the name [`Options::debug_id_name`], else that of the URL, if its debug id is not another
-/// one. A query or fragment of a URL does not count, and neither does the case of its host; `file:` URLs are paths. Nothing is asked for
-/// over a network.
+/// one. A query or fragment of a URL does not count, and neither does the case of its host; `file:` URLs are paths. The resolver never uses
+/// a network.
 ///
 /// Threads share a resolver. Two that ask for one map read it once, and no thread waits for a map that it does not ask for.
 ///
@@ -279,7 +279,7 @@ impl Resolver {
         self.maps.get(&key, time, || self.finder.find(key.name.as_deref(), url, key.debug_id.as_deref()))
     }
 
-    /// What a map says of a frame.
+    /// What a map has for a frame.
     fn looked_up(&self, frame: Frame, held: &Held) -> Resolved {
         let map = Some(held.name.clone());
         let is_within = |it: u64| (1..=u64::from(u32::MAX)).contains(&it);
@@ -294,7 +294,7 @@ impl Resolver {
         }
     }
 
-    /// What a frame comes to. What is known of the codes of its trace is asked once.
+    /// What a frame resolves to. What is known of the codes of its trace is asked once.
     fn resolved(&self, frame: Frame, end: Duration, known: &mut Known) -> Resolved {
         if (self.clock)() > end {
             return Resolved::not(frame, Reason::Time, format!("the trace took longer than {:?}", self.limits.time));
@@ -315,7 +315,7 @@ impl Resolver {
         }
     }
 
-    /// What a place in a code comes to.
+    /// What a place in a code resolves to.
     ///
     /// ```
     /// use oxc_sourcemap::resolver::{Frame, Options, Reason, Resolver};
@@ -331,7 +331,7 @@ impl Resolver {
 
     // ---- traces ----
 
-    /// What each frame comes to, in order. The limits of frames and of time are those of all together.
+    /// What each frame resolves to, in order. The limits of frames and of time are those of all together.
     ///
     /// ```
     /// use oxc_sourcemap::resolver::{Frame, Options, Resolver};
@@ -344,7 +344,7 @@ impl Resolver {
         self.resolve_all(frames.into_iter().map(Ok))
     }
 
-    /// The same of frames of which some have a URL that is not UTF-8.
+    /// The same for frames of which some have a URL that is not UTF-8.
     fn resolve_all(&self, frames: impl Iterator<Item = Result<Frame, Frame>>) -> Vec<Resolved> {
         let (end, limit, mut known, mut found) = (self.end(), self.limits.frames, Known::new(), Vec::new());
         for frame in frames {
@@ -370,7 +370,7 @@ impl Resolver {
         Ok(())
     }
 
-    /// What each frame of a trace comes to, in order. `debug_ids` has the debug ids of codes by their URLs, as frames name them.
+    /// What each frame of a trace resolves to, in order. `debug_ids` has the debug ids of codes by their URLs, as frames name them.
     ///
     /// Fails with [`Error::TooLarge`] if the trace has more bytes than the limit.
     ///
@@ -388,7 +388,7 @@ impl Resolver {
     }
 
     /// A trace with the place of each frame that is resolved replaced by the original one, `SOURCE:LINE:COLUMN`, which count from 1; all
-    /// else stays. A trace in a JSON text has to be taken out of it before.
+    /// else stays. Extract a trace from a JSON text first.
     ///
     /// Fails with [`Error::TooLarge`] if the trace has more bytes than the limit.
     ///
@@ -402,7 +402,7 @@ impl Resolver {
         Ok(replace_frames(text, &self.resolve_trace(text, &HashMap::new())?))
     }
 
-    /// The same of bytes that need not be UTF-8, which stay to the byte.
+    /// The same for bytes that need not be UTF-8, which stay to the byte.
     ///
     /// Fails with [`Error::TooLarge`] if there are more bytes than the limit.
     ///
@@ -471,7 +471,7 @@ impl Resolver {
         self.totals.told(self.maps.counts(), self.contents.counts().bytes_held)
     }
 
-    /// Lets go of all that is held: what is asked for next is looked for again.
+    /// Releases all that is held: later requests search again.
     ///
     /// ```
     /// use oxc_sourcemap::resolver::{Options, Resolver};
@@ -492,7 +492,7 @@ impl fmt::Debug for Resolver {
     }
 }
 
-/// What a map says of a position, which counts from 0.
+/// What a map has at a position, which counts from 0.
 fn origin(held: &Held, line: u32, column: u32) -> Result<Origin, Missing> {
     let name = &held.name;
     match held.map()?.trace(line, column, Bias::Before) {

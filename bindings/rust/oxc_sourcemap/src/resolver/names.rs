@@ -6,7 +6,7 @@ use std::fmt;
 /// The most bytes of a name in a store.
 pub(super) const MOST_NAME: usize = 1024;
 
-/// Why a name or a URL is refused: it leads out of a store, or is one that no store has. The text says it in words.
+/// Why a name or a URL is refused: it resolves outside of a store, or is one that no store has. The text is the message.
 #[derive(Clone, Debug, PartialEq, Eq)]
 pub struct Refused(pub(super) String);
 

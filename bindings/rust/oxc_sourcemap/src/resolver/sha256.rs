@@ -1,4 +1,4 @@
-//! SHA-256 (FIPS 180-4), by which a compiled map is told to be that of a text. (std has none, nor has the library for C.)
+//! SHA-256 (FIPS 180-4), which shows that a compiled map is that of a text. (std has none, nor has the library for C.)
 
 const FIRST: [u32; 8] =
     [0x6a09e667, 0xbb67ae85, 0x3c6ef372, 0xa54ff53a, 0x510e527f, 0x9b05688c, 0x1f83d9ab, 0x5be0cd19];

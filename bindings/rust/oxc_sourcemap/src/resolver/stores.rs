@@ -65,7 +65,7 @@ impl<S: Store + ?Sized> Store for Box<S> {
     }
 }
 
-/// A file that is open, and what the system says of it.
+/// An open file, and the system's record of it.
 pub(super) struct Opened {
     pub file: File,
     pub status: Metadata,
@@ -90,8 +90,8 @@ impl From<io::Error> for Unopened {
     }
 }
 
-/// A folder as a store. What leads out of it is refused: a name that climbs, and a link, of the file or of a folder above it. Nobody
-/// else may change links in it meanwhile.
+/// A folder as a store. It refuses names that resolve outside of it: by `..`, or by a link of the file or of a folder above it. Nobody else
+/// may change links in it meanwhile.
 ///
 /// ```
 /// use oxc_sourcemap::resolver::{FolderStore, Store};
@@ -168,7 +168,7 @@ impl FolderStore {
     }
 }
 
-/// An error of the system that says which file or folder it is of.
+/// An error of the system that names its file or folder.
 pub(super) fn of_path(error: &io::Error, path: impl Display) -> io::Error {
     io::Error::new(error.kind(), format!("{path}: {error}"))
 }
@@ -211,8 +211,8 @@ impl Opened {
 }
 
 impl Store for FolderStore {
-    /// The bytes of a file; None if there is none. Fails with [`io::ErrorKind::InvalidInput`] and a [`Refused`] of what leads out of the
-    /// folder, and as the system does.
+    /// The bytes of a file; None if there is none. Fails with [`io::ErrorKind::InvalidInput`] and a [`Refused`] for a name that resolves
+    /// outside of the folder, and as the system does.
     fn get(&self, name: &str) -> io::Result<Option<Vec<u8>>> {
         match self.open(name) {
             Ok(None) => Ok(None),
@@ -231,7 +231,7 @@ impl Store for FolderStore {
     }
 }
 
-/// Tells the files apart that this process makes.
+/// Distinguishes the files that this process makes.
 static MADE: AtomicU64 = AtomicU64::new(0);
 
 /// A new file in a folder, by a name that is no other one's.

@@ -36,7 +36,7 @@ pub(super) struct Bounds {
     pub time: Duration,
 }
 
-/// What says of how many bytes it is.
+/// What has a size in bytes.
 pub(super) trait Weighed {
     fn size(&self) -> u64;
 }
@@ -216,7 +216,7 @@ impl<K: Clone + Eq + Hash, V: Weighed> Table<K, V> {
         }
     }
 
-    /// Lets go of all that is held.
+    /// Releases all that is held.
     pub fn clear(&self) {
         let mut guard = locked(&self.state);
         let gone = std::mem::replace(&mut guard.held, Recent::new());

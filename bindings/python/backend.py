@@ -45,12 +45,21 @@ def version() -> str:
     return found[1]
 
 
+def contacts(project: str) -> str:
+    """Who maintains it and where it is, if pyproject.toml tells."""
+    who = re.search(r'^maintainers = \[\{ name = "(.*)", email = "(.*)" \}\]$', project, flags=re.M)
+    urls = re.search(r"^urls = \{ (.*) \}$", project, flags=re.M)
+    lines = [f"Maintainer-email: {who[1]} <{who[2]}>\n"] if who else []
+    rows: list[tuple[str, str]] = re.findall(r'(\w+) = "(.*?)"', urls[1]) if urls else []
+    return "".join(lines + [f"Project-URL: {name}, {url}\n" for name, url in rows])
+
+
 def metadata() -> str:
     project = HERE.joinpath("pyproject.toml").read_text(encoding="utf-8")
     stated: dict[str, str] = dict(re.findall(r'^([a-z-]+) = "(.*)"$', project, flags=re.M))
     return (
         f"Metadata-Version: 2.1\nName: {stated['name']}\nVersion: {version()}\nSummary: {stated['description']}\n"
-        f"License: {stated['license']}\nRequires-Python: {stated['requires-python']}\nDescription-Content-Type: text/markdown\n\n"
+        f"License: {stated['license']}\nRequires-Python: {stated['requires-python']}\n{contacts(project)}Description-Content-Type: text/markdown\n\n"
         f"{HERE.joinpath('README.md').read_text(encoding='utf-8')}"
     )
 

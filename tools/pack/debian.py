@@ -6,10 +6,10 @@ from datetime import datetime, timezone
 from email.utils import format_datetime
 
 from tools.pack import tree
+from tools.pack.copyright import copyright_text
 from tools.pack.files import File, ar, gz, tar, xz
 from tools.pack.products import PROCESSORS, TOP, VERSION, glibc
 
-MAINTAINER = "Junketscarp maintainers <maintainers@users.noreply.junketscarp.example>"
 LIBRARY, DEVELOPMENT, PROGRAMS = "liboxc-sourcemap1", "liboxc-sourcemap-dev", "junketscarp"
 WHAT = """\
  Source maps tell which position of the sources each position of generated
@@ -47,27 +47,9 @@ Files: /usr/share/doc/{DEVELOPMENT}/reference.html
 
 def changelog(products):
     date = format_datetime(datetime.fromtimestamp(products.epoch, timezone.utc))
-    words = f"junketscarp ({products.debian}) unstable; urgency=medium\n\n  * Version {VERSION}; CHANGELOG.md is changelog.gz.\n\n -- {MAINTAINER}  {date}\n"
-    return words.encode()
-
-
-def copyright_text():
-    """The licence of the library, and those of the libraries in it, in Debian's form."""
-
-    def indented(words):
-        return "".join(f" {line.rstrip() or '.'}\n" for line in words.strip().splitlines())
-
-    licence = (TOP / "LICENSE").read_text()
-    others = re.sub(
-        r"^ *Apache License\n.*?(?=^-{4}$|\Z)",
-        "Apache License 2.0: /usr/share/common-licenses/Apache-2.0\n\n",
-        tree.third_party(),
-        flags=re.S | re.M,
-    )
-    holders = "".join(f" {it}\n" for it in re.findall(r"^Copyright.*", licence, re.M)) or " the authors of Junketscarp\n"
-    head = "Format: https://www.debian.org/doc/packaging-manuals/copyright-format/1.0/\nUpstream-Name: Junketscarp\n"
-    own = f"\nFiles: *\nCopyright:\n{holders}License: BSD-3-Clause\n{indented(licence)}"
-    return f"{head}Comment:\n{indented(others)}{own}".encode()
+    words = f"junketscarp ({products.debian}) unstable; urgency=medium\n\n  * Version {VERSION}; CHANGELOG.md is changelog.gz.\n"
+    maintainer = products.project.get("maintainer")
+    return (words + (f"\n -- {maintainer}  {date}\n" if maintainer else "")).encode()
 
 
 def placed(files, package, products, proved):
@@ -79,7 +61,7 @@ def placed(files, package, products, proved):
             path += ".gz"
         found[f"usr/{path}".replace("share/doc/junketscarp/", f"share/doc/{package}/")] = file
     papers = {
-        "copyright": copyright_text(),
+        "copyright": copyright_text(products.project),
         "changelog.Debian.gz": gz(changelog(products), 0),
         "changelog.gz": gz((TOP / "docs/CHANGELOG.md").read_bytes(), 0),
         "PROVED.txt": proved.encode(),
@@ -106,11 +88,12 @@ def control(package, processor, files, products):
         "Version": products.debian,
         "Architecture": PROCESSORS[processor][0],
         "Multi-Arch": "same" if package != PROGRAMS else None,
-        "Maintainer": MAINTAINER,
+        "Maintainer": products.project.get("maintainer"),
         "Installed-Size": str(size),
         "Depends": depends(package, files, products),
         "Section": section,
         "Priority": "optional",
+        "Homepage": products.project.get("homepage"),
     }
     return "".join(f"{name}: {value}\n" for name, value in fields.items() if value) + f"Description: {first}\n{WHAT}{last}\n"
 

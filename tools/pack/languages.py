@@ -8,6 +8,7 @@ from pathlib import Path
 
 from tools.pack import tree
 from tools.pack.products import PROCESSORS, TOP, VERSION, glibc, run
+from tools.pack.project import MANIFESTS, told_in
 
 # The program that packages of Python and JavaScript have for x86-64.
 PROGRAM = "sourcemap"
@@ -15,13 +16,13 @@ PROGRAM = "sourcemap"
 MADE = shutil.ignore_patterns("target", "node_modules", "prebuilds", "__pycache__", "Cargo.lock", "*.whl", "*.tgz")
 
 
-def copied(folder, room, version):
-    """A copy of a folder of bindings/, whose manifests have this version."""
+def copied(folder, room, version, project):
+    """A copy of a folder of bindings/, whose manifests tell this version, and of the project."""
     copy = Path(room, folder)
     shutil.copytree(TOP / "bindings" / folder, copy, ignore=MADE)
-    manifests = [it for name in ("Cargo.toml", "package.json", "__init__.py") for it in copy.rglob(name)]
-    for it in manifests:
-        it.write_text(it.read_text().replace(f'{VERSION}"', f'{version}"'))
+    for it in (it for name in (*MANIFESTS, "__init__.py") for it in copy.rglob(name)):
+        text = it.read_text().replace(f'{VERSION}"', f'{version}"')
+        it.write_text(told_in(it.name, text, project) if it.name in MANIFESTS else text)
     return copy
 
 
@@ -33,8 +34,8 @@ def write_licence(package):
 def python(products, processors):
     """A wheel for each processor, tagged for the oldest glibc that its symbols need, that for x86-64 with the program; and the source."""
     with tempfile.TemporaryDirectory() as room:
-        package = copied("python", room, products.pep440)
-        copied("c", room, VERSION)
+        package = copied("python", room, products.pep440, products.project)
+        copied("c", room, VERSION, products.project)
         write_licence(package)
         # (what a folder has is read in the order of its names)
         made = [wheel(products, it, package) for it in processors]
@@ -67,7 +68,7 @@ def wheel(products, processor, package):
 def rust(products, processors):
     """The crates, with the static library of each processor inside."""
     with tempfile.TemporaryDirectory() as room:
-        workspace = copied("rust", room, products.semver)
+        workspace = copied("rust", room, products.semver, products.project)
         for it in processors:
             folder = workspace / "oxc_sourcemap-sys/lib" / PROCESSORS[it][1]
             folder.mkdir(parents=True)
@@ -82,7 +83,7 @@ def rust(products, processors):
 def javascript(products):
     """The package, with the addon and the program for x86-64 Linux and the module for all else, and the packages for overrides."""
     with tempfile.TemporaryDirectory() as room:
-        package = copied("node", room, products.semver)
+        package = copied("node", room, products.semver, products.project)
         addon = package / "prebuilds/linux-x64/junketscarp.node"
         flags = f"{os.environ.get('CFLAGS', '')} -g0 -ffile-prefix-map={room}=."
         run(package / "build", products.folder, addon, env={**os.environ, "CFLAGS": flags})

@@ -6,6 +6,7 @@ import re
 from datetime import datetime, timezone
 
 from tools.pack.products import PROGRAMS, TOP, libraries_of, licences, run, toolchain
+from tools.pack.project import told_in_spdx
 
 REDO = """\
 git checkout {commit}
@@ -94,7 +95,8 @@ def materials(products, archives):
         for name, content in sorted(archives.items())
     ]
     libraries = [package(f"rattle-{it}", toolchain(), licence_of(it)) for it in used]
-    whole = package("junketscarp", products.semver, "BSD-3-Clause")
+    told = told_in_spdx(products.project, products.commit)
+    whole = package("junketscarp", products.semver, "BSD-3-Clause", **told)
     ties = [("SPDXRef-DOCUMENT", "DESCRIBES", whole)]
     ties += [(it["SPDXID"], "GENERATED_FROM", whole) for it in packed] + [(whole["SPDXID"], "STATIC_LINK", it) for it in libraries]
     document = {
@@ -103,7 +105,7 @@ def materials(products, archives):
         "SPDXID": "SPDXRef-DOCUMENT",
         "name": products.name,
         "documentNamespace": f"https://spdx.org/spdxdocs/{products.name}-{sha256(sums(archives))}",
-        "creationInfo": {"created": created, "creators": ["Organization: Junketscarp maintainers", "Tool: package"]},
+        "creationInfo": {"created": created, "creators": [*filter(None, [told.get("supplier")]), "Tool: package"]},
         "packages": [whole, *packed, *libraries],
         "relationships": [{"spdxElementId": a, "relationshipType": tie, "relatedSpdxElement": b["SPDXID"]} for a, tie, b in ties],
     }

@@ -10,6 +10,7 @@ from pathlib import Path
 TOP = Path(__file__).resolve().parents[2]
 sys.path.append(str(TOP))
 from tools.over_libraries import USES, below, kit
+from tools.pack.project import project
 
 VERSION = (TOP / "tools/VERSION").read_text().strip()
 # What the toolchain writes into what it builds of a proved crate.
@@ -44,6 +45,7 @@ class Products:
     def __init__(self, folder, mark=""):
         self.folder, self.mark = folder, mark
         self.commit, self.epoch = commit()
+        self.project = project()
         # each tool has its own form of a version that is marked
         self.semver = f"{VERSION}-{mark}" if mark else VERSION
         self.pep440 = f"{VERSION}+{mark}" if mark else VERSION

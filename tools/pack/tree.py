@@ -1,10 +1,10 @@
 """The files of an installed Junketscarp, for the tarball, for `install` and for the packages of Debian."""
 
 import os
-import re
 import tempfile
 from pathlib import Path
 
+from tools.pack import pages
 from tools.pack.files import File
 from tools.pack.products import PROGRAMS, TOP, VERSION, libraries_of, licences, run
 
@@ -24,9 +24,10 @@ if(NOT TARGET oxc_sourcemap::oxc_sourcemap)
 endif()
 unset(_oxc_sourcemap_prefix)
 """
+# (C grows by addition alone: a program that was written for an older version takes this one)
 CMAKE_VERSION = """\
 set(PACKAGE_VERSION "{version}")
-if(PACKAGE_FIND_VERSION VERSION_GREATER PACKAGE_VERSION OR NOT PACKAGE_FIND_VERSION_MAJOR STREQUAL "{major}")
+if(PACKAGE_FIND_VERSION VERSION_GREATER PACKAGE_VERSION)
   set(PACKAGE_VERSION_COMPATIBLE FALSE)
 else()
   set(PACKAGE_VERSION_COMPATIBLE TRUE)
@@ -58,25 +59,20 @@ case $1 in
 esac
 exec "$(dirname "$(readlink -f "$0")")/../lib/junketscarp/smap" "$@"
 """
-COMMANDS = "mappings normalise url trace plan"
 
 
 def text(content, mode=0o644):
     return File(content.encode(), mode)
 
 
-def usage():
-    """The text of `smap --help`, as ./smap of the repository has it, for the installed program."""
-    return re.search(r"cat <<'TEXT'\n(.*?)^TEXT\n", (TOP / "smap").read_text(), re.S | re.M)[1].replace("./s", "s")
-
-
-def pc(lib, has_rpath):
+def pc(lib, has_rpath, homepage):
     """The file for pkg-config, which finds all from where it stands."""
     up = "/".join([".."] * (lib.count("/") + 2))
     libs = "-L${libdir} -loxc_sourcemap" + (" -Wl,-rpath,${libdir}" if has_rpath else "")
+    url = f"URL: {homepage}\n" if homepage else ""
     return (
         f"prefix=${{pcfiledir}}/{up}\nlibdir=${{prefix}}/{lib}\nincludedir=${{prefix}}/include\n\nName: oxc_sourcemap\n"
-        f"Description: Source maps of version 3 (ECMA-426)\nVersion: {VERSION}\nCflags: -I${{includedir}}\nLibs: {libs}\n"
+        f"Description: Source maps of version 3 (ECMA-426)\n{url}Version: {VERSION}\nCflags: -I${{includedir}}\nLibs: {libs}\n"
     )
 
 
@@ -91,9 +87,9 @@ def development(products, processor, lib, has_rpath):
     files = {f"{lib}/liboxc_sourcemap.a": File(products.static(processor)), "include/oxc_sourcemap.h": File(header)}
     files["include/oxc_sourcemap.hpp"] = File((TOP / "bindings/c/oxc_sourcemap.hpp").read_bytes())
     files[f"{lib}/liboxc_sourcemap.so"] = File(link="liboxc_sourcemap.so.1")
-    files[f"{lib}/pkgconfig/oxc_sourcemap.pc"] = text(pc(lib, has_rpath))
+    files[f"{lib}/pkgconfig/oxc_sourcemap.pc"] = text(pc(lib, has_rpath, products.project.get("homepage")))
     files[f"{lib}/cmake/oxc_sourcemap/oxc_sourcemapConfig.cmake"] = text(CMAKE_CONFIG.format(up=up, lib=lib))
-    version = CMAKE_VERSION.format(version=VERSION, major=VERSION.split(".")[0])
+    version = CMAKE_VERSION.format(version=VERSION)
     files[f"{lib}/cmake/oxc_sourcemap/oxc_sourcemapConfigVersion.cmake"] = text(version)
     return files | reference(products)
 
@@ -111,26 +107,12 @@ def reference(products):
         return pages | {"share/doc/junketscarp/reference.html": File(Path(room, "reference.html").read_bytes())}
 
 
-def escaped(words):
-    return "\n".join(f"\\&{it}" if it.startswith((".", "'")) else it for it in words.replace("\\", "\\e").replace("-", "\\-").splitlines())
-
-
-def smap_page():
-    """The page of the manual of smap: the text of its help."""
-    return (
-        f'.TH SMAP 1 "" "junketscarp {VERSION}" "User Commands"\n.SH NAME\nsmap \\- read, write, look up, join and remap source maps at a shell\n'
-        f".SH SYNOPSIS\n.B smap\n[\\-\\-where] COMMAND < INPUT\n.SH DESCRIPTION\n.nf\n{escaped(usage().partition(chr(10))[2])}\n.fi\n"
-    )
-
-
 def smap_files(products):
     share = "share/bash-completion/completions/smap", "share/zsh/site-functions/_smap", "share/fish/vendor_completions.d/smap.fish"
-    words = f"complete -W '{COMMANDS} --help --version --where' smap\n", f"#compdef smap\n_arguments '1:command:({COMMANDS})'\n"
-    fish = f"complete -c smap -f -n __fish_use_subcommand -a '{COMMANDS}'\n"
-    files = {path: text(it) for path, it in zip(share, (*words, fish))}
-    files["bin/smap"] = text(SMAP.format(usage=usage(), version=VERSION), 0o755)
+    files = {path: text(it) for path, it in zip(share, pages.completions())}
+    files["bin/smap"] = text(SMAP.format(usage=pages.usage(), version=VERSION), 0o755)
     files["lib/junketscarp/smap"] = File(products.program("smap"), 0o755)
-    return files | {"share/man/man1/smap.1": text(smap_page())}
+    return files | {"share/man/man1/smap.1": text(pages.smap_page())}
 
 
 def sourcemap_files(products):
@@ -146,7 +128,7 @@ def sourcemap_files(products):
     page = products.folder / "wasm/page.html"
     if page.is_file():
         files["share/sourcemap/page.html"] = File(page.read_bytes())
-    return files | {"share/man/man1/sourcemap.1": text(run(program, "man"))}
+    return files | {"share/man/man1/sourcemap.1": text(run(program, "man") + pages.sections("sourcemap"))}
 
 
 def programs(products):

@@ -113,12 +113,14 @@ def by_cmake(empty, tree, *more, **environment):
 
 
 def refuses_another_version(empty, tree):
-    """CMake refuses to take this library for one of another first number."""
+    """CMake takes this library for an older one, as C grows by addition alone, but not for a newer one."""
     major = int(VERSION.split(".")[0])
-    empty.write("other/job.c", C_JOB)
-    empty.write("other/CMakeLists.txt", CMAKE_JOB.format(version=f"{major + 1}.0"))
+    for name, version in (("older", "1.0"), ("newer", f"{major + 1}.0")):
+        empty.write(f"{name}/job.c", C_JOB)
+        empty.write(f"{name}/CMakeLists.txt", CMAKE_JOB.format(version=version))
+    empty.run("cmake", "-S", "older", "-B", "older/build", f"-DCMAKE_PREFIX_PATH={tree}")
     try:
-        empty.run("cmake", "-S", "other", "-B", "other/build", f"-DCMAKE_PREFIX_PATH={tree}")
+        empty.run("cmake", "-S", "newer", "-B", "newer/build", f"-DCMAKE_PREFIX_PATH={tree}")
     except Fault as fault:
         holds("compatible with requested version" in str(fault).replace("\n  ", " "), str(fault))
         return
@@ -126,10 +128,21 @@ def refuses_another_version(empty, tree):
 
 
 def has_pages(tree):
-    """groff, behind man, has nothing to say against any page."""
+    """groff, behind man, has nothing to say against any page, and those of the programs have their last sections."""
     pages = [it for it in sorted((tree / "share/man").rglob("*.[13]")) if not it.is_symlink()]
+    for it in (tree / "share/man/man1").iterdir():
+        missing = [name for name in ("EXIT STATUS", "ENVIRONMENT", "FILES") if f"\n.SH {name}\n" not in it.read_text()]
+        holds(not missing, f"{it.name} has no {missing}")
     said = subprocess.run(["groff", "-man", "-Tutf8", "-ww", "-z", "-rLL=200n", *pages], capture_output=True, text=True)
     holds(not said.stderr and not said.returncode, said.stderr)
+
+
+def completes(tree):
+    """Each shell that is there reads its completions."""
+    places = {"bash": "bash-completion/completions/*", "zsh": "zsh/site-functions/_*", "fish": "fish/vendor_completions.d/*.fish"}
+    for shell, path in places.items():
+        for it in sorted((tree / "share").glob(path)) if shutil.which(shell) else []:
+            ran([shell, "-n", it])
 
 
 def installs(room, tree, what):
@@ -194,6 +207,7 @@ def try_tarball(tally, room, archive, what):
     if tally.has("x64 tarball, CMake", "cc", "cmake"):
         tally.attempt("x64 tarball, from C by CMake", by_cmake, empty, tree)
         tally.attempt("x64 tarball, another version by CMake", refuses_another_version, empty, tree)
+    tally.attempt("x64 tarball, completions", completes, tree)
     if tally.has("x64 tarball, manual", "groff"):
         tally.attempt("x64 tarball, manual", has_pages, tree)
     tally.attempt("install", installs, room, tree, what)

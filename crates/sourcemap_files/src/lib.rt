@@ -8,6 +8,7 @@ mod contents;
 mod finding;
 mod input;
 mod limit;
+mod listing;
 mod paths;
 mod progress;
 mod scopes;
@@ -28,6 +29,7 @@ pub use input::{
     is_file, is_regular, print, print_bytes, read_text, shown_name, tell, usage, warn,
 };
 pub use limit::{limit_of, limited_json};
+pub use listing::files_below;
 pub use paths::{
     bytes_to_escape, current_folder, file_name, folder_of, is_inside, path_of_url, place_of,
     plain_path, real_name, relative_to, with_slash, written_name,

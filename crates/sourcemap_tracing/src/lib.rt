@@ -3,6 +3,7 @@
 
 mod colours;
 mod context;
+mod debug_ids;
 mod maps;
 mod positions;
 pub mod resolve;

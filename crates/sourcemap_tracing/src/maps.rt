@@ -1,4 +1,5 @@
 //! The maps of the files that frames name, and their answers for the places of frames.
+use crate::debug_ids::{ById, DebugIds};
 use oxc_sourcemap_parts::apply_root;
 use oxc_sourcemap_scopes::{Frames, Scopes};
 use oxc_sourcemap_tokens::Position;
@@ -46,6 +47,8 @@ pub enum Matched {
     Prefix { prefix: String, path: String },
     /// The name of its map alone.
     Name { map: String },
+    /// Its debug id, which its map has.
+    Id { map: String },
 }
 
 /// The result for a frame: where to look, or why it stays.
@@ -82,6 +85,7 @@ pub struct Maps {
     /// Of each map the scopes, if it has some and they are asked for.
     pub scopes: Vec<Option<Scopes>>,
     input: InputPrefix,
+    ids: DebugIds,
 }
 
 /// What was found for a file that frames name.
@@ -135,6 +139,9 @@ impl Matched {
                 path: String::from_str(alloc, path.as_str())?,
             },
             Matched::Name { map } => Matched::Name {
+                map: String::from_str(alloc, map.as_str())?,
+            },
+            Matched::Id { map } => Matched::Id {
                 map: String::from_str(alloc, map.as_str())?,
             },
         })
@@ -279,14 +286,41 @@ fn search_file(asked: &Asked<'_, '_>, input: &mut InputPrefix, file: &str) -> Ou
     })
 }
 
+/// The result of a search for a code by its debug id; None if none is given for it.
+fn search_by_id(asked: &Asked<'_, '_>, found: ById) -> Outcome<Option<Search>> {
+    let (lookup, matched) = match found {
+        ById::Unknown => return Ok(None),
+        ById::Map(map) => {
+            let name = String::from_str(asked.alloc(), map.name.as_str())?;
+            (Lookup::Map(map), Matched::Id { map: name })
+        }
+        ById::None(why) => (Lookup::None(why), Matched::Whole),
+    };
+    Ok(Some(Search {
+        lookup,
+        reason: Reason::NoMap,
+        matched,
+        code: None,
+    }))
+}
+
 impl Maps {
-    pub fn new(alloc: Global, input: InputPrefix) -> Maps {
+    pub fn new(alloc: Global, input: InputPrefix, ids: DebugIds) -> Maps {
         Maps {
             files: HashMap::new(alloc),
             tracers: Vec::new(alloc),
             names: Vec::new(alloc),
             scopes: Vec::new(alloc),
             input,
+            ids,
+        }
+    }
+
+    /// The map of a file that frames name, or why there is none: by its debug id, if that is given, else by its path.
+    fn search(&mut self, asked: &Asked<'_, '_>, file: &str) -> Outcome<Search> {
+        match search_by_id(asked, self.ids.find(asked, file)?)? {
+            Some(found) => Ok(found),
+            None => search_file(asked, &mut self.input, file),
         }
     }
 
@@ -297,7 +331,7 @@ impl Maps {
             reason,
             matched,
             code,
-        } = search_file(asked, &mut self.input, file)?;
+        } = self.search(asked, file)?;
         let text = match lookup {
             Lookup::Map(text) => text,
             Lookup::None(why) => return Ok(Known::None(Stay { reason, why })),

@@ -1,5 +1,6 @@
 //! `resolve`: resolves the frames of a stack trace, line by line.
 use crate::colours::has_codes;
+use crate::debug_ids::DebugIds;
 use crate::maps::{Maps, Matched, REASONS, Reason, Stay};
 use crate::source_frames::{
     LedFrame, PLAIN, first_place, push_ends, push_source_members, source_text,
@@ -285,6 +286,7 @@ fn how_matched(alloc: Global, matched: &Matched) -> Result<Option<String>, Alloc
             Some(format!(in alloc; "found as {path} below the prefix {prefix}")?)
         }
         Matched::Name { map } => Some(format!(in alloc; "found by its name alone: {map}")?),
+        Matched::Id { map } => Some(format!(in alloc; "found by its debug id: {map}")?),
     })
 }
 
@@ -329,6 +331,7 @@ fn push_matched_members(matched: &Matched, out: &mut String) -> Outcome<()> {
             push_text_member("prefix", prefix.as_str(), out)?;
         }
         Matched::Name { .. } => push_text_member("matched", "maps", out)?,
+        Matched::Id { .. } => push_text_member("matched", "debugId", out)?,
     }
     Ok(())
 }
@@ -578,7 +581,7 @@ pub fn run(asked: &Asked<'_, '_>) -> Outcome<Status> {
     let mut resolver = Resolver {
         asked,
         finder: patterns.finder(alloc)?,
-        maps: Maps::new(alloc, asked.input_prefix()?),
+        maps: Maps::new(alloc, asked.input_prefix()?, DebugIds::new(asked)?),
         form: form_of(asked),
         count: Count {
             frames: 0,

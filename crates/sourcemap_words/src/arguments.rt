@@ -126,7 +126,7 @@ const TRACE: Words = Words {
 
 const RESOLVE: Words = Words {
     about: "Resolves the frames of stack traces to the originals, as V8, Firefox, Safari and Hermes print them, in traces and in logs",
-    json: "An object a line: text, resolved, and of a frame file, line, column; with a map map, found, source, sourceLine, sourceColumn, name; with scopes function, callers (source, sourceLine, sourceColumn, function), hidden (its row is left out; a line that is left out has no resolved); or why; from 1; matched (prefix or maps) and prefix where the whole path was not there; of several frames the list frames",
+    json: "An object a line: text, resolved, and of a frame file, line, column; with a map map, found, source, sourceLine, sourceColumn, name; with scopes function, callers (source, sourceLine, sourceColumn, function), hidden (its row is left out; a line that is left out has no resolved); or why; from 1; matched (prefix, maps or debugId) and prefix where the whole path was not there; of several frames the list frames",
     words: &[
         Word(
             "TRACE",
@@ -138,6 +138,11 @@ const RESOLVE: Words = Words {
             "explain",
             Kind::Flag,
             "Says below a frame why it stays as it is, or, if not by its whole path, how its code was found",
+        ),
+        Word(
+            "debug-id-map",
+            Kind::Option("FILE"),
+            "A JSON object with the debug ids of codes, by the names in frames: maps are found by these in the folder of --maps or else of --root",
         ),
         Word(
             "names",

@@ -6,6 +6,7 @@ mod asked;
 mod compiled;
 mod contents;
 mod finding;
+mod folders;
 mod input;
 mod limit;
 mod listing;
@@ -25,6 +26,7 @@ pub use finding::{
     found_error_text, is_in_root, is_map, is_map_file, language_of, map_by_name, map_of_code,
     map_of_file, map_without_code, read_map, read_map_alone, rooted_map, text_of_map,
 };
+pub use folders::{files_with_maps, names_folder};
 pub use input::{
     is_file, is_regular, print, print_bytes, read_text, shown_name, tell, usage, warn,
 };

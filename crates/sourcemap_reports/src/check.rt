@@ -1,15 +1,19 @@
 //! `check`: what is wrong in maps, and what they hold.
+use crate::codes::{
+    BAD_COMPILED, Code, DEBUG_IDS, DIFFERENT_COMPILED, Level, MISSING_CONTENT, NO_MAP, PAST_CODE,
+    PAST_CONTENT, SCOPES_SOURCE, STALE_BESIDE, STALE_COMPILED, UNCOMPARED, UNNEEDED, UNREADABLE,
+    UNREADABLE_BESIDE, UNSORTED, code_of_error, code_of_mend, code_of_scopes,
+};
 use crate::scopes::{MapScopes, Needed, PastSources, calls_past, scopes_in, trees_past};
 use oxc_sourcemap_found::{FoundParts, Mend, read_found_parts};
 use oxc_sourcemap_map::SourceMap;
-use oxc_sourcemap_scopes::ScopesError;
 use oxc_sourcemap_text::TextPositions;
 use oxc_sourcemap_tokens::{Error, Token};
 use sourcemap_files::{
     Asked, COMPILED_END, CONTENTS_END, Decompiled, Lookup, MapText, Progress, Status, Written,
-    decompile, error_text, found_error_text, is_file, is_made_of, is_map_file, is_regular,
-    is_stale, map_of_code, parts_in, print, put_contents, read_text, read_written, shown_name,
-    tell,
+    decompile, error_text, files_with_maps, found_error_text, is_file, is_made_of, is_map_file,
+    is_regular, is_stale, map_of_code, names_folder, parts_in, print, put_contents, read_text,
+    read_written, shown_name, tell,
 };
 use sourcemap_run::{
     are_same_ids, debug_id_of_code, debug_id_of_map, push_object, push_text_member,
@@ -18,24 +22,6 @@ use sourcemap_texts::{push_shown, push_visible};
 use sourcemap_words::{Failure, Outcome, failure_of};
 use std::alloc::{AllocError, Global};
 
-/// The kind of a report on a map.
-#[derive(Clone, Copy, PartialEq, Eq)]
-enum Kind {
-    Summary,
-    Wrong,
-    Note,
-}
-
-impl Kind {
-    fn name(self) -> &'static str {
-        match self {
-            Kind::Summary => "summary",
-            Kind::Wrong => "wrong",
-            Kind::Note => "note",
-        }
-    }
-}
-
 /// The report on one file, as it is printed.
 #[derive(Drop)]
 struct Report {
@@ -43,25 +29,57 @@ struct Report {
     file: String,
     json: bool,
     out: String,
+    /// The least level of a finding at which something is wrong.
+    least: Level,
     is_wrong: bool,
 }
 
 impl Report {
-    fn tell(&mut self, kind: Kind, text: &str) -> Outcome<()> {
-        self.is_wrong |= kind == Kind::Wrong;
-        if !self.json {
-            let (file, name) = (&self.file, kind.name());
-            let line = match kind {
-                Kind::Summary => format!(in self.alloc; "{file}: {text}")?,
-                _ => format!(in self.alloc; "{file}: {name}: {text}")?,
-            };
-            push_visible(line.as_str(), &mut self.out)?;
-            return Ok(self.out.push('\n')?);
+    /// Tells of a finding.
+    fn tell(&mut self, code: Code, text: &str) -> Outcome<()> {
+        let Code(_, level) = code;
+        self.is_wrong |= level.is_from(self.least);
+        if self.json {
+            self.push_object(Some(code), text)
+        } else {
+            self.push_line(Some(level.kind()), text)
         }
+    }
+
+    /// Tells what the map has.
+    fn tell_summary(&mut self, text: &str) -> Outcome<()> {
+        if self.json {
+            self.push_object(None, text)
+        } else {
+            self.push_line(None, text)
+        }
+    }
+
+    /// Appends a line: the file, what a finding is called, and the text.
+    fn push_line(&mut self, kind: Option<&str>, text: &str) -> Outcome<()> {
+        let file = &self.file;
+        let line = match kind {
+            Some(kind) => format!(in self.alloc; "{file}: {kind}: {text}")?,
+            None => format!(in self.alloc; "{file}: {text}")?,
+        };
+        push_visible(line.as_str(), &mut self.out)?;
+        Ok(self.out.push('\n')?)
+    }
+
+    /// Appends a line with an object, of a finding with its code.
+    fn push_object(&mut self, code: Option<Code>, text: &str) -> Outcome<()> {
+        let kind = match code {
+            Some(Code(_, level)) => level.kind(),
+            None => "summary",
+        };
         let mut members = String::new(self.alloc);
         push_text_member("file", self.file.as_str(), &mut members)?;
-        push_text_member("kind", kind.name(), &mut members)?;
+        push_text_member("kind", kind, &mut members)?;
         push_text_member("text", text, &mut members)?;
+        if let Some(Code(name, level)) = code {
+            push_text_member("code", name, &mut members)?;
+            push_text_member("level", level.name(), &mut members)?;
+        }
         push_object(members.as_str(), &mut self.out)?;
         Ok(self.out.push('\n')?)
     }
@@ -96,7 +114,7 @@ fn tell_summary(report: &mut Report, bytes: usize, map: &SourceMap<'_>) -> Outco
     let text = format!(in alloc;
         "{sources}, {names}, {count} on {lines}; {bytes} bytes, of which {contents} are contents"
     )?;
-    report.tell(Kind::Summary, text.as_str())
+    report.tell_summary(text.as_str())
 }
 
 /// Lines on which a token is before the one ahead of it.
@@ -123,7 +141,7 @@ fn tell_unsorted(report: &mut Report, tokens: &[Token]) -> Outcome<()> {
     let text = format!(in report.alloc;
         "{lines} {have} tokens out of order, the first at line {line}, column {column}"
     )?;
-    report.tell(Kind::Wrong, text.as_str())
+    report.tell(UNSORTED, text.as_str())
 }
 
 /// What the exact reader refuses, and where. Of what is no JSON of a map to that reader, only what is mended is reported; of ids and
@@ -133,7 +151,7 @@ fn tell_refused(report: &mut Report, text: &str, error: Error, mends: &[Mend]) -
         return Ok(());
     }
     let text = error_text(report.alloc, text, error)?;
-    report.tell(Kind::Wrong, text.as_str())
+    report.tell(code_of_error(error), text.as_str())
 }
 
 /// What the exact reader refuses or leaves unsorted, and where; and what the tolerant one mends.
@@ -145,7 +163,7 @@ fn tell_faults(report: &mut Report, text: &str, mends: &[Mend]) -> Outcome<()> {
     }
     for mend in mends {
         let text = format!(in alloc; "{mend}")?;
-        report.tell(Kind::Wrong, text.as_str())?;
+        report.tell(code_of_mend(mend.kind), text.as_str())?;
     }
     Ok(())
 }
@@ -167,7 +185,7 @@ impl Past {
         }
     }
 
-    fn tell(&self, report: &mut Report, what: &str) -> Outcome<()> {
+    fn tell(&self, report: &mut Report, code: Code, what: &str) -> Outcome<()> {
         let Some((line, column)) = self.first else {
             return Ok(());
         };
@@ -176,7 +194,7 @@ impl Past {
         let text = format!(in report.alloc;
             "{tokens} {are} past the end of {what} or of one of its lines, the first at line {line}, column {column}"
         )?;
-        report.tell(Kind::Wrong, text.as_str())
+        report.tell(code, text.as_str())
     }
 }
 
@@ -186,7 +204,7 @@ fn tell_past_code(report: &mut Report, code: &str, tokens: &[Token]) -> Outcome<
     for token in tokens {
         past.note(&positions, token.get_dst_line(), token.get_dst_col());
     }
-    past.tell(report, "the code")
+    past.tell(report, PAST_CODE, "the code")
 }
 
 /// Whether a token points to a source.
@@ -209,7 +227,7 @@ fn tell_past_content(
     }
     let mut what = String::from_str(report.alloc, "the content of ")?;
     push_shown(map.get_source(id).unwrap_or(""), &mut what)?;
-    past.tell(report, what.as_str())
+    past.tell(report, PAST_CONTENT, what.as_str())
 }
 
 fn tell_contents(report: &mut Report, map: &SourceMap<'_>) -> Outcome<()> {
@@ -231,7 +249,7 @@ fn tell_contents(report: &mut Report, map: &SourceMap<'_>) -> Outcome<()> {
     if missing.is_empty() {
         return Ok(());
     }
-    report.tell(Kind::Note, missing.as_str())
+    report.tell(MISSING_CONTENT, missing.as_str())
 }
 
 /// Reports sources past the last one that something has.
@@ -244,22 +262,18 @@ fn tell_past_sources(report: &mut Report, past: PastSources, what: &str) -> Outc
     let text = format!(in report.alloc;
         "scopes: {what} {have} a source past the last one, the first source {first}"
     )?;
-    report.tell(Kind::Wrong, text.as_str())
+    report.tell(SCOPES_SOURCE, text.as_str())
 }
 
 /// What is wrong with the scopes of a map.
 fn tell_scopes(report: &mut Report, map: &SourceMap<'_>, held: &MapScopes) -> Outcome<()> {
     for (section, fault) in &held.faults {
         let text = format!(in report.alloc; "section {section}: {fault}")?;
-        report.tell(Kind::Wrong, text.as_str())?;
+        report.tell(code_of_scopes(*fault), text.as_str())?;
     }
     if let Some(fault) = held.fault {
-        let is_sound = matches!(fault, ScopesError::Indexed);
         let text = format!(in report.alloc; "{fault}")?;
-        report.tell(
-            if is_sound { Kind::Note } else { Kind::Wrong },
-            text.as_str(),
-        )?;
+        report.tell(code_of_scopes(fault), text.as_str())?;
     }
     let Some(scopes) = &held.scopes else {
         return Ok(());
@@ -315,7 +329,7 @@ fn tell_unneeded(report: &mut Report, map: SourceMap<'static>, held: &MapScopes)
     let text = format!(in alloc;
         "nothing needs {tokens}, {names} and {sources}: see `sourcemap remap --simplify`"
     )?;
-    report.tell(Kind::Note, text.as_str())
+    report.tell(UNNEEDED, text.as_str())
 }
 
 /// Reports that the debug id of a map is not that of its code, if both have one.
@@ -329,7 +343,7 @@ fn tell_debug_ids(report: &mut Report, map: Option<&str>, code: Option<&str>) ->
     let text = format!(in report.alloc;
         "the code has the debug id {code}, and the map {map}: see `sourcemap debug-id`"
     )?;
-    report.tell(Kind::Wrong, text.as_str())
+    report.tell(DEBUG_IDS, text.as_str())
 }
 
 /// Reports on a map that was read, and on its code if there is one.
@@ -354,7 +368,7 @@ fn check_text(report: &mut Report, text: &str, code: Option<&str>) -> Outcome<()
         Ok(found) => found,
         Err(error) => {
             let text = found_error_text(alloc, text, error)?;
-            return report.tell(Kind::Wrong, text.as_str());
+            return report.tell(code_of_error(error), text.as_str());
         }
     };
     let map = SourceMap::from_parts(parts);
@@ -373,7 +387,7 @@ fn check_compiled(
 ) -> Outcome<()> {
     let parts = match decompile(report.alloc, bytes)? {
         Decompiled::Map(parts) => parts,
-        Decompiled::Wrong(why) => return report.tell(Kind::Wrong, why.as_str()),
+        Decompiled::Wrong(why) => return report.tell(BAD_COMPILED, why.as_str()),
     };
     let map = SourceMap::from_parts(parts);
     tell_summary(report, bytes.len(), &map)?;
@@ -418,6 +432,7 @@ fn report_on(asked: &Asked<'_, '_>, file: &str) -> Result<Report, AllocError> {
         file: String::from_str(asked.alloc(), shown_name(file))?,
         json: asked.has("json"),
         out: String::new(asked.alloc()),
+        least: Level::of_name(asked.word("level")),
         is_wrong: false,
     })
 }
@@ -441,14 +456,14 @@ fn tell_different(
     let alloc = report.alloc;
     let parts = match parts_in(alloc, name, text) {
         Ok(parts) => parts,
-        Err(Failure::Told(why)) => return report.tell(Kind::Wrong, why.as_str()),
+        Err(Failure::Told(why)) => return report.tell(UNREADABLE, why.as_str()),
         Err(failure) => return Err(failure),
     };
     if is_made_of(alloc, name, parts, text, bytes, is_apart)? {
         return Ok(());
     }
     let told = format!(in alloc; "differs from {name}: compile it again")?;
-    report.tell(Kind::Wrong, told.as_str())
+    report.tell(DIFFERENT_COMPILED, told.as_str())
 }
 
 /// Reports whether a compiled map is that of the map beside it.
@@ -460,14 +475,14 @@ fn tell_stale(rt: &HostRuntime, file: &str, bytes: &[u8], report: &mut Report) -
     };
     if !is_file(rt, name) {
         let told = format!(in report.alloc; "not compared: {name} is not there")?;
-        return report.tell(Kind::Note, told.as_str());
+        return report.tell(UNCOMPARED, told.as_str());
     }
     let text = read_text(rt, name)?;
     if !is_stale(bytes, text.as_str()) {
         return tell_different(report, bytes, name, text.as_str(), is_apart);
     }
     let told = format!(in report.alloc; "out of date: {name} has another text: compile it again")?;
-    report.tell(Kind::Wrong, told.as_str())
+    report.tell(STALE_COMPILED, told.as_str())
 }
 
 /// Reports the compiled map beside a map in a file, if it was made of another text or cannot be read. The map is checked all the same.
@@ -482,10 +497,10 @@ fn tell_stale_beside(rt: &HostRuntime, map: &str, text: &str, report: &mut Repor
                 return Ok(());
             }
             let told = format!(in report.alloc; "{name} is out of date: compile it again")?;
-            report.tell(Kind::Note, told.as_str())
+            report.tell(STALE_BESIDE, told.as_str())
         }
         Ok(Written::Text(_)) => Ok(()),
-        Err(Failure::Told(why)) => report.tell(Kind::Note, why.as_str()),
+        Err(Failure::Told(why)) => report.tell(UNREADABLE_BESIDE, why.as_str()),
         Err(failure) => Err(failure),
     }
 }
@@ -527,13 +542,17 @@ fn check_as_code(
                 _ => Ok(()),
             }
         }
-        Lookup::None(why) => report.tell(Kind::Wrong, why.as_str()),
+        Lookup::None(why) => report.tell(NO_MAP, why.as_str()),
     }
 }
 
-/// Reports on a file.
+/// Reports on a file, or on a folder that has none to be checked.
 fn check_file(asked: &Asked<'_, '_>, file: &str) -> Outcome<Report> {
     let mut report = report_on(asked, file)?;
+    if names_folder(asked.rt, file) {
+        report.tell(NO_MAP, "no map is in this folder or below it")?;
+        return Ok(report);
+    }
     let written = read_written(asked.rt, file)?;
     if let Written::Text(text) = &written
         && !is_map_file(file, text.as_str())
@@ -545,29 +564,68 @@ fn check_file(asked: &Asked<'_, '_>, file: &str) -> Outcome<Report> {
     Ok(report)
 }
 
+/// Adds the files that a word stands for: of a folder those in it that have maps, or, if there are none, the folder itself.
+fn push_files(asked: &Asked<'_, '_>, word: &str, files: &mut Vec<String>) -> Outcome<()> {
+    if names_folder(asked.rt, word) {
+        let mut found = files_with_maps(asked.rt, word, asked.places())?;
+        if !found.is_empty() {
+            files.append(&mut found)?;
+            return Ok(());
+        }
+    }
+    files.push(String::from_str(asked.alloc(), word)?)?;
+    Ok(())
+}
+
+/// Tells why something was not checked. What ends the run is returned.
+fn tell_failure(rt: &HostRuntime, failure: Failure) -> Outcome<()> {
+    match failure {
+        Failure::Told(text) => {
+            tell(rt, text.as_str());
+            Ok(())
+        }
+        failure => Err(failure),
+    }
+}
+
+/// The files that words stand for, and the last of the folders that cannot be looked through, which is told.
+fn files_of<'w>(
+    asked: &Asked<'_, '_>,
+    words: &[&'w str],
+) -> Outcome<(Vec<String>, Option<&'w str>)> {
+    let mut files = Vec::new(asked.alloc());
+    let mut trouble = None;
+    for word in words {
+        if let Err(failure) = push_files(asked, word, &mut files) {
+            tell_failure(asked.rt, failure)?;
+            trouble = Some(*word);
+        }
+    }
+    Ok((files, trouble))
+}
+
 /// Runs the command `check`.
 pub fn run(asked: &Asked<'_, '_>) -> Outcome<Status> {
-    let files = asked.words("FILE")?;
+    let words = asked.words("FILE")?;
+    let (files, folder) = files_of(asked, words.as_slice())?;
     let mut progress = Progress::new(asked.rt, files.len());
     let mut is_wrong = false;
-    let mut trouble = None;
+    let mut trouble = folder;
     for file in &files {
-        progress.begin(asked.rt, file);
-        match check_file(asked, file) {
+        progress.begin(asked.rt, file.as_str());
+        let checked = check_file(asked, file.as_str());
+        progress.clear(asked.rt);
+        match checked {
             Ok(report) => {
-                progress.clear(asked.rt);
                 print(asked.rt, report.out.as_str())?;
                 is_wrong |= report.is_wrong;
             }
-            Err(Failure::Told(text)) => {
-                progress.clear(asked.rt);
-                tell(asked.rt, text.as_str());
-                trouble = Some(*file);
+            Err(failure) => {
+                tell_failure(asked.rt, failure)?;
+                trouble = Some(file.as_str());
             }
-            Err(failure) => return Err(failure),
         }
     }
-    progress.clear(asked.rt);
     match trouble {
         Some(file) => Err(failure_of(asked.alloc(), file, "was not checked, see above")),
         None => Ok(Status::of(!is_wrong)),

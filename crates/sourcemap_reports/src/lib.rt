@@ -3,6 +3,7 @@
 #![tactic(auto)]
 
 pub mod check;
+mod codes;
 pub mod coverage;
 pub mod diff;
 pub mod page;

@@ -154,12 +154,19 @@ const RESOLVE: Words = Words {
 
 const CHECK: Words = Words {
     about: "Reports what is wrong in maps, and what they hold",
-    json: "An object a line: file, kind (wrong, note or summary), text",
-    words: &[Word(
-        "FILE",
-        Kind::Files,
-        "Maps, and codes whose maps are found; compiled maps are compared with the maps beside them",
-    )],
+    json: "An object a line: file, kind (wrong, note or summary), text; but of a summary code and level (see below)",
+    words: &[
+        Word(
+            "FILE",
+            Kind::Files,
+            "Maps, and codes whose maps are found; compiled maps are compared with the maps beside them; of a folder all these that are in it",
+        ),
+        Word(
+            "level",
+            Kind::Which("LEVEL", &["error", "warning", "note"]),
+            "The least level of what makes the status 1 [default: warning]",
+        ),
+    ],
 };
 
 const REMAP: Words = Words {

@@ -19,8 +19,55 @@ Examples:
   node app.js 2>&1 | sourcemap resolve --root dist --explain
   tail -f log | sourcemap resolve --prefix /usr/src/app=dist --prefix https://cdn.example/v2=public";
 
-const CHECK: &str = "Examples:
-  sourcemap check dist/*.js
+const CHECK: &str =
+    "A folder stands for the files in it and below it, in order of their paths: codes (.js, .mjs, .cjs, .css) that name a map or have one;
+maps (.map) that are not those of such codes; compiled maps (.map.smc). Folders node_modules below it are left out, and links.
+
+Each finding but the summary has a level and, in --json, a code:
+  error, where the map is wrong or a lookup may be
+    bad-compiled                 a compiled map cannot be read, or is damaged
+    bad-member                   a member is missing, or of the wrong type
+    bad-scopes                   scopes have a fault
+    bad-segment                  a segment of the mappings has a fault
+    cut-section                  tokens are behind the beginning of the next section
+    debug-id-mismatch            the code and the map have different debug ids
+    different-compiled           a compiled map is not what its map is compiled to
+    name-out-of-range            tokens have a name that is not there
+    no-json                      the text is no JSON
+    no-map                       a code has no map, or a folder none
+    past-code                    tokens are past the end of the code or of a line
+    past-content                 the same of the content of a source
+    scopes-source-out-of-range   scopes have a source that is not there
+    section-order                sections are not in order
+    source-out-of-range          tokens, or an ignore list, have a source that is not there
+    stale-compiled               a compiled map was made of another text than its map has
+    too-large                    a number is too large
+    unreadable                   the map of a compiled map cannot be read
+    unsorted                     tokens are not in order
+    wrong-version                the version is not 3
+  warning, where something is mended
+    bad-content                  an entry of sourcesContent is neither a text nor null
+    bad-contents                 sourcesContent is no list
+    bad-ignore-list              an ignore list is no list
+    bad-ignored-id               an entry of an ignore list is no source
+    byte-order-mark              there is one in front
+    data-url                     the text is a data URL
+    json-prefix                  the first line begins with )]}'
+    no-sources                   sources is missing
+    null-names                   names is null
+    null-source                  a source is null
+    version-form                 the version is 3.0 or the text 3
+  note
+    missing-content              sources have no content
+    stale-beside                 the compiled map beside was made of another text
+    uncompared                   the map of a compiled map is not there
+    unneeded                     tokens, names or sources serve nothing
+    unread-scopes                the scopes of an indexed map are not read
+    unreadable-beside            the compiled map beside cannot be read
+
+Examples:
+  sourcemap check dist
+  sourcemap check --level error dist/*.js
   sourcemap check --json app.js.map";
 
 const REMAP: &str = "Examples:

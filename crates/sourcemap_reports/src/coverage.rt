@@ -308,16 +308,24 @@ fn push_row(
     Ok(())
 }
 
+/// How many lines of all originals ran, and how many there are.
+fn lines_of_all(alloc: Global, sources: &Totals) -> Outcome<(u64, u64)> {
+    let (mut total, mut all) = (0u64, 0u64);
+    for lines in sources.values() {
+        let lines = counted_lines(alloc, lines)?;
+        total = total.saturating_add(ran(lines.as_slice()));
+        all = all.saturating_add(lines.len() as u64);
+    }
+    Ok((total, all))
+}
+
 fn table(alloc: Global, sources: &Totals) -> Outcome<String> {
     let mut out = String::new(alloc);
-    let (mut total, mut all) = (0u64, 0u64);
     for (source, lines) in sources {
         let lines = counted_lines(alloc, lines)?;
         let (own, count) = (ran(lines.as_slice()), lines.len() as u64);
         let mut missed = String::new(alloc);
         push_missed(alloc, lines.as_slice(), &mut missed)?;
-        total = total.saturating_add(own);
-        all = all.saturating_add(count);
         push_row(
             alloc,
             source.as_str(),
@@ -327,6 +335,7 @@ fn table(alloc: Global, sources: &Totals) -> Outcome<String> {
             &mut out,
         )?;
     }
+    let (total, all) = lines_of_all(alloc, sources)?;
     push_row(alloc, "all", total, all, "", &mut out)?;
     Ok(out)
 }
@@ -361,10 +370,66 @@ fn objects(alloc: Global, sources: &Totals) -> Outcome<String> {
     Ok(out)
 }
 
+/// The percentage in a word of `--check`, as `lines=80`; None if it is no such word.
+fn percent_of(word: &str) -> Option<u64> {
+    let digits = word.strip_prefix("lines=")?;
+    if !digits.bytes().all(|byte| byte.is_ascii_digit()) {
+        return None;
+    }
+    match digits.parse::<u64>() {
+        Ok(percent) if percent <= 100 => Some(percent),
+        _ => None,
+    }
+}
+
+/// The percentages of lines that `--check` asks for.
+fn checks_of(asked: &Asked<'_, '_>) -> Outcome<Vec<u64>> {
+    let alloc = asked.alloc();
+    let mut checks = Vec::new(alloc);
+    for word in &asked.words("check")? {
+        let Some(percent) = percent_of(word) else {
+            let text = format!(in alloc;
+                "{word:?} is no measure with a percentage: write lines=PERCENT, a whole number from 0 to 100"
+            )?;
+            return Err(failure_of(alloc, "--check", text.as_str()));
+        };
+        checks.push(percent)?;
+    }
+    Ok(checks)
+}
+
+/// The percentage of lines that ran, rounded down, if fewer ran than a check asks for. Of no lines all ran.
+fn missed_by(check: u64, ran: u64, all: u64) -> Option<u64> {
+    let wanted = u128::from(check).saturating_mul(u128::from(all));
+    if u128::from(ran).saturating_mul(100) < wanted {
+        percent(ran, all)
+    } else {
+        None
+    }
+}
+
+/// Whether as many lines ran as all checks ask for. Those are told for which fewer did.
+fn are_met(rt: &HostRuntime, sources: &Totals, checks: &[u64]) -> Outcome<bool> {
+    let alloc = rt.alloc();
+    let (ran, all) = lines_of_all(alloc, sources)?;
+    let mut met = true;
+    for check in checks {
+        if let Some(percent) = missed_by(*check, ran, all) {
+            let text = format!(in alloc;
+                "{percent} % of the lines ran, and --check asks for {check} %"
+            )?;
+            tell(rt, text.as_str());
+            met = false;
+        }
+    }
+    Ok(met)
+}
+
 /// Runs the command `coverage`.
 pub fn run(asked: &Asked<'_, '_>) -> Outcome<Status> {
     let alloc = asked.alloc();
     let files = asked.words("V8.json")?;
+    let checks = checks_of(asked)?;
     let mut progress = Progress::new(asked.rt, files.len());
     let mut coverage = Coverage::new(asked)?;
     for file in &files {
@@ -382,5 +447,6 @@ pub fn run(asked: &Asked<'_, '_>) -> Outcome<Status> {
         table(alloc, sources)?
     };
     print(asked.rt, text.as_str())?;
-    Ok(Status::of(!sources.is_empty()))
+    let met = are_met(asked.rt, sources, checks.as_slice())?;
+    Ok(Status::of(met && !sources.is_empty()))
 }

@@ -357,6 +357,11 @@ const COVERAGE: Words = Words {
         Word("V8.json", Kind::Files, "What V8 wrote"),
         PREFIX,
         Word("lcov", Kind::Flag, "Prints it as lcov reads it"),
+        Word(
+            "check",
+            Kind::Options("lines=PERCENT"),
+            "Status 1 if a lower percentage of all lines ran; PERCENT is a whole number from 0 to 100",
+        ),
     ],
 };
 

@@ -145,7 +145,8 @@ const COVERAGE: &str = "Lines count from 1. Node writes such files into the fold
 
 Examples:
   NODE_V8_COVERAGE=out node app.js && sourcemap coverage out/*.json
-  sourcemap coverage --lcov out/*.json > lcov.info";
+  sourcemap coverage --lcov out/*.json > lcov.info
+  sourcemap coverage --check lines=80 out/*.json";
 
 const PAGE: &str =
     "The page has all in it: the code, the map, the report of `check`, and the library. It asks nothing of the network. It is made of

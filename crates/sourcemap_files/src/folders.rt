@@ -52,8 +52,8 @@ fn look_through(rt: &HostRuntime, folder: &str, found: &mut Found) -> Outcome<()
     Ok(())
 }
 
-/// The files in a folder and below it, in order of their paths.
-fn files_below(rt: &HostRuntime, folder: &str) -> Outcome<Vec<String>> {
+/// The files in a folder and below it, in order of their paths, but for links, and for those of installed packages.
+pub fn files_below(rt: &HostRuntime, folder: &str) -> Outcome<Vec<String>> {
     let alloc = rt.alloc();
     let mut found = Found {
         files: Vec::new(alloc),

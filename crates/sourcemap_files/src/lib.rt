@@ -9,7 +9,6 @@ mod finding;
 mod folders;
 mod input;
 mod limit;
-mod listing;
 mod paths;
 mod progress;
 mod scopes;
@@ -26,12 +25,11 @@ pub use finding::{
     found_error_text, is_in_root, is_map, is_map_file, language_of, map_by_name, map_of_code,
     map_of_file, map_without_code, read_map, read_map_alone, rooted_map, text_of_map,
 };
-pub use folders::{files_with_maps, names_folder};
+pub use folders::{files_below, files_with_maps, names_folder};
 pub use input::{
     is_file, is_regular, print, print_bytes, read_text, shown_name, tell, usage, warn,
 };
 pub use limit::{limit_of, limited_json};
-pub use listing::files_below;
 pub use paths::{
     bytes_to_escape, current_folder, file_name, folder_of, is_inside, path_of_url, place_of,
     plain_path, real_name, relative_to, with_slash, written_name,

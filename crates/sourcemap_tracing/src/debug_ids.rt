@@ -51,8 +51,11 @@ fn id_in_file(asked: &Asked<'_, '_>, path: &str) -> Outcome<Option<String>> {
 /// The maps below a folder that have a debug id.
 fn maps_by_id(asked: &Asked<'_, '_>, folder: &str) -> Outcome<Vec<OwnId>> {
     let mut maps = Vec::new(asked.alloc());
-    for path in files_below(asked.rt, folder, ".map")? {
-        if let Some(id) = id_in_file(asked, path.as_str())? {
+    let folder = if folder.is_empty() { "." } else { folder };
+    for path in files_below(asked.rt, folder)? {
+        if path.as_str().ends_with(".map")
+            && let Some(id) = id_in_file(asked, path.as_str())?
+        {
             maps.push(OwnId { id, path })?;
         }
     }

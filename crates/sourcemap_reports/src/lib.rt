@@ -8,3 +8,4 @@ pub mod diff;
 pub mod page;
 mod scopes;
 pub mod size;
+mod template;

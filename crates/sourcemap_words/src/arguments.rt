@@ -382,6 +382,12 @@ const SIZE: Words = Words {
             Kind::Flag,
             "Tells what has another number of bytes in the second code than in the first, the greatest change first",
         ),
+        Word(
+            "output",
+            Kind::Output,
+            "A page to write, for browsers, which shows the bytes as areas; then only --json prints",
+        ),
+        Word("template", Kind::Option("FILE"), "The template of the page"),
     ],
 };
 

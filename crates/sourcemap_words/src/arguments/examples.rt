@@ -111,11 +111,13 @@ Examples:
 const SIZE: &str =
     "A character, a line feed too, counts to the source that `trace` finds where it begins, or, if there is none, to [unmapped]: so each byte
 of a code counts once. Sources are named by their paths from the current folder; of --diff as their maps name them. A folder has the bytes
-of all sources below it, and [own] those of sources that are in no package.
+of all sources below it, and [own] those of sources that are in no package. The page of -o asks nothing of the network. It is made of a
+template: the file of --template, or of the environment variable SOURCEMAP_SIZE, or ../share/sourcemap/size.html beside the program.
 
 Examples:
   sourcemap size dist/*.js
   sourcemap size --by package dist/app.js
+  sourcemap size dist/*.js -o size.html
   sourcemap size --diff before/app.js dist/app.js";
 
 const COMPLETIONS: &str = "Examples:

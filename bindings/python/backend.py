@@ -3,7 +3,8 @@
 The wheel carries the shared library that OXC_SOURCEMAP_LIB names, or `./build c` leaves in target/, or pkg-config finds, and _fast.c
 compiled by one call of a C compiler, $CC or cc. Without a compiler, or with OXC_SOURCEMAP_CC set to nothing, it has no _fast and looks up
 by ctypes alone. OXC_SOURCEMAP_PROGRAM names the program `sourcemap`, if the wheel is to have it, as a script of that name, and
-OXC_SOURCEMAP_PAGE the template of its pages. OXC_SOURCEMAP_PLATFORM is the platform of its tag, if that is not this machine;
+OXC_SOURCEMAP_PAGE and OXC_SOURCEMAP_SIZE the templates of its pages. OXC_SOURCEMAP_PLATFORM is the platform of its tag, if that is not
+this machine;
 SOURCE_DATE_EPOCH the time of all files.
 
 `backend.py needs FOLDER` leaves in the folder what the wheel loads, and prints its names; `backend.py sdist FOLDER` makes the source.
@@ -33,7 +34,7 @@ HERE = Path(__file__).resolve().parent
 SOURCE = HERE / "src" / "oxc_sourcemap"
 LIBRARY = "liboxc_sourcemap.so"
 PROGRAM = "sourcemap"
-PAGE = "page.html"
+PAGES = {"PAGE": "page.html", "SIZE": "size.html"}
 # (`pipx run oxc_sourcemap` takes the second one)
 SCRIPTS = "[console_scripts]\nsourcemap = oxc_sourcemap.__main__:main\n\n[pipx.run]\noxc_sourcemap = oxc_sourcemap.__main__:main\n"
 EPOCH = int(os.environ.get("SOURCE_DATE_EPOCH", 1577836800))
@@ -107,10 +108,10 @@ def compiled() -> bytes | None:
 
 
 def with_program() -> dict[str, bytes]:
-    """The program, and the template of its pages, if they are named."""
-    program, page = (os.environ.get(f"OXC_SOURCEMAP_{it}") for it in ("PROGRAM", "PAGE"))
-    named = {PROGRAM: program} | ({PAGE: page} if page else {})
-    return {name: Path(it).read_bytes() for name, it in named.items() if it} if program else {}
+    """The program, and the templates of its pages, if they are named."""
+    files = {"PROGRAM": PROGRAM, **PAGES} if os.environ.get("OXC_SOURCEMAP_PROGRAM") else {}
+    named = {name: os.environ.get(f"OXC_SOURCEMAP_{it}") for it, name in files.items()}
+    return {name: Path(it).read_bytes() for name, it in named.items() if it}
 
 
 def members() -> dict[str, bytes]:

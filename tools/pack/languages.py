@@ -53,8 +53,9 @@ def wheel(products, processor, package):
         program = room / PROGRAM
         program.write_bytes(products.program(PROGRAM))
         environment["OXC_SOURCEMAP_PROGRAM"] = str(program)
-        page = products.folder / "wasm/page.html"
-        environment["OXC_SOURCEMAP_PAGE"] = str(page) if page.is_file() else ""
+        for it in ("page", "size"):
+            page = products.folder / f"wasm/{it}.html"
+            environment[f"OXC_SOURCEMAP_{it.upper()}"] = str(page) if page.is_file() else ""
     else:  # (there are no headers of Python for another processor, and no programs)
         environment["OXC_SOURCEMAP_CC"] = ""
     elsewhere = run(sys.executable, package / "backend.py", "needs", room, env=environment).split()
@@ -92,7 +93,8 @@ def javascript(products):
         program.write_bytes(products.program(PROGRAM))
         program.chmod(0o755)
         shutil.copytree(products.folder / "wasm/package", package / "wasm")
-        shutil.copy(products.folder / "wasm/page.html", package / "wasm")
+        for it in ("page.html", "size.html"):
+            shutil.copy(products.folder / "wasm" / it, package / "wasm")
         write_licence(package)
         for it in (package, *sorted(package.glob("packages/*/"))):
             if it != package:

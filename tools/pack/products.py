@@ -61,6 +61,7 @@ class Products:
             "wasm/module.ll.gz",
             "wasm/oxc_sourcemap.wasm",
             "wasm/page.html",
+            "wasm/size.html",
             *PROGRAMS,
         ]
         files = [self.folder / it for it in built] + sorted((self.folder / "wasm/package").rglob("*"))

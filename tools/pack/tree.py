@@ -125,9 +125,8 @@ def sourcemap_files(products):
         "fish": "fish/vendor_completions.d/sourcemap.fish",
     }
     files |= {f"share/{path}": text(run(program, "completions", shell)) for shell, path in shells.items()}
-    page = products.folder / "wasm/page.html"
-    if page.is_file():
-        files["share/sourcemap/page.html"] = File(page.read_bytes())
+    templates = [products.folder / "wasm" / it for it in ("page.html", "size.html")]
+    files |= {f"share/sourcemap/{it.name}": File(it.read_bytes()) for it in templates if it.is_file()}
     return files | {"share/man/man1/sourcemap.1": text(run(program, "man") + pages.sections("sourcemap"))}
 
 

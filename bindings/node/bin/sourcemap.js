@@ -1,6 +1,6 @@
 #!/usr/bin/env node
 'use strict';
-// `npx junketscarp ARGUMENTS` runs the program `sourcemap` that the package has for this platform, with the template of its pages. Its
+// `npx junketscarp ARGUMENTS` runs the program `sourcemap` that the package has for this platform, with the templates of its pages. Its
 // input, output and status are those of the program; the status is 1 where there is none.
 
 const { spawnSync } = require('node:child_process');
@@ -8,7 +8,7 @@ const { existsSync, readdirSync } = require('node:fs');
 const { join } = require('node:path');
 
 const PREBUILDS = join(__dirname, '../prebuilds');
-const TEMPLATE = join(__dirname, '../wasm/page.html');
+const TEMPLATES = { SOURCEMAP_PAGE: join(__dirname, '../wasm/page.html'), SOURCEMAP_SIZE: join(__dirname, '../wasm/size.html') };
 
 const here = `${process.platform}-${process.arch}`;
 const programOf = (platform) => join(PREBUILDS, platform, 'sourcemap');
@@ -28,8 +28,8 @@ function refuse(reason) {
 }
 
 function run(program) {
-  const page = existsSync(TEMPLATE) ? { SOURCEMAP_PAGE: TEMPLATE } : {};
-  const ran = spawnSync(program, process.argv.slice(2), { stdio: 'inherit', env: { ...page, ...process.env } });
+  const pages = Object.fromEntries(Object.entries(TEMPLATES).filter(([, it]) => existsSync(it)));
+  const ran = spawnSync(program, process.argv.slice(2), { stdio: 'inherit', env: { ...pages, ...process.env } });
   if (ran.error !== undefined) {
     // (ENOENT of a file that is there: its loader is not)
     refuse(`the program ${program} does not run on this machine (${ran.error.code})`);

@@ -12,10 +12,10 @@ const { bin, files } = require('../package.json');
 
 const needsShell = { skip: process.platform === 'win32' && 'there is no shell' };
 
-const SCRIPT = '#!/bin/sh\necho "$# $2 $SOURCEMAP_PAGE"\ncat\necho told >&2\nexit 7\n';
+const SCRIPT = '#!/bin/sh\necho "$# $2 $SOURCEMAP_PAGE $SOURCEMAP_SIZE"\ncat\necho told >&2\nexit 7\n';
 
-/** A folder as of a package, which has the program of each of these platforms, and a template if need be. */
-function packaged(programs, { hasPage = false, mode = 0o755 } = {}) {
+/** A folder as of a package, which has the program of each of these platforms, and templates if need be. */
+function packaged(programs, { hasPages = false, mode = 0o755 } = {}) {
   const room = mkdtempSync(join(tmpdir(), 'junketscarp-'));
   process.once('exit', () => rmSync(room, { recursive: true }));
   cpSync(join(__dirname, '../bin'), join(room, 'bin'), { recursive: true });
@@ -25,15 +25,15 @@ function packaged(programs, { hasPage = false, mode = 0o755 } = {}) {
     writeFileSync(path, script);
     chmodSync(path, mode);
   }
-  if (hasPage) {
+  if (hasPages) {
     mkdirSync(join(room, 'wasm'));
-    writeFileSync(join(room, 'wasm/page.html'), '');
+    for (const it of ['page.html', 'size.html']) writeFileSync(join(room, 'wasm', it), '');
   }
   return room;
 }
 
 function ran(room, { env = {}, words = ['a', 'b c'] } = {}) {
-  const { SOURCEMAP_PAGE: _, ...clean } = process.env;
+  const { SOURCEMAP_PAGE: _, SOURCEMAP_SIZE: __, ...clean } = process.env;
   const { status, signal, stdout, stderr } = spawnSync(process.execPath, [join(room, bin.junketscarp), ...words], {
     input: 'given\n',
     encoding: 'utf8',
@@ -46,16 +46,17 @@ const here = `${process.platform}-${process.arch}`;
 
 test('the program gets the words and the input, and its outputs and its status are those that are had', needsShell, () => {
   const room = packaged({ [here]: SCRIPT });
-  assert.deepEqual(ran(room), { status: 7, signal: null, stdout: '2 b c \ngiven\n', stderr: 'told\n' });
+  assert.deepEqual(ran(room), { status: 7, signal: null, stdout: '2 b c  \ngiven\n', stderr: 'told\n' });
   assert.deepEqual(Object.keys(bin), ['junketscarp', 'sourcemap']);
   assert.equal(bin.sourcemap, bin.junketscarp);
   assert.ok(files.includes('bin'));
 });
 
-test('its pages are made of the template of the package, but where another one is named', needsShell, () => {
-  const room = packaged({ [here]: SCRIPT }, { hasPage: true });
-  assert.equal(ran(room).stdout, `2 b c ${join(room, 'wasm/page.html')}\ngiven\n`);
-  assert.equal(ran(room, { env: { SOURCEMAP_PAGE: 'mine.html' } }).stdout, '2 b c mine.html\ngiven\n');
+test('its pages are made of the templates of the package, but where others are named', needsShell, () => {
+  const room = packaged({ [here]: SCRIPT }, { hasPages: true });
+  const [page, size] = ['page.html', 'size.html'].map((it) => join(room, 'wasm', it));
+  assert.equal(ran(room).stdout, `2 b c ${page} ${size}\ngiven\n`);
+  assert.equal(ran(room, { env: { SOURCEMAP_PAGE: 'mine.html' } }).stdout, `2 b c mine.html ${size}\ngiven\n`);
 });
 
 test('a signal that ends the program ends what runs it', needsShell, () => {

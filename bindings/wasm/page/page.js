@@ -8,29 +8,6 @@ const LEAST_COLUMNS = 20;
 const TOKEN = 6;
 const LINE_END = /\r\n|[\n\r\u2028\u2029]/;
 
-const element = (id) => document.getElementById(id);
-
-/** A new element with a class and a text. */
-function made(tag, name, text = '') {
-  const it = document.createElement(tag);
-  it.className = name;
-  it.textContent = text;
-  return it;
-}
-
-/** The bytes that an element of the page holds as base64. */
-function bytesIn(id) {
-  const text = atob(element(id).textContent.trim());
-  const bytes = new Uint8Array(text.length);
-  for (let i = 0; i < text.length; i++) bytes[i] = text.charCodeAt(i);
-  return bytes;
-}
-
-/** What the program put into the page. */
-function dataOf() {
-  return JSON.parse(new TextDecoder('utf-8', { ignoreBOM: true, fatal: true }).decode(bytesIn('data')));
-}
-
 const shownPlace = ({ line, column }) => `${line + 1}:${column + 1}`;
 
 /** The first number from `low` up to but not including `high` for which `holds`, or `high`; it holds for all after it. */

@@ -9,3 +9,4 @@ pub mod diff;
 pub mod page;
 mod scopes;
 pub mod size;
+mod template;

@@ -1,50 +1,19 @@
 //! `page`: a code beside its originals, in one file for browsers.
 use crate::check::objects_of;
+use crate::template::{Template, push_list, refuse_two_texts};
 use sourcemap_files::{
-    Asked, Lookup, MapText, Status, Written, folder_of, is_file, is_map, map_of_code, map_of_file,
-    print, read_map, read_text, read_written, real_name, shown_name, text_of_map, usage,
-    write_text,
+    Asked, Lookup, MapText, Status, Written, is_map, map_of_code, map_of_file, print, read_map,
+    read_written, real_name, shown_name, text_of_map, usage,
 };
-use sourcemap_run::{DATA_MARK, fill_template, push_number_member, push_object, push_text_member};
+use sourcemap_run::{push_number_member, push_object, push_text_member};
 use sourcemap_words::{Failure, Outcome, failure_of};
-use std::alloc::{AllocError, Global};
-use std::env;
+use std::alloc::Global;
 
-const VARIABLE: &str = "SOURCEMAP_PAGE";
-/// The template beside the program, from the folder that the program is in.
-const BESIDE: &str = "../share/sourcemap/page.html";
-
-/// The path of the template beside the program; None if the system does not report where the program is.
-fn beside_program(rt: &HostRuntime) -> Result<Option<String>, AllocError> {
-    let Ok(program) = env::current_exe(rt) else {
-        return Ok(None);
-    };
-    let folder = folder_of(program.as_path().as_str());
-    Ok(Some(format!(in rt.alloc(); "{folder}{BESIDE}")?))
-}
-
-/// The path of the template: of `--template`, else of the environment, else beside the program.
-fn template_path(asked: &Asked<'_, '_>) -> Outcome<String> {
-    let alloc = asked.alloc();
-    if let Some(path) = asked.matches.get_str("template") {
-        return Ok(String::from_str(alloc, path)?);
-    }
-    if let Ok(path) = env::var(asked.rt, VARIABLE) {
-        return Ok(path);
-    }
-    match beside_program(asked.rt)? {
-        Some(path) if is_file(asked.rt, path.as_str()) => Ok(path),
-        Some(path) => Err(failure_of(
-            alloc,
-            path.as_str(),
-            "the template of pages is not there: name it by --template or SOURCEMAP_PAGE",
-        )),
-        None => Err(usage(
-            asked.rt,
-            "the template of pages is not found: name it by --template or SOURCEMAP_PAGE",
-        )),
-    }
-}
+/// The template of the page.
+const PAGE: Template = Template {
+    variable: "SOURCEMAP_PAGE",
+    beside: "../share/sourcemap/page.html",
+};
 
 /// The map that is named, or that of the code.
 fn map_text(asked: &Asked<'_, '_>, code: &str, text: &str) -> Outcome<MapText> {
@@ -84,30 +53,10 @@ fn data_of(asked: &Asked<'_, '_>, code: &str, text: &str, map: &MapText) -> Outc
     out.push_str(",\"map\":")?;
     let held = text_of_map(asked.rt, map)?;
     push_named(alloc, map.name.as_str(), held.as_str(), &mut out)?;
-    out.push_str(",\"report\":[")?;
-    let objects = objects_of(asked, map, text)?;
-    for (i, object) in objects.as_str().lines().enumerate() {
-        if i > 0 {
-            out.push(',')?;
-        }
-        out.push_str(object)?;
-    }
-    out.push_str("]}")?;
+    out.push_str(",\"report\":")?;
+    push_list(objects_of(asked, map, text)?.as_str(), &mut out)?;
+    out.push('}')?;
     Ok(out)
-}
-
-/// The page, of the template and its data.
-fn page_of(asked: &Asked<'_, '_>, content: &str) -> Outcome<String> {
-    let alloc = asked.alloc();
-    let path = template_path(asked)?;
-    let template = read_text(asked.rt, path.as_str())?;
-    match fill_template(alloc, template.as_str(), content)? {
-        Some(page) => Ok(page),
-        None => {
-            let text = format!(in alloc; "is no template of pages: it has no mark {DATA_MARK}")?;
-            Err(failure_of(alloc, path.as_str(), text.as_str()))
-        }
-    }
 }
 
 /// The object of `--json`.
@@ -132,13 +81,7 @@ fn check_words(asked: &Asked<'_, '_>) -> Outcome<()> {
             "standard input is the code: name a file for the map",
         ));
     }
-    if asked.has("json") && asked.word("output") == "-" {
-        return Err(usage(
-            asked.rt,
-            "standard output has the page: name a file by -o, or leave out --json",
-        ));
-    }
-    Ok(())
+    refuse_two_texts(asked)
 }
 
 /// Refuses to write the page over a file that it is made of.
@@ -180,10 +123,9 @@ pub(crate) fn read_code(rt: &HostRuntime, code: &str, instead: &str) -> Outcome<
 fn write(asked: &Asked<'_, '_>, text: &str, map: &MapText) -> Outcome<()> {
     let code = asked.word("CODE");
     let content = data_of(asked, code, text, map)?;
-    let page = page_of(asked, content.as_str())?;
-    write_text(asked.rt, asked.word("output"), page.as_str())?;
+    let bytes = PAGE.write(asked, content.as_str())?;
     if asked.has("json") {
-        let object = object_of(asked, code, map, page.len())?;
+        let object = object_of(asked, code, map, bytes)?;
         print(asked.rt, object.as_str())?;
     }
     Ok(())

@@ -1,10 +1,11 @@
 //! `size`: how many bytes of codes come from each source.
 use crate::coverage::{folder_from_here, path_from_here};
 use crate::page::read_code;
+use crate::template::{Template, push_list, refuse_two_texts};
 use oxc_sourcemap_map::SourceMap;
 use sourcemap_files::{
-    Asked, Lookup, Progress, Status, map_of_code, plain_path, print, read_map_alone, shown_name,
-    tell, usage, warn,
+    Asked, Lookup, Progress, Status, map_of_code, plain_path, print, read_map_alone,
+    refuse_overwriting, shown_name, tell, usage, warn,
 };
 use sourcemap_run::{
     percent, push_number_member, push_object, push_text_member, sizes_of, starts_of,
@@ -20,6 +21,12 @@ const SLASHES: [char; 2] = ['/', '\\'];
 
 /// The name of a source that has none.
 const UNKNOWN: &str = "<unknown>";
+
+/// The template of the page.
+const PAGE: Template = Template {
+    variable: "SOURCEMAP_SIZE",
+    beside: "../share/sourcemap/size.html",
+};
 
 /// What bytes are reported for.
 #[derive(Clone, Copy)]
@@ -72,6 +79,8 @@ struct Sizes {
     unmapped: u64,
     all: u64,
     codes: u32,
+    /// The files that were read, or were to be read.
+    files: Vec<String>,
 }
 
 /// The name of the package whose files have paths that begin so: up to the first slash, or, in a scope, up to the second one.
@@ -136,6 +145,7 @@ impl Sizes {
             unmapped: 0,
             all: 0,
             codes: 0,
+            files: Vec::new(alloc),
         }
     }
 
@@ -434,11 +444,15 @@ fn add_file(
     sizes: &mut Sizes,
 ) -> Outcome<Option<String>> {
     let (rt, alloc) = (asked.rt, asked.alloc());
+    sizes.files.push(String::from_str(alloc, code)?)?;
     let text = read_code(rt, code, "name its code")?;
     let held = match map_of_code(rt, code, text.as_str(), asked.places())? {
         Lookup::Map(held) => held,
         Lookup::None(why) => return Ok(Some(why)),
     };
+    sizes
+        .files
+        .push(String::from_str(alloc, held.name.as_str())?)?;
     let mut map = SourceMap::from_parts(read_map_alone(rt, &held)?);
     map.apply_source_root(alloc)?;
     let names = names_of(alloc, &map, held.folder.as_str(), current)?;
@@ -477,6 +491,40 @@ fn add_files<'c>(
     Ok(trouble)
 }
 
+/// The data of a page.
+fn data_of(sizes: &Sizes, rows: &[Row<'_>]) -> Outcome<String> {
+    let mut members = String::new(sizes.alloc);
+    push_text_member("by", sizes.kind.word(), &mut members)?;
+    push_number_member(sizes.alloc, "bytes", sizes.all, &mut members)?;
+    members.push_str(",\"sizes\":")?;
+    push_list(objects(None, sizes, rows)?.as_str(), &mut members)?;
+    let mut data = String::new(sizes.alloc);
+    push_object(members.as_str(), &mut data)?;
+    Ok(data)
+}
+
+/// Refuses to write the page over a file that was read.
+fn check_output(asked: &Asked<'_, '_>, output: &str, files: &[String]) -> Outcome<()> {
+    for file in files {
+        if output != "-" {
+            refuse_overwriting(asked, file.as_str(), output)?;
+        }
+    }
+    Ok(())
+}
+
+/// Prints what bytes come from, or writes the page of it, where `--json` prints it too.
+fn show(asked: &Asked<'_, '_>, sizes: &Sizes, rows: &[Row<'_>]) -> Outcome<()> {
+    if let Some(output) = asked.matches.get_str("output") {
+        check_output(asked, output, sizes.files.as_slice())?;
+        let _ = PAGE.write(asked, data_of(sizes, rows)?.as_str())?;
+        if !asked.has("json") {
+            return Ok(());
+        }
+    }
+    print_rows(asked, None, sizes, rows)
+}
+
 /// Reports what bytes come from.
 fn run_sizes(asked: &Asked<'_, '_>, codes: &[&str], kind: Kind) -> Outcome<Status> {
     let alloc = asked.alloc();
@@ -486,7 +534,7 @@ fn run_sizes(asked: &Asked<'_, '_>, codes: &[&str], kind: Kind) -> Outcome<Statu
         let counts = outer_counts(alloc, &none, &sizes)?;
         sizes.add_outer(counts.as_slice())?;
         let rows = rows_of(alloc, &none, &sizes)?;
-        print_rows(asked, None, &sizes, rows.as_slice())?;
+        show(asked, &sizes, rows.as_slice())?;
     }
     match trouble {
         Some(code) => Err(failure_of(alloc, shown_name(code), "was not counted, see above")),
@@ -521,8 +569,24 @@ fn run_diff(asked: &Asked<'_, '_>, codes: &[&str], kind: Kind) -> Outcome<Status
     Ok(Status::of(rows.is_empty()))
 }
 
+/// Refuses words that are wrong together.
+fn check_words(asked: &Asked<'_, '_>) -> Outcome<()> {
+    let has_page = asked.matches.get_str("output").is_some();
+    if has_page && asked.has("diff") {
+        return Err(usage(asked.rt, "--diff has no page: leave out -o"));
+    }
+    if !has_page && asked.matches.get_str("template").is_some() {
+        return Err(usage(
+            asked.rt,
+            "the template is that of a page: name the page by -o",
+        ));
+    }
+    refuse_two_texts(asked)
+}
+
 /// Runs the command `size`.
 pub fn run(asked: &Asked<'_, '_>) -> Outcome<Status> {
+    check_words(asked)?;
     let codes = asked.words("CODE")?;
     let kind = Kind::of_word(asked.word("by"));
     if asked.has("diff") {

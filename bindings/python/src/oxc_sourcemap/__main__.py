@@ -1,4 +1,4 @@
-"""`sourcemap ARGUMENTS`, or `python -m oxc_sourcemap ARGUMENTS`: runs the program of the wheel, with the template of its pages, in place of
+"""`sourcemap ARGUMENTS`, or `python -m oxc_sourcemap ARGUMENTS`: runs the program of the wheel, with the templates of its pages, in place of
 this process. Without one the status is 1."""
 
 from __future__ import annotations
@@ -13,11 +13,13 @@ For the program itself, run this in a container, or a virtual machine, of Linux 
 
 def main() -> None:
     here = Path(__file__).resolve().parent
-    program, page = here / "sourcemap", here / "page.html"
+    program = here / "sourcemap"
     if not program.is_file():
         sys.exit(f"oxc_sourcemap: the program sourcemap is in the wheel for Linux on x86-64 alone, and not in this one.\n{INSTEAD}")
-    if page.is_file():
-        os.environ.setdefault("SOURCEMAP_PAGE", str(page))
+    for it in ("page", "size"):
+        page = here / f"{it}.html"
+        if page.is_file():
+            os.environ.setdefault(f"SOURCEMAP_{it.upper()}", str(page))
     try:
         os.execv(program, [str(program), *sys.argv[1:]])
     except OSError as error:

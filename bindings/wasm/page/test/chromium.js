@@ -6,7 +6,7 @@ const { mkdtempSync, rmSync } = require('node:fs');
 const { tmpdir } = require('node:os');
 const { join } = require('node:path');
 
-const KEYS = { ArrowLeft: 37, ArrowUp: 38, ArrowRight: 39, ArrowDown: 40, Home: 36, Enter: 13, Tab: 9, Escape: 27, '/': 191 };
+const KEYS = { ArrowLeft: 37, ArrowUp: 38, ArrowRight: 39, ArrowDown: 40, Home: 36, End: 35, Backspace: 8, Enter: 13, Tab: 9, Escape: 27, '/': 191 };
 
 /** Messages over a pipe: each is JSON with a zero byte behind it. */
 class Protocol {

@@ -1,11 +1,14 @@
 #!/usr/bin/env node
 // drive.js BROWSER CASES.json [FOLDER]   opens pages in a headless browser, in three sizes and in both modes, does what the cases say, and compares
-// what is said and highlighted with what they want. FOLDER gets a screenshot of each. The last line is 'N passed, M failed'.
+// what is said and shown with what they want. What to look at is told by sides.js of a page of `page`, and by areas.js of one of `size`.
+// FOLDER gets a screenshot of each. The last line is 'N passed, M failed'.
 'use strict';
 
 const { readFileSync, writeFileSync } = require('node:fs');
 const { basename, dirname, join } = require('node:path');
 const { pathToFileURL } = require('node:url');
+
+const PROBES = { sides: require('./sides.js'), areas: require('./areas.js') };
 
 const SIZES = { phone: [390, 844], laptop: [1280, 800], wide: [2560, 1300] };
 const SECONDS = 20;
@@ -13,48 +16,15 @@ const MINUTES = 10;
 
 const sleep = (milliseconds) => new Promise((resolve) => setTimeout(resolve, milliseconds));
 
-/** What is to be evaluated in the page: what it says and highlights. */
-const STATE = `(() => {
-  const text = (selector) => [...document.querySelectorAll(selector)].map((it) => it.textContent).join('');
-  return {
-    answer: text('#answer'), code: text('#code .here'), also: text('#code .also'), source: text('#original .here'), found: text('#found'),
-    option: document.querySelector('#source')?.selectedOptions[0]?.textContent ?? '', summary: text('#summary'), rows: text('#rows tr'),
-    grey: text('#code .none'), focus: document.activeElement.id,
-  };
-})()`;
-
-/** Facts that hold of each page, whatever is shown. */
-const FACTS = `(() => {
-  const here = document.querySelector('#code .here')?.getBoundingClientRect();
-  const pane = document.querySelector('#code').getBoundingClientRect();
-  return {
-    width: document.documentElement.scrollWidth <= innerWidth, height: document.documentElement.scrollHeight <= innerHeight,
-    elements: document.querySelectorAll('*').length < 8000,
-    room: [...document.querySelectorAll('.pane:not([hidden])')].every((it) => it.clientHeight >= 100),
-    seen: !here || (here.top >= pane.top - 1 && here.bottom <= pane.bottom + 1),
-    whole: [...document.querySelectorAll('[data-key]')].every((it) => !/\\p{Surrogate}/u.test(it.textContent)),
-    asksNothing: performance.getEntriesByType('resource').length === 0,
-    inRow: [...document.querySelectorAll('.row')].every((it) => it.getBoundingClientRect().height === 20 && getComputedStyle(it).lineHeight === '20px'),
-  };
-})()`;
-
-/** The middle of the first part of a pane with a text. */
-const middleOf = (pane, text) => `(() => {
-  const it = [...document.querySelectorAll('#${pane} [data-key]')].find((it) => it.textContent === ${JSON.stringify(text)});
-  if (!it) return null;
-  const { left, top, width, height } = it.getBoundingClientRect();
-  return [left + Math.min(width / 2, 30), top + height / 2];
-})()`;
-
 /** The parts of a colour, and how far it is from another one by WCAG. */
 const CONTRAST = `(() => {
   const light = (colour) => {
     const [r, g, b] = colour.match(/[\\d.]+/g).map((it) => Number(it) / 255).map((it) => (it <= 0.04045 ? it / 12.92 : ((it + 0.055) / 1.055) ** 2.4));
     return 0.2126 * r + 0.7152 * g + 0.0722 * b;
   };
-  const backOf = (it) => { const back = getComputedStyle(it).backgroundColor; return /, 0\\)$|transparent/.test(back) ? backOf(it.parentElement) : back; };
+  const backOf = (it) => { const back = getComputedStyle(it).backgroundColor; return /^rgba.*, 0\\)$|transparent/.test(back) ? backOf(it.parentElement) : back; };
   const ratio = (it) => { const [a, b] = [light(getComputedStyle(it).color), light(backOf(it))]; return (Math.max(a, b) + 0.05) / (Math.min(a, b) + 0.05); };
-  const all = [...document.querySelectorAll('h1, label, button, summary, #answer, #keys, .number, .none, .even, .odd, .here, td, th, caption, .absent')];
+  const all = [...document.querySelectorAll('h1, label, button, summary, #answer, #keys, .number, .none, .even, .odd, .here, td, th, caption, .absent, #said, li, .label')];
   return Math.min(...all.filter((it) => it.offsetParent).map(ratio));
 })()`;
 
@@ -74,11 +44,10 @@ class Tally {
   }
 }
 
-async function act(browser, { hover, click, key, shift, find, pick }) {
+async function act(browser, probe, { hover, click, key, shift, find, pick }) {
   if (hover || click) {
-    const [pane, text] = hover ?? click;
-    const place = await browser.evaluate(middleOf(pane, text));
-    if (place === null) throw new Error(`there is no ${text} in ${pane}`);
+    const place = await browser.evaluate(probe.middleOf(...(hover ?? click)));
+    if (place === null) throw new Error(`there is no ${hover ?? click}`);
     await browser.move(...place);
     if (click) await browser.click(...place);
   }
@@ -92,11 +61,11 @@ async function act(browser, { hover, click, key, shift, find, pick }) {
 }
 
 /** Does the steps of a page, and compares what each leaves. */
-async function steps(browser, tally, name, list) {
+async function steps(browser, tally, name, probe, list) {
   for (const step of list) {
-    await act(browser, step);
+    await act(browser, probe, step);
     await sleep(30);
-    const state = await browser.evaluate(STATE);
+    const state = await browser.evaluate(probe.STATE);
     for (const [part, wanted] of Object.entries(step.wants ?? {})) {
       tally.check(state[part] === wanted, `${name}: ${JSON.stringify(step)}: ${part} is ${JSON.stringify(state[part])}`);
     }
@@ -113,15 +82,16 @@ async function waitFor(browser, expression) {
 
 async function tryPage(browser, tally, file, page, look) {
   const [size, mode] = look;
+  const probe = PROBES[page.probe];
   const name = `${page.page}, ${size}, ${mode}`;
   await browser.look(...SIZES[size], mode === 'dark');
   await browser.move(1, 1);
   await browser.open(pathToFileURL(join(dirname(file), page.page)).href);
-  const isRead = await waitFor(browser, `(document.readyState === 'complete' && document.querySelector('#answer').textContent !== 'Reading the map.')`);
-  tally.check(isRead, `${name}: the map is read`);
+  const isRead = await waitFor(browser, `(document.readyState === 'complete' && ${probe.READY})`);
+  tally.check(isRead, `${name}: the data is read`);
   await sleep(100);
-  await steps(browser, tally, name, page.steps);
-  for (const [fact, holds] of Object.entries(await browser.evaluate(FACTS))) tally.check(holds, `${name}: ${fact}`);
+  await steps(browser, tally, name, probe, page.steps);
+  for (const [fact, holds] of Object.entries(await browser.evaluate(probe.FACTS))) tally.check(holds, `${name}: ${fact}`);
   const contrast = await browser.evaluate(CONTRAST);
   tally.check(contrast >= 4.5, `${name}: a contrast of ${contrast}`);
   const lightness = await browser.evaluate(LIGHTNESS);

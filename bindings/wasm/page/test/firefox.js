@@ -7,7 +7,7 @@ const net = require('node:net');
 const { tmpdir } = require('node:os');
 const { join } = require('node:path');
 
-const KEYS = { ArrowLeft: '\ue012', ArrowUp: '\ue013', ArrowRight: '\ue014', ArrowDown: '\ue015', Home: '\ue011', Enter: '\ue007', Tab: '\ue004', Escape: '\ue00c' };
+const KEYS = { ArrowLeft: '\ue012', ArrowUp: '\ue013', ArrowRight: '\ue014', ArrowDown: '\ue015', Home: '\ue011', End: '\ue010', Backspace: '\ue003', Enter: '\ue007', Tab: '\ue004', Escape: '\ue00c' };
 const SHIFT = '\ue008';
 const SECONDS = 60;
 

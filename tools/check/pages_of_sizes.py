@@ -157,13 +157,14 @@ def template_beside(template, folder):
 
 
 def cases(template, folder):
-    """Writes the pages. Gives what is to be done with each."""
+    """Writes the pages. Gives what is to be done with each: with the first in each look, with the others in one, by turns."""
     text, found = template.read_text(), []
-    for name, make in BOOK.items():
+    for number, (name, make) in enumerate(BOOK.items()):
         data, steps = make()
         page = text.replace(MARK, base64.b64encode(json.dumps(data).encode()).decode())
         Path(folder, f"size-{name}.html").write_text(page)
-        found.append({"page": f"size-{name}.html", "probe": "areas", "steps": steps})
+        looks = {"looks": [number % 6]} if number else {}
+        found.append({"page": f"size-{name}.html", "probe": "areas", "steps": steps, **looks})
     return found
 
 

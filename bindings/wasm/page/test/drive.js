@@ -101,11 +101,12 @@ async function tryPage(browser, tally, file, page, look) {
   return browser.screenshot();
 }
 
-/** Each page, in each size and mode. */
+/** Each page, in each size and mode, or in those whose numbers its `looks` has. */
 async function tryAll(browser, tally, file, folder) {
   const pages = JSON.parse(readFileSync(file, 'utf8'));
   const looks = Object.keys(SIZES).flatMap((size) => [[size, 'light'], [size, 'dark']]);
-  for (const [page, look] of pages.flatMap((it) => looks.map((look) => [it, look]))) {
+  const looksOf = (page) => looks.filter((_, number) => page.looks?.includes(number) ?? true);
+  for (const [page, look] of pages.flatMap((it) => looksOf(it).map((look) => [it, look]))) {
     const picture = await tryPage(browser, tally, file, page, look);
     if (folder) writeFileSync(join(folder, `${basename(page.page, '.html')}-${look.join('-')}.png`), picture);
   }

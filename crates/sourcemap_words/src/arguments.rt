@@ -126,7 +126,7 @@ const TRACE: Words = Words {
 
 const RESOLVE: Words = Words {
     about: "Resolves the frames of stack traces to the originals, as V8, Firefox, Safari and Hermes print them, in traces and in logs",
-    json: "An object a line: text, resolved, and of a frame file, line, column; with a map map, found, source, sourceLine, sourceColumn, name; with scopes function, callers (source, sourceLine, sourceColumn, function), hidden (its row is left out; a line that is left out has no resolved); or why; from 1; matched (prefix, maps or debugId) and prefix where the whole path was not there; of several frames the list frames",
+    json: "An object a line: text, resolved, and of a frame file, line, column; with a map map, found, source, sourceLine, sourceColumn, name; with scopes function, callers (source, sourceLine, sourceColumn, function), hidden (its row is left out; a line that is left out has no resolved); or why; from 1; matched (debugId, or prefix or maps where the whole path was not there) and prefix; of several frames the list frames",
     words: &[
         Word(
             "TRACE",
@@ -154,7 +154,7 @@ const RESOLVE: Words = Words {
 
 const CHECK: Words = Words {
     about: "Reports what is wrong in maps, and what they hold",
-    json: "An object a line: file, kind (wrong, note or summary), text; but of a summary code and level (see below)",
+    json: "An object a line: file, kind (wrong, note or summary), text; and, except of a summary, code and level (see below)",
     words: &[
         Word(
             "FILE",
@@ -164,7 +164,7 @@ const CHECK: Words = Words {
         Word(
             "level",
             Kind::Which("LEVEL", &["error", "warning", "note"]),
-            "The least level of what makes the status 1 [default: warning]",
+            "The lowest level of a finding that makes the status 1 [default: warning]",
         ),
     ],
 };

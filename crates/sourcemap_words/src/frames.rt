@@ -2,8 +2,8 @@
 use crate::calling::{Calling, calling_of};
 use crate::failure::{Outcome, failure_of};
 use crate::views::{
-    Nesting, View, are_singles_outside, is_whole, json_strings, may_be_json, single_strings,
-    without_strings,
+    Nesting, View, are_singles_outside, is_whole, is_whole_front, json_strings, may_be_json,
+    single_strings, without_strings,
 };
 use regex::{Captures, Matcher, Regex};
 use std::alloc::{AllocError, Global};
@@ -342,7 +342,8 @@ fn strings_of(
 
 /// Whether a place is one of a row that can be distinguished from the text around it.
 fn is_in_row(text: &str, spot: &Spot<'_>) -> bool {
-    is_whole(text.get(..spot.start).unwrap_or("")) && is_whole(text.get(spot.end..).unwrap_or(""))
+    let front = text.get(..spot.start).unwrap_or("");
+    is_whole_front(front) && is_whole(text.get(spot.end..).unwrap_or(""))
 }
 
 /// The places of a text, from left to right.

@@ -374,21 +374,35 @@ fn is_of_drive(word: &str) -> bool {
     matches!(word.as_bytes(), [drive, b':', b'\\', ..] if drive.is_ascii_alphabetic())
 }
 
-/// Whether a text in front of a frame or behind it has each of its strings whole, and no escaped line feed: else the frame is in a
-/// string that is cut off or unknown, and how a row ends there is unknown. A mark right behind a word opens no string (`the users' list`).
-pub fn is_whole(text: &str) -> bool {
+/// Whether a text has an escaped line feed. In a path of Windows a backslash escapes nothing, but at its end.
+fn has_line_feed(text: &str) -> bool {
+    text.split(' ').any(|word| word.contains("\\n")
+        && (word.ends_with("\\n") || !is_of_drive(word)))
+}
+
+/// Whether a text leaves a string open, or ends one that it did not begin. With `skips` a mark right behind a word opens none (`the users'
+/// list`).
+fn has_cut_string(text: &str, skips: bool) -> bool {
     let (mut doubles, mut singles, mut ticks) = (false, false, false);
     for (at, byte) in text.bytes().enumerate() {
-        let is_behind_word = byte_before(text, at).is_some_and(is_of_word);
+        let opens = !skips || !byte_before(text, at).is_some_and(is_of_word);
         match byte {
-            b'"' => doubles = !doubles && !is_behind_word,
-            b'`' => ticks = !ticks && !is_behind_word,
-            b'\'' if !is_apostrophe(text, at) => singles = !singles && !is_behind_word,
+            b'"' => doubles = !doubles && opens,
+            b'`' => ticks = !ticks && opens,
+            b'\'' if !is_apostrophe(text, at) => singles = !singles && opens,
             _ => {}
         }
     }
-    let has_line_feed = text
-        .split(' ')
-        .any(|word| word.contains("\\n") && !is_of_drive(word));
-    !doubles && !singles && !ticks && !has_line_feed
+    doubles || singles || ticks
+}
+
+/// Whether a text in front of a frame has each of its strings whole, and no escaped line feed: else the frame is in a string that is cut off
+/// or unknown, and how a row ends there is unknown.
+pub fn is_whole_front(text: &str) -> bool {
+    !has_cut_string(text, true) && !has_line_feed(text)
+}
+
+/// Whether a text behind a frame, or the name in a frame, has each of its strings whole, and no escaped line feed.
+pub fn is_whole(text: &str) -> bool {
+    !has_cut_string(text, false) && !has_line_feed(text)
 }

@@ -33,10 +33,10 @@ Each finding but the summary has a level and, in --json, a code:
     debug-id-mismatch            the code and the map have different debug ids
     different-compiled           a compiled map is not what its map is compiled to
     name-out-of-range            tokens have a name that is not there
-    no-json                      the text is no JSON
+    no-json                      the text is not JSON
     no-map                       a code has no map, or a folder none
     past-code                    tokens are past the end of the code or of a line
-    past-content                 the same of the content of a source
+    past-content                 the same for the content of a source
     scopes-source-out-of-range   scopes have a source that is not there
     section-order                sections are not in order
     source-out-of-range          tokens, or an ignore list, have a source that is not there
@@ -61,7 +61,7 @@ Each finding but the summary has a level and, in --json, a code:
     missing-content              sources have no content
     stale-beside                 the compiled map beside was made of another text
     uncompared                   the map of a compiled map is not there
-    unneeded                     tokens, names or sources serve nothing
+    unneeded                     nothing needs some tokens, names or sources
     unread-scopes                the scopes of an indexed map are not read
     unreadable-beside            the compiled map beside cannot be read
 

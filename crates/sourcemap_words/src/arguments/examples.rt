@@ -39,7 +39,7 @@ Each finding but the summary has a level and, in --json, a code:
     past-content                 the same for the content of a source
     scopes-source-out-of-range   scopes have a source that is not there
     section-order                sections are not in order
-    source-out-of-range          tokens, or an ignore list, have a source that is not there
+    source-out-of-range          tokens have a source that is not there
     stale-compiled               a compiled map was made of another text than its map has
     too-large                    a number is too large
     unreadable                   the map of a compiled map cannot be read

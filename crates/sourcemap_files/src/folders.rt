@@ -15,12 +15,30 @@ pub fn names_folder(rt: &HostRuntime, word: &str) -> bool {
     word != "-" && !word.is_empty() && is_folder(rt, word)
 }
 
+/// Files in a folder and in those below it.
+#[derive(Drop)]
+pub struct Listed {
+    pub files: Vec<String>,
+    /// Why folders could not be looked through.
+    pub failures: Vec<String>,
+}
+
 /// What is found in a folder and in those below it.
 #[derive(Drop)]
 struct Found {
-    files: Vec<String>,
+    listed: Listed,
     /// The folders that are still to be looked through.
     folders: Vec<String>,
+}
+
+impl Found {
+    /// Adds why a folder could not be looked through. What ends the run is returned.
+    fn fail(&mut self, failure: Failure) -> Outcome<()> {
+        match failure {
+            Failure::Told(why) => Ok(self.listed.failures.push(why)?),
+            failure => Err(failure),
+        }
+    }
 }
 
 /// Adds what a folder has, but for links, and for folders of installed packages.
@@ -28,35 +46,42 @@ fn look_through(rt: &HostRuntime, folder: &str, found: &mut Found) -> Outcome<()
     let alloc = rt.alloc();
     let entries = match fs::read_dir(rt, folder) {
         Ok(entries) => entries,
-        Err(error) => return Err(file_failure(alloc, folder, error)),
+        Err(error) => return found.fail(file_failure(alloc, folder, error)),
     };
     for entry in entries {
         let entry = match entry {
             Ok(entry) => entry,
             Err(error) if error.kind() == ErrorKind::InvalidFilename => {
-                warn(rt, folder, "a file is left out, whose name is not UTF-8");
+                warn(
+                    rt,
+                    folder,
+                    "a file or folder whose name is not UTF-8 is left out",
+                );
                 continue;
             }
-            Err(error) => return Err(file_failure(alloc, folder, error)),
+            Err(error) => return found.fail(file_failure(alloc, folder, error)),
         };
         let path = String::from_str(alloc, entry.path().as_str())?;
         match entry.file_type() {
-            Ok(kind) if kind.is_file() => found.files.push(path)?,
+            Ok(kind) if kind.is_file() => found.listed.files.push(path)?,
             Ok(kind) if kind.is_dir() && entry.file_name() != "node_modules" => {
                 found.folders.push(path)?
             }
             Ok(_) => {}
-            Err(error) => return Err(file_failure(alloc, path.as_str(), error)),
+            Err(error) => found.fail(file_failure(alloc, path.as_str(), error))?,
         }
     }
     Ok(())
 }
 
 /// The files in a folder and below it, in order of their paths, but for links, and for those of installed packages.
-pub fn files_below(rt: &HostRuntime, folder: &str) -> Outcome<Vec<String>> {
+pub fn files_below(rt: &HostRuntime, folder: &str) -> Outcome<Listed> {
     let alloc = rt.alloc();
     let mut found = Found {
-        files: Vec::new(alloc),
+        listed: Listed {
+            files: Vec::new(alloc),
+            failures: Vec::new(alloc),
+        },
         folders: Vec::new(alloc),
     };
     found.folders.push(String::from_str(alloc, folder)?)?;
@@ -67,9 +92,9 @@ pub fn files_below(rt: &HostRuntime, folder: &str) -> Outcome<Vec<String>> {
         };
         look_through(rt, next.as_str(), &mut found)?;
     }
-    let mut files = found.files;
-    files.sort()?;
-    Ok(files)
+    let mut listed = found.listed;
+    listed.files.sort()?;
+    Ok(listed)
 }
 
 /// Whether the name of a file is that of a script that may have a map.
@@ -88,16 +113,17 @@ fn is_compiled_name(path: &str) -> bool {
     of.is_some_and(|of| of.ends_with(".map"))
 }
 
-/// Whether a script names a map, has one, or has one beside it; one that cannot be read may. Its map is added to those that are `taken`.
+/// Whether a script names a map, has one, or has one beside it. Its map is added to those that are `taken`.
 fn may_have_map(
     rt: &HostRuntime,
     script: &str,
     places: Places<'_>,
     taken: &mut HashSet<String>,
 ) -> Outcome<bool> {
+    let beside = format!(in rt.alloc(); "{script}.map")?;
     let text = match read_text(rt, script) {
         Ok(text) => text,
-        Err(Failure::Told(_)) => return Ok(true),
+        Err(Failure::Told(_)) => return Ok(is_file(rt, beside.as_str())),
         Err(failure) => return Err(failure),
     };
     let is_named = source_mapping_url(text.as_str(), language_of(script)).is_some();
@@ -108,10 +134,7 @@ fn may_have_map(
             }
             Ok(true)
         }
-        Ok(Lookup::None(_)) => {
-            let beside = format!(in rt.alloc(); "{script}.map")?;
-            Ok(is_named || is_file(rt, beside.as_str()))
-        }
+        Ok(Lookup::None(_)) => Ok(is_named || is_file(rt, beside.as_str())),
         Err(Failure::Told(_)) => Ok(true),
         Err(failure) => Err(failure),
     }
@@ -153,14 +176,17 @@ fn push_maps(
 }
 
 /// The files in a folder and below it that have maps, in order of their paths: scripts, maps that are those of no such script, and
-/// compiled maps. Folders `node_modules` below it are left out, and links. Fails where a folder cannot be looked through.
-pub fn files_with_maps(rt: &HostRuntime, folder: &str, places: Places<'_>) -> Outcome<Vec<String>> {
+/// compiled maps. Folders `node_modules` below it are left out, and links.
+pub fn files_with_maps(rt: &HostRuntime, folder: &str, places: Places<'_>) -> Outcome<Listed> {
     let alloc = rt.alloc();
-    let all = files_below(rt, folder)?;
+    let Listed {
+        files: all,
+        failures,
+    } = files_below(rt, folder)?;
     let mut taken = HashSet::new(alloc);
     let mut files = Vec::new(alloc);
     push_scripts(rt, all.as_slice(), places, &mut taken, &mut files)?;
     push_maps(rt, all.as_slice(), &taken, &mut files)?;
     files.sort()?;
-    Ok(files)
+    Ok(Listed { files, failures })
 }

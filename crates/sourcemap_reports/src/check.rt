@@ -2,7 +2,7 @@
 use crate::codes::{
     BAD_COMPILED, Code, DEBUG_IDS, DIFFERENT_COMPILED, Level, MISSING_CONTENT, NO_MAP, PAST_CODE,
     PAST_CONTENT, SCOPES_SOURCE, STALE_BESIDE, STALE_COMPILED, UNCOMPARED, UNNEEDED, UNREADABLE,
-    UNREADABLE_BESIDE, UNSORTED, code_of_error, code_of_mend, code_of_scopes,
+    UNREADABLE_BESIDE, UNSORTED, code_of_error, code_of_mend, code_of_refused, code_of_scopes,
 };
 use crate::scopes::{MapScopes, Needed, PastSources, calls_past, scopes_in, trees_past};
 use oxc_sourcemap_found::{FoundParts, Mend, read_found_parts};
@@ -151,7 +151,7 @@ fn tell_refused(report: &mut Report, text: &str, error: Error, mends: &[Mend]) -
         return Ok(());
     }
     let text = error_text(report.alloc, text, error)?;
-    report.tell(code_of_error(error), text.as_str())
+    report.tell(code_of_refused(error, mends), text.as_str())
 }
 
 /// What the exact reader refuses or leaves unsorted, and where; and what the tolerant one mends.
@@ -414,14 +414,18 @@ fn check_map(
     }
 }
 
-/// The code of a map that is named as its code with `.map` at the end, and `.smc` behind that if it is compiled.
+/// The code of a map that is named as its code with `.map` at the end, and `.smc` behind that if it is compiled; None if it is no text.
 fn code_of(rt: &HostRuntime, map: &str) -> Outcome<Option<String>> {
     match map
         .strip_suffix(COMPILED_END)
         .unwrap_or(map)
         .strip_suffix(".map")
     {
-        Some(code) if is_file(rt, code) => Ok(Some(read_text(rt, code)?)),
+        Some(code) if is_file(rt, code) => match read_text(rt, code) {
+            Ok(text) => Ok(Some(text)),
+            Err(Failure::Told(_)) => Ok(None),
+            Err(failure) => Err(failure),
+        },
         _ => Ok(None),
     }
 }
@@ -564,17 +568,23 @@ fn check_file(asked: &Asked<'_, '_>, file: &str) -> Outcome<Report> {
     Ok(report)
 }
 
-/// Adds the files that a word stands for: of a folder those in it that have maps, or, if there are none, the folder itself.
-fn push_files(asked: &Asked<'_, '_>, word: &str, files: &mut Vec<String>) -> Outcome<()> {
+/// Adds the files that a word stands for: of a folder those in it that have maps, or, if there are none, the folder itself. Returns whether
+/// all folders could be looked through, and reports those that could not.
+fn push_files(asked: &Asked<'_, '_>, word: &str, files: &mut Vec<String>) -> Outcome<bool> {
     if names_folder(asked.rt, word) {
-        let mut found = files_with_maps(asked.rt, word, asked.places())?;
-        if !found.is_empty() {
+        let found = files_with_maps(asked.rt, word, asked.places())?;
+        for failure in &found.failures {
+            tell(asked.rt, failure.as_str());
+        }
+        let is_whole = found.failures.is_empty();
+        let mut found = found.files;
+        if !found.is_empty() || !is_whole {
             files.append(&mut found)?;
-            return Ok(());
+            return Ok(is_whole);
         }
     }
     files.push(String::from_str(asked.alloc(), word)?)?;
-    Ok(())
+    Ok(true)
 }
 
 /// Tells why something was not checked. What ends the run is returned.
@@ -588,7 +598,7 @@ fn tell_failure(rt: &HostRuntime, failure: Failure) -> Outcome<()> {
     }
 }
 
-/// The files that words stand for, and the last of the folders that cannot be looked through, which is told.
+/// The files that words stand for, and the last word of those whose folders cannot all be looked through.
 fn files_of<'w>(
     asked: &Asked<'_, '_>,
     words: &[&'w str],
@@ -596,9 +606,13 @@ fn files_of<'w>(
     let mut files = Vec::new(asked.alloc());
     let mut trouble = None;
     for word in words {
-        if let Err(failure) = push_files(asked, word, &mut files) {
-            tell_failure(asked.rt, failure)?;
-            trouble = Some(*word);
+        match push_files(asked, word, &mut files) {
+            Ok(true) => {}
+            Ok(false) => trouble = Some(*word),
+            Err(failure) => {
+                tell_failure(asked.rt, failure)?;
+                trouble = Some(*word);
+            }
         }
     }
     Ok((files, trouble))

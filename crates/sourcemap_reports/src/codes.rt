@@ -1,6 +1,6 @@
 //! What kinds of findings `check` has: a code for each, by which programs tell them apart, and how much it matters. The help of `check`
 //! lists them.
-use oxc_sourcemap_found::MendKind;
+use oxc_sourcemap_found::{Mend, MendKind};
 use oxc_sourcemap_scopes::ScopesError;
 use oxc_sourcemap_tokens::{Error, JsonFault};
 
@@ -126,6 +126,23 @@ pub fn code_of_mend(kind: MendKind) -> Code {
         MendKind::BadIgnoredId(_) | MendKind::BadGoogleIgnoredId(_) => "bad-ignored-id",
     };
     Code(name, Level::Warning)
+}
+
+/// The code of what the exact reader refuses; of an id in an ignore list, that of its mend.
+pub fn code_of_refused(error: Error, mends: &[Mend]) -> Code {
+    let has_bad_id = mends
+        .iter()
+        .any(|mend| matches!(mend.kind, MendKind::SourceIds(_)));
+    let ignored = mends.iter().find(|mend| {
+        matches!(
+            mend.kind,
+            MendKind::BadIgnoredId(_) | MendKind::BadGoogleIgnoredId(_)
+        )
+    });
+    match (error, ignored) {
+        (Error::BadSourceReference(_), Some(mend)) if !has_bad_id => code_of_mend(mend.kind),
+        _ => code_of_error(error),
+    }
 }
 
 /// The code of why scopes are not read.

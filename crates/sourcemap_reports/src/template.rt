@@ -1,5 +1,7 @@
 //! Pages for browsers, each in one file: a template with data in it.
-use sourcemap_files::{Asked, folder_of, is_file, read_text, usage, write_text};
+use sourcemap_files::{
+    Asked, folder_of, is_file, read_text, refuse_overwriting, usage, write_text,
+};
 use sourcemap_run::{DATA_MARK, fill_template};
 use sourcemap_words::{Outcome, failure_of};
 use std::alloc::{AllocError, Global};
@@ -15,7 +17,7 @@ pub(crate) struct Template {
 }
 
 impl Template {
-    /// The path beside the program; None if the system does not tell where the program is.
+    /// The path beside the program; None if the system does not report where the program is.
     fn beside_program(self, rt: &HostRuntime) -> Result<Option<String>, AllocError> {
         let Ok(program) = env::current_exe(rt) else {
             return Ok(None);
@@ -25,7 +27,7 @@ impl Template {
         Ok(Some(format!(in rt.alloc(); "{folder}{beside}")?))
     }
 
-    /// What is said where it is not.
+    /// The message where it is missing.
     fn lack(self, alloc: Global, how: &str) -> Result<String, AllocError> {
         let variable = self.variable;
         format!(in alloc; "the template of pages is not {how}: name it by --template or {variable}")
@@ -50,27 +52,29 @@ impl Template {
         }
     }
 
-    /// The page with this content.
-    fn page(self, asked: &Asked<'_, '_>, content: &str) -> Outcome<String> {
-        let alloc = asked.alloc();
-        let path = self.path(asked)?;
-        let template = read_text(asked.rt, path.as_str())?;
-        match fill_template(alloc, template.as_str(), content)? {
-            Some(page) => Ok(page),
-            None => {
-                let text = format!(in alloc;
-                    "is no template of pages: it has no mark {DATA_MARK}"
-                )?;
-                Err(failure_of(alloc, path.as_str(), text.as_str()))
-            }
-        }
-    }
-
-    /// Writes the page with this content to the file of `-o`, and tells how many bytes it has.
+    /// Writes the page with this content to the file of `-o`, which has to be another one than the template. Returns how many bytes it has.
     pub(crate) fn write(self, asked: &Asked<'_, '_>, content: &str) -> Outcome<usize> {
-        let page = self.page(asked, content)?;
-        write_text(asked.rt, asked.word("output"), page.as_str())?;
+        let path = self.path(asked)?;
+        let output = asked.word("output");
+        if output != "-" {
+            refuse_overwriting(asked, path.as_str(), output)?;
+        }
+        let page = page_of(asked, path.as_str(), content)?;
+        write_text(asked.rt, output, page.as_str())?;
         Ok(page.len())
+    }
+}
+
+/// The page of a template in a file, with this content.
+fn page_of(asked: &Asked<'_, '_>, path: &str, content: &str) -> Outcome<String> {
+    let alloc = asked.alloc();
+    let template = read_text(asked.rt, path)?;
+    match fill_template(alloc, template.as_str(), content)? {
+        Some(page) => Ok(page),
+        None => {
+            let text = format!(in alloc; "is no template of pages: it has no mark {DATA_MARK}")?;
+            Err(failure_of(alloc, path, text.as_str()))
+        }
     }
 }
 
@@ -85,7 +89,7 @@ pub(crate) fn refuse_two_texts(asked: &Asked<'_, '_>) -> Outcome<()> {
     Ok(())
 }
 
-/// Appends objects, of which each stands in a line, as a list.
+/// Appends objects, each of which is a line, as a list.
 pub(crate) fn push_list(objects: &str, out: &mut String) -> Result<(), AllocError> {
     out.push('[')?;
     for (i, object) in objects.lines().enumerate() {
@@ -94,5 +98,6 @@ pub(crate) fn push_list(objects: &str, out: &mut String) -> Result<(), AllocErro
         }
         out.push_str(object)?;
     }
-    out.push(']')
+    out.push(']')?;
+    Ok(())
 }

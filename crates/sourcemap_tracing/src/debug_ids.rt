@@ -1,7 +1,7 @@
 //! The maps of codes by their debug ids.
-use sourcemap_files::{Asked, MapText, files_below, map_of_file, read_text, tell};
+use serde_json::Value;
+use sourcemap_files::{Asked, MapText, files_below, map_of_file, read_text, tell, usage};
 use sourcemap_run::{are_same_ids, debug_id_of_map};
-use sourcemap_texts::{top_of, value_of};
 use sourcemap_words::{Failure, Outcome, failure_of};
 use std::alloc::Global;
 
@@ -15,8 +15,8 @@ struct OwnId {
 /// The debug ids of codes, as the file of `--debug-id-map` has them, and those of maps.
 #[derive(Drop)]
 pub struct DebugIds {
-    /// A JSON object with a debug id for each code; empty if none is given.
-    text: String,
+    /// An object with a debug id for each code; None if none is given.
+    given: Option<Value>,
     /// The maps below the folder of maps, or else below the root, that have a debug id; None until one is needed.
     maps: Option<Vec<OwnId>>,
 }
@@ -31,7 +31,7 @@ pub enum ById {
     None(String),
 }
 
-/// The debug id in the map of a file; None if it has none, or cannot be read.
+/// The debug id in the map of a file; None if it has none. A file that cannot be read is reported.
 fn id_in_file(asked: &Asked<'_, '_>, path: &str) -> Outcome<Option<String>> {
     let alloc = asked.alloc();
     let text = match read_text(asked.rt, path) {
@@ -48,11 +48,15 @@ fn id_in_file(asked: &Asked<'_, '_>, path: &str) -> Outcome<Option<String>> {
     })
 }
 
-/// The maps below a folder that have a debug id.
+/// The maps below a folder that have a debug id. Folders that cannot be looked through are reported.
 fn maps_by_id(asked: &Asked<'_, '_>, folder: &str) -> Outcome<Vec<OwnId>> {
     let mut maps = Vec::new(asked.alloc());
     let folder = if folder.is_empty() { "." } else { folder };
-    for path in files_below(asked.rt, folder)? {
+    let listed = files_below(asked.rt, folder)?;
+    for failure in &listed.failures {
+        tell(asked.rt, failure.as_str());
+    }
+    for path in listed.files {
         if path.as_str().ends_with(".map")
             && let Some(id) = id_in_file(asked, path.as_str())?
         {
@@ -62,47 +66,66 @@ fn maps_by_id(asked: &Asked<'_, '_>, folder: &str) -> Outcome<Vec<OwnId>> {
     Ok(maps)
 }
 
+/// The object with debug ids in a text.
+fn object_in(alloc: Global, path: &str, text: &str) -> Outcome<Value> {
+    match Value::from_str(alloc, text.trim_start_matches('\u{feff}')) {
+        Ok(value) if value.is_object() => Ok(value),
+        Err(error) if error.is_memory() => Err(Failure::Memory),
+        _ => {
+            let why = "has no JSON object of debug ids, by the names of codes";
+            Err(failure_of(alloc, path, why))
+        }
+    }
+}
+
+/// A debug id, if it is a UUID.
+fn uuid_in(value: &Value) -> Option<&str> {
+    value.as_str().filter(|id| are_same_ids(id, id))
+}
+
 impl DebugIds {
     /// The debug ids in the file of `--debug-id-map`. Fails if that has no JSON object.
     pub fn new(asked: &Asked<'_, '_>) -> Outcome<DebugIds> {
         let path = asked.word("debug-id-map");
-        let mut text = String::new(asked.alloc());
-        if !path.is_empty() {
-            text = read_text(asked.rt, path)?;
-            if !text.as_str().trim_start().starts_with('{') {
-                let why = "has no JSON object of debug ids, by the names of codes";
-                return Err(failure_of(asked.alloc(), path, why));
-            }
+        let mut given = None;
+        if path == "-" {
+            let why = "standard input may be the trace: name a file by --debug-id-map";
+            return Err(usage(asked.rt, why));
         }
-        Ok(DebugIds { text, maps: None })
+        if !path.is_empty() {
+            let text = read_text(asked.rt, path)?;
+            given = Some(object_in(asked.alloc(), path, text.as_str())?);
+        }
+        Ok(DebugIds { given, maps: None })
     }
 
-    /// The debug id of a code, if it is given.
-    fn id_of(&self, alloc: Global, file: &str) -> Outcome<Option<&str>> {
-        let key = format!(in alloc; "\"{file}\"")?;
-        let Some(value) = value_of(alloc, top_of(self.text.as_str()), key.as_str())? else {
-            return Ok(None);
-        };
-        Ok(
-            value
-                .text
-                .strip_prefix('"')
-                .and_then(|text| text.strip_suffix('"')),
-        )
+    /// The maps that have debug ids. They are looked for once.
+    fn maps(&mut self, asked: &Asked<'_, '_>, folder: &str) -> Outcome<&[OwnId]> {
+        if self.maps.is_none() {
+            self.maps = Some(maps_by_id(asked, folder)?);
+        }
+        Ok(self.maps.as_deref().unwrap_or(&[]))
     }
 
     /// The map that has the debug id of a code.
     pub fn find(&mut self, asked: &Asked<'_, '_>, file: &str) -> Outcome<ById> {
         let alloc = asked.alloc();
-        let folder = asked.maps.as_deref().unwrap_or(asked.root.as_str());
-        if self.id_of(alloc, file)?.is_some() && self.maps.is_none() {
-            self.maps = Some(maps_by_id(asked, folder)?);
-        }
-        let Some(id) = self.id_of(alloc, file)? else {
-            return Ok(ById::Unknown);
+        let id = match self.given.as_ref().and_then(|given| given.get(file)) {
+            None => return Ok(ById::Unknown),
+            Some(value) => match uuid_in(value) {
+                Some(id) => String::from_str(alloc, id)?,
+                None => {
+                    let why = format!(in alloc; "the debug id of {file} is no UUID")?;
+                    return Ok(ById::None(why));
+                }
+            },
         };
-        let maps = self.maps.as_deref().unwrap_or(&[]);
-        let Some(map) = maps.iter().find(|map| are_same_ids(map.id.as_str(), id)) else {
+        let folder = asked.maps.as_deref().unwrap_or(asked.root.as_str());
+        let maps = self.maps(asked, folder)?;
+        let Some(map) = maps
+            .iter()
+            .find(|map| are_same_ids(map.id.as_str(), id.as_str()))
+        else {
             let shown = if folder.is_empty() {
                 "the current folder"
             } else {
@@ -112,6 +135,10 @@ impl DebugIds {
                 "no map in {shown} has the debug id {id} of {file}: name its folder by --maps"
             )?));
         };
-        Ok(ById::Map(map_of_file(asked.rt, map.path.as_str(), asked.places())?))
+        match map_of_file(asked.rt, map.path.as_str(), asked.places()) {
+            Ok(map) => Ok(ById::Map(map)),
+            Err(Failure::Told(why)) => Ok(ById::None(why)),
+            Err(failure) => Err(failure),
+        }
     }
 }

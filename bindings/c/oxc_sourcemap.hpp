@@ -93,8 +93,8 @@ template <class Handle, auto FREE> using Owner = std::unique_ptr<Handle, Frees<F
 
 } // namespace detail
 
-/* An error of the library: its code (SMAP_..), message and place in the input. (SMAP_OUT_OF_MEMORY is std::bad_alloc. Where memory is too
- * short for the message, the message is the name of the code.) */
+/* An error of the library: its code (SMAP_..), message and place in the input. (SMAP_OUT_OF_MEMORY is std::bad_alloc. Without memory for
+ * the message, the message is the name of the code.) */
 class Error : public std::runtime_error {
   public:
     explicit Error(const smap_fault &fault)

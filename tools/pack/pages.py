@@ -34,6 +34,7 @@ SECTIONS = {
                 "NO_COLOR": "If it is set and not empty, resolve prints no colours.",
                 "PWD": "The name of the current folder, where it is one.",
                 "SOURCEMAP_PAGE": "The template of page, unless --template names one.",
+                "SOURCEMAP_SIZE": "The template of the page of size -o, unless --template names one.",
             },
         ),
         "FILES": (
@@ -43,6 +44,7 @@ SECTIONS = {
                 "X.map.smc": "The compiled map of X.map, which resolve reads if it is fresh.",
                 "X.map.contents.smc": "The contents of its sources, if compile wrote them apart.",
                 "../share/sourcemap/page.html": "The template of page, from the folder of the program.",
+                "../share/sourcemap/size.html": "The template of the page of size -o, from the folder of the program.",
             },
         ),
         "SEE ALSO": ("smap(1), oxc_sourcemap(3)", {}),

@@ -11,10 +11,13 @@ FORMS = {"homepage": URL, "maintainer": r'[^\s"\\<>][^"\\<>]* <[^\s"\\<>@]+@[^\s
 
 
 def read(text):
-    """The lines that are filled, as a dict. One of another name or form ends the run."""
+    """The lines that are filled, as a dict. One of another name or form, or a second one of a name, ends the run."""
     rows = [line.partition(":") for line in text.splitlines() if line and not line.startswith("#")]
     told = {name: value.strip() for name, _, value in rows}
-    wrong = [name for name, value in told.items() if name not in FORMS or value and not re.fullmatch(FORMS[name], value)]
+    names = [name for name, _, _ in rows]
+    wrong = [
+        name for name, value in told.items() if name not in FORMS or names.count(name) > 1 or value and not re.fullmatch(FORMS[name], value)
+    ]
     if wrong:
         sys.exit(f"package: tools/PROJECT: wrong lines: {', '.join(wrong)}")
     return {name: value for name, value in told.items() if value}

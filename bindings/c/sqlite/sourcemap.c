@@ -1,10 +1,11 @@
 /* A loadable extension of SQLite: source maps in queries. A map is TEXT, the JSON of a source map, or a BLOB, a compiled map.
  *
- *   smap_trace(map, line, column) the original position of a generated one, as JSON: {"source":..,"line":..,"column":..,"name":..}; NULL
- *                                        where the map has no source for it
+ *   smap_trace(map, line, column)        the original position of a generated one, as JSON:
+ *                                        {"source":..,"line":..,"column":..,"name":..}; NULL where the map has no source for it
  *   smap_trace_at(map, line, column)     the same as a table: one row of source, line, column, name, source_id, or none
- *   smap_compile(map) the compiled map, a BLOB; a compiled map itself, unchanged smap_source_content(map, source_id) the content of a
- *   source, TEXT; NULL if the map does not have it smap_fault(map) why a map cannot be read, TEXT, with the place; NULL if it can be read
+ *   smap_compile(map)                    the compiled map, a BLOB; a compiled map itself, unchanged
+ *   smap_source_content(map, source_id)  the content of a source, TEXT; NULL if the map does not have it
+ *   smap_fault(map)                      why a map cannot be read, TEXT, with the place; NULL if it can be read
  *
  * Numbers count from 0, columns in UTF-16 units. Sources are as the map lists them, without the source root. JSON is read as
  * smap_read_found reads it, and what that mends is not reported. With a NULL argument the result is NULL, or no row. Anything else that is

@@ -17,7 +17,7 @@ export type Mapping =
   | { generated: Pos; source: string; original: Pos; name: string }
   | { generated: Pos; source: string; original: Pos; name: undefined };
 
-/** What is added: a generated position, and what it comes from. Only the content that comes with a source for the first time counts. */
+/** What is added: a generated position, and what it comes from. The content counts only with the first mapping of its source. */
 export type NewMapping =
   | { generated: Pos; source?: null; original?: null; name?: null; content?: null }
   | { generated: Pos; source: string; original: Pos; name?: string | null; content?: string | null };

@@ -7,7 +7,8 @@
  * Texts are strings, or Uint8Arrays of UTF-8 (a Buffer is one). A string with half a surrogate pair is a TypeError; bytes that are
  * not UTF-8 are a SourceMapError of SMAP_NOT_UTF8.
  *
- * A call that fails leaves its arguments unchanged. Each call that makes, adds or sets something may also fail with SMAP_OUT_OF_MEMORY.
+ * A call that fails leaves the object and its arguments unchanged. Each call that makes, adds or sets something may also fail with
+ * SMAP_OUT_OF_MEMORY.
  */
 
 declare global {
@@ -364,7 +365,7 @@ export class SourceMap {
    */
   constructor(json: MapInput, options?: ReadOptions);
 
-  /** What the package runs over: the addon, or the WebAssembly module. */
+  /** What the package runs on: the addon, or the WebAssembly module. */
   static readonly backend: "addon" | "module";
 
   /**
@@ -670,7 +671,7 @@ export class CompiledMap {
   getName(id: number): string | null;
   getSource(id: number): string | null;
   getSourceContent(id: number): string | null;
-  /** All names, sources and contents, by their ids. Each call makes a new array: for one text use `getName` and its like. Throws
+  /** All names, sources and contents, by their ids. Each call makes a new array: for one text use `getName` and the like. Throws
    *  SourceMapError of SMAP_NO_ENTRY if they are longer than the bytes, as only those of damaged bytes are. */
   readonly names: string[];
   readonly sources: string[];

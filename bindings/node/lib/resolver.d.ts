@@ -220,7 +220,8 @@ export class Resolver {
   readonly limits: Limits;
 
   /** What a place in a code resolves to, by its URL or path, and its line and column, which count from 1. Throws TypeError for a line or a
-   *  column that is no integer, and if the store returns a promise, or anything but a Uint8Array; so do the calls below. */
+   *  column that is no integer, and if the store returns a promise, or anything but a Uint8Array, null or undefined; so do the calls
+   *  below. */
   resolveFrame(url: string, line: number, column: number, debugId?: string | null): Resolved;
   resolveFrameAsync(url: string, line: number, column: number, debugId?: string | null): Promise<Resolved>;
 

@@ -47,7 +47,7 @@ def tells_of_project(archives):
 
 
 def has_forms():
-    """What tells of a project that is filled has the forms of its readers, and lines of another form are refused."""
+    """What tells of a project that is filled has the forms of its readers, and lines of another form, or twice, are refused."""
     texts = {path: (TOP / path).read_text() for path in ("bindings/node/package.json", "bindings/python/pyproject.toml")}
     texts |= {str(it.relative_to(TOP)): it.read_text() for it in TOP.glob("bindings/rust/oxc*/Cargo.toml")}
     found = {path: told_in(path.rsplit("/", 1)[1], text, FILLED) for path, text in texts.items()}
@@ -61,7 +61,7 @@ def has_forms():
         holds(told_in(path.rsplit("/", 1)[1], texts[path], {}) == texts[path], f"{path}: nothing is to be told")
     holds("\nUpstream-Contact: Some Body <body@example.org>\n" in copyright_text(FILLED).decode(), "copyright")
     holds(told_in_spdx(FILLED, "1a")["downloadLocation"] == "git+https://example.org/maps.git@1a", "the list of materials")
-    for it in ("homepage: example.org", "maintainer: nobody", "hompage: https://example.org"):
+    for it in ("homepage: example.org", "maintainer: nobody", "hompage: https://example.org", "homepage: https://example.org\nhomepage:"):
         try:
             read(it)
         except SystemExit:

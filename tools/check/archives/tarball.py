@@ -128,11 +128,18 @@ def refuses_another_version(empty, tree):
 
 
 def has_pages(tree):
-    """groff, behind man, has nothing to say against any page, and those of the programs have their last sections."""
+    """groff, behind man, has nothing to say against any page; those of the programs have their last sections, and that of sourcemap names
+    each variable and file that its pages take their templates from."""
     pages = [it for it in sorted((tree / "share/man").rglob("*.[13]")) if not it.is_symlink()]
     for it in (tree / "share/man/man1").iterdir():
         missing = [name for name in ("EXIT STATUS", "ENVIRONMENT", "FILES") if f"\n.SH {name}\n" not in it.read_text()]
         holds(not missing, f"{it.name} has no {missing}")
+    if (tree / "share/man/man1/sourcemap.1").exists():
+        page = (tree / "share/man/man1/sourcemap.1").read_text().replace("\\-", "-")
+        for it in ("page", "size"):
+            places = re.findall(r'\b(?:variable|beside): "(?:\.\./)?(.*?)"', (TOP / f"crates/sourcemap_reports/src/{it}.rt").read_text())
+            missing = [name for name in places if name not in page]
+            holds(len(places) == 2 and not missing, f"sourcemap.1 has no {missing or f'places of {it}'}")
     said = subprocess.run(["groff", "-man", "-Tutf8", "-ww", "-z", "-rLL=200n", *pages], capture_output=True, text=True)
     holds(not said.stderr and not said.returncode, said.stderr)
 

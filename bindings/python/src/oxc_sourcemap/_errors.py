@@ -10,7 +10,7 @@ from ._values import Code, FaultPlace, Field, PlaceKind, ScopesFault, message_of
 
 
 class SourceMapError(ValueError):
-    """A call that was refused. It left its arguments unchanged.
+    """A call that was refused. It left the object and its arguments unchanged.
 
     >>> from oxc_sourcemap import SourceMap
     >>> try:

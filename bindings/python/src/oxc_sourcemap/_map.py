@@ -45,9 +45,9 @@ class SourceMap(Contents, Lookups):
 
     Threads may share a map: one that changes or closes it waits for those that read it, and they for it. What interrupts a call on
     a map in its own thread (a handler of a signal, a finalizer, `__index__` of a number) may read that map if the call does; where
-    it would wait for that call, it raises RuntimeError. A map that is closed raises ValueError. A call that fails leaves its arguments
-    unchanged, and one that is interrupted has done all of its work or none; lack of memory is MemoryError. Do not use maps in a child that
-    a process with several threads has forked.
+    it would wait for that call, it raises RuntimeError. A map that is closed raises ValueError. A call that fails leaves the map and
+    its arguments unchanged, and one that is interrupted has done all of its work or none; lack of memory is MemoryError. Do not use maps in
+    a child that a process with several threads has forked.
 
     As a collection a map contains its tokens, but it is true even without any.
 

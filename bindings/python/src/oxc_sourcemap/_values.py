@@ -94,10 +94,12 @@ class ScopesFault(IntEnum):
     CUT_SHORT: its last number ends in a digit after which another has to follow.
     TOO_LARGE: a number has more than seven digits, or with it a line, a column or a source is above its limit.
     MISSING_NUMBER: it is empty, or lacks a number.
-    BAD_INDEX: an index refers to no name, scope or value. NOTHING_OPEN: it is an end, variables, values, sub-ranges or a call site, and
-    nothing that it could belong to is open. NOT_CLOSED: a source without scopes comes within the scopes of another. TOO_DEEP: more than
-    1024 scopes or ranges are nested. LEFT_OPEN: the text ends, and a scope or a range has no end. SPLIT_TWICE: it is sub-ranges of a value
-    that has some already.
+    BAD_INDEX: an index refers to no name, scope or value.
+    NOTHING_OPEN: it is an end, variables, values, sub-ranges or a call site, and nothing that it could belong to is open.
+    NOT_CLOSED: a source without scopes comes within the scopes of another.
+    TOO_DEEP: more than 1024 scopes or ranges are nested.
+    LEFT_OPEN: the text ends, and a scope or a range has no end.
+    SPLIT_TWICE: it is sub-ranges of a value that has some already.
     """
 
     NOT_A_DIGIT = 1

@@ -175,7 +175,7 @@ fn the_url_of_a_code_is_found() {
 
 #[test]
 fn the_library_has_the_version_of_the_declarations() {
-    assert_eq!(library_version(), 1);
+    assert_eq!(library_version(), 2);
 }
 
 /// A text of 61 bytes; its URL has 43 bytes, and 4 for each 3 of these. And one that is read as a map of 4294967295 lines.

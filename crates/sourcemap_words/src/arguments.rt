@@ -351,16 +351,25 @@ const DIFF: Words = Words {
 };
 
 const COVERAGE: Words = Words {
-    about: "Turns V8's block coverage into lines of the originals",
-    json: "An object a line, for each source: source, ran, missed, lines (the missed ones)",
+    about: "Turns V8's block coverage into lines, functions and branches of the originals",
+    json: "An object a line, for each source: source, ran, missed, lines (the missed ones), functions (line, count, name), branches (line, count)",
     words: &[
-        Word("V8.json", Kind::Files, "What V8 wrote"),
+        Word(
+            "V8.json",
+            Kind::Files,
+            "What V8 wrote, or a folder with such files",
+        ),
         PREFIX,
         Word("lcov", Kind::Flag, "Prints it as lcov reads it"),
         Word(
+            "html",
+            Kind::Flag,
+            "Prints a page with the contents that the maps have",
+        ),
+        Word(
             "check",
-            Kind::Options("lines=PERCENT"),
-            "Status 1 if a lower percentage of all lines ran; PERCENT is a whole number from 0 to 100",
+            Kind::Options("MEASURE=PERCENT"),
+            "Status 1 if a lower percentage ran; MEASURE is lines, functions or branches, PERCENT a whole number from 0 to 100",
         ),
     ],
 };
@@ -469,25 +478,30 @@ fn arg_of<'a>(alloc: Global, word: &Word) -> Arg<'a> {
     }
 }
 
-/// The option that an argument excludes: what `--json` prints has no place for it, or it says another thing.
-fn excluded_by(name: &str) -> Option<&'static str> {
+/// The options that an argument excludes: what `--json` prints has no place for it, or they say another thing.
+fn excluded_by(name: &str) -> &'static [&'static str] {
     match name {
-        "context" | "lcov" => Some("json"),
-        "no-contents" => Some("contents-apart"),
-        _ => None,
+        "context" | "lcov" => &["json"],
+        "html" => &["json", "lcov"],
+        "no-contents" => &["contents-apart"],
+        _ => &[],
     }
+}
+
+/// An argument that excludes others.
+fn with_excluded<'a>(name: &str, arg: Arg<'a>) -> Result<Arg<'a>, AllocError> {
+    let mut arg = arg;
+    for other in excluded_by(name) {
+        arg = arg.conflicts_with(*other)?;
+    }
+    Ok(arg)
 }
 
 /// A command with these arguments.
 fn with_words<'a>(alloc: Global, command: Command<'a>, words: &[Word]) -> Built<'a> {
     let mut command = command;
     for word in words {
-        let arg = arg_of(alloc, word);
-        let arg = match excluded_by(word.0) {
-            Some(other) => arg.conflicts_with(other)?,
-            None => arg,
-        };
-        command = command.arg(arg)?;
+        command = command.arg(with_excluded(word.0, arg_of(alloc, word))?)?;
     }
     Ok(command)
 }

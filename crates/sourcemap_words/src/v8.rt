@@ -16,8 +16,16 @@ pub struct Script {
 }
 
 #[derive(Drop, Deserialize)]
+#[serde(rename_all = "camelCase")]
 struct Function {
+    /// Empty if it has no name.
+    #[serde(default)]
+    function_name: String,
+    /// The first is that of the whole function.
     ranges: Vec<Range>,
+    /// Whether the other ranges are its blocks.
+    #[serde(default)]
+    is_block_coverage: bool,
 }
 
 /// How often the code between two offsets ran, in UTF-16 units. Of two ranges one is in the other, or they do not overlap.
@@ -35,6 +43,54 @@ pub struct Run {
     pub start: u32,
     pub end: u32,
     pub count: u64,
+}
+
+/// A function that has a name, and how often it was called.
+#[derive(Clone, Copy)]
+pub struct Called<'s> {
+    pub name: &'s str,
+    pub run: Run,
+}
+
+impl Range {
+    fn as_run(&self) -> Run {
+        Run {
+            start: self.start_offset,
+            end: self.end_offset,
+            count: self.count,
+        }
+    }
+}
+
+impl Script {
+    /// The functions that have a name, in V8's order.
+    pub fn called(&self, alloc: Global) -> Result<Vec<Called<'_>>, AllocError> {
+        let mut called = Vec::new(alloc);
+        for function in &self.functions {
+            if let Some(range) = function.ranges.as_slice().first()
+                && !function.function_name.is_empty()
+            {
+                called.push(Called {
+                    name: function.function_name.as_str(),
+                    run: range.as_run(),
+                })?;
+            }
+        }
+        Ok(called)
+    }
+
+    /// The blocks that V8 counts by themselves, each whole function among them, in V8's order.
+    pub fn blocks(&self, alloc: Global) -> Result<Vec<Run>, AllocError> {
+        let mut blocks = Vec::new(alloc);
+        for function in &self.functions {
+            if function.is_block_coverage {
+                for range in &function.ranges {
+                    blocks.push(range.as_run())?;
+                }
+            }
+        }
+        Ok(blocks)
+    }
 }
 
 /// The order in which the ranges are met: by where they begin, the longest first, so that an outer one is before those in it.

@@ -141,12 +141,15 @@ Examples:
 const DIFF: &str = "Examples:
   sourcemap diff before.js.map after.js.map";
 
-const COVERAGE: &str = "Lines count from 1. Node writes such files into the folder NODE_V8_COVERAGE.
+const COVERAGE: &str =
+    "Lines count from 1. Node writes such files into the folder NODE_V8_COVERAGE; counts of several files add up. Functions are
+those that have a name; branches are the blocks that V8 counts by themselves, each whole function among them.
 
 Examples:
-  NODE_V8_COVERAGE=out node app.js && sourcemap coverage out/*.json
-  sourcemap coverage --lcov out/*.json > lcov.info
-  sourcemap coverage --check lines=80 out/*.json";
+  NODE_V8_COVERAGE=out node app.js && sourcemap coverage out
+  sourcemap coverage --lcov out > lcov.info
+  sourcemap coverage --html out > coverage.html
+  sourcemap coverage --check lines=80 --check functions=70 out";
 
 const PAGE: &str =
     "The page has all in it: the code, the map, the report of `check`, and the library. It asks nothing of the network. It is made of

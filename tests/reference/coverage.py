@@ -10,6 +10,11 @@ that the exact lookup finds at it. White space and the punctuation `( ) [ ] { } 
 and leaves them out, without tokens of their own, and V8's ranges begin and end at them. A line ran if some unit of it ran, and
 did not run if it has units and none ran. A line without units is not code.
 
+A function with a name, and each block that V8 counts by itself, is of the original to which the first token in it points, on its first
+line, or else the last token before it, or the first of the line. The last token of a block is the one at or before its last column. A
+function has the name of the map of a token near the first one, at which its name stands in the code. Counts of what begins (and ends,
+for blocks) at the same place add up.
+
 Beside that the way of v8-to-istanbul, from ends: each line ran, unless a range says otherwise. The two ends of a range are mapped;
 a range with an end that is not mapped, or with ends in two sources, is dropped. The lines that lie wholly between the two take
 its count.
@@ -36,9 +41,9 @@ def numbers(segment):
             value = shift = 0
 
 
-def tokens_by_line(mappings):
-    """For each generated line its tokens: (column, None), or (column, (source id, line, column))."""
-    lines, source, line, col = [], 0, 0, 0
+def named_tokens(mappings):
+    """For each generated line its tokens: (column, None, None), or (column, (source id, line, column), name id or None)."""
+    lines, source, line, col, name = [], 0, 0, 0, 0
     for text in mappings.split(";"):
         lines.append([])
         dst = 0
@@ -47,8 +52,15 @@ def tokens_by_line(mappings):
             dst += fields[0]
             if len(fields) > 1:
                 source, line, col = source + fields[1], line + fields[2], col + fields[3]
-            lines[-1].append((dst, (source, line, col) if len(fields) > 1 else None))
+            if len(fields) > 4:
+                name += fields[4]
+            lines[-1].append((dst, (source, line, col) if len(fields) > 1 else None, name if len(fields) > 4 else None))
     return lines
+
+
+def tokens_by_line(mappings):
+    """For each generated line its tokens: (column, None), or (column, (source id, line, column))."""
+    return [[token[:2] for token in line] for line in named_tokens(mappings)]
 
 
 def lookup(tokens, col):
@@ -94,6 +106,60 @@ def lines_of(units, functions, tokens):
         ran, rest = lines.get(original[:2], (0, 0))
         lines[original[:2]] = (ran + 1, rest) if count else (ran, rest + 1)
     return lines
+
+
+def is_of_name(unit):
+    return unit > 127 or unit < 128 and (chr(unit).isalnum() or chr(unit) in "$_")
+
+
+def parts_of(units, functions, source_map):
+    """The functions, {(source id, line, column, name): count}, and the branches, {(source id, line, column, last line, last column): count}."""
+    lines, at = named_tokens(source_map["mappings"]), positions(units)
+    flat = [(line, *token) for line, tokens in enumerate(lines) for token in tokens]
+    called, branches = {}, {}
+
+    def clamped(line, col):
+        """The index of the first token at a column, else of the last of the greatest column before it, else of the first of the line."""
+        own = [i for i, token in enumerate(flat) if token[0] == line]
+        same = [i for i in own if flat[i][1] == col]
+        before = [i for i in own if flat[i][1] < col]
+        return same[0] if same else before[-1] if before else own[0] if own else None
+
+    def first_in(start, end):
+        line, col = start
+        after = [i for i, token in enumerate(flat) if token[0] == line and token[1] >= col]
+        least = [i for i in after if flat[i][1] == flat[after[0]][1]] if after else []
+        chosen = (least[-1] if flat[least[0]][1] == col else least[0]) if least else None
+        return chosen if chosen is not None and flat[chosen][:2] < end else clamped(line, col)
+
+    def original_name(first, name):
+        text = units_of(name)
+        for i in [*range(first, min(first + 3, len(flat))), *range(first - 1, max(first - 4, -1), -1)]:
+            line, col, _, own = flat[i]
+            place = [k for k, where in enumerate(at) if where == (line, col)]
+            behind = units[place[0] + len(text):][:1] if place else []
+            if own is not None and place and units[place[0]:][:len(text)] == text and not any(map(is_of_name, behind)):
+                return source_map["names"][own]
+        return name
+
+    for function in functions:
+        for number, each in enumerate(function["ranges"]):
+            if max(each["startOffset"], each["endOffset"]) >= len(at):
+                continue
+            start, end = at[each["startOffset"]], at[each["endOffset"]]
+            first = first_in(start, end)
+            if first is None or flat[first][2] is None:
+                continue
+            key = flat[first][2]
+            if number == 0 and function.get("functionName"):
+                full = (*key, original_name(first, function["functionName"]))
+                called[full] = called.get(full, 0) + each["count"]
+            if function.get("isBlockCoverage"):
+                last = clamped(end[0], max(end[1] - 1, 0))
+                last = flat[last] if last is not None else flat[first]
+                full = (*key, *(last[2] or (0, 0, 0))[1:])
+                branches[full] = branches.get(full, 0) + each["count"]
+    return called, branches
 
 
 def from_ends(units, functions, tokens, contents):

@@ -10,10 +10,10 @@ use oxc_sourcemap_map::SourceMap;
 use oxc_sourcemap_text::TextPositions;
 use oxc_sourcemap_tokens::{Error, Token};
 use sourcemap_files::{
-    Asked, COMPILED_END, CONTENTS_END, Decompiled, Lookup, MapText, Progress, Status, Written,
-    decompile, error_text, files_with_maps, found_error_text, is_file, is_made_of, is_map_file,
-    is_regular, is_stale, map_of_code, names_folder, parts_in, print, put_contents, read_text,
-    read_written, shown_name, tell,
+    Asked, COMPILED_END, CONTENTS_END, Decompiled, Lookup, MapText, Places, Progress, Status,
+    Written, decompile, error_text, files_with_maps, found_error_text, is_file, is_in_root,
+    is_made_of, is_map_file, is_regular, is_stale, map_of_code, names_folder, parts_in, print,
+    put_contents, read_text, read_written, shown_name, tell,
 };
 use sourcemap_run::{
     are_same_ids, debug_id_of_code, debug_id_of_map, push_object, push_text_member,
@@ -523,10 +523,11 @@ fn check_as_map(rt: &HostRuntime, file: &str, map: &Written, report: &mut Report
 fn check_as_code(
     asked: &Asked<'_, '_>,
     file: &str,
+    places: Places<'_>,
     code: &str,
     report: &mut Report,
 ) -> Outcome<()> {
-    match map_of_code(asked.rt, file, code, asked.places())? {
+    match map_of_code(asked.rt, file, code, places)? {
         Lookup::Map(
             MapText {
                 name,
@@ -550,8 +551,37 @@ fn check_as_code(
     }
 }
 
+/// A file that is to be checked.
+#[derive(Drop)]
+struct Item {
+    path: String,
+    /// The folder in which the files must lie that it names, with a slash at its end; None for that of `--root`.
+    root: Option<String>,
+}
+
+/// Where to look for files.
+fn places_in<'p>(asked: &'p Asked<'_, '_>, root: &'p Option<String>) -> Places<'p> {
+    match root {
+        Some(root) => Places {
+            root: root.as_str(),
+            ..asked.places()
+        },
+        None => asked.places(),
+    }
+}
+
+/// The root of the files of a folder: the folder itself, if it is not in the root and none is named.
+fn root_of(asked: &Asked<'_, '_>, folder: &str) -> Outcome<Option<String>> {
+    if !asked.root.is_empty() || is_in_root(asked.rt, folder, asked.places()) {
+        return Ok(None);
+    }
+    let folder = folder.trim_end_matches('/');
+    Ok(Some(format!(in asked.alloc(); "{folder}/")?))
+}
+
 /// Reports on a file, or on a folder that has none to be checked.
-fn check_file(asked: &Asked<'_, '_>, file: &str) -> Outcome<Report> {
+fn check_file(asked: &Asked<'_, '_>, item: &Item) -> Outcome<Report> {
+    let file = item.path.as_str();
     let mut report = report_on(asked, file)?;
     if names_folder(asked.rt, file) {
         report.tell(NO_MAP, "no map is in this folder or below it")?;
@@ -561,7 +591,8 @@ fn check_file(asked: &Asked<'_, '_>, file: &str) -> Outcome<Report> {
     if let Written::Text(text) = &written
         && !is_map_file(file, text.as_str())
     {
-        check_as_code(asked, file, text.as_str(), &mut report)?;
+        let places = places_in(asked, &item.root);
+        check_as_code(asked, file, places, text.as_str(), &mut report)?;
     } else {
         check_as_map(asked.rt, file, &written, &mut report)?;
     }
@@ -570,20 +601,27 @@ fn check_file(asked: &Asked<'_, '_>, file: &str) -> Outcome<Report> {
 
 /// Adds the files that a word stands for: of a folder those in it that have maps, or, if there are none, the folder itself. Returns whether
 /// all folders could be looked through, and reports those that could not.
-fn push_files(asked: &Asked<'_, '_>, word: &str, files: &mut Vec<String>) -> Outcome<bool> {
+fn push_files(asked: &Asked<'_, '_>, word: &str, items: &mut Vec<Item>) -> Outcome<bool> {
     if names_folder(asked.rt, word) {
-        let found = files_with_maps(asked.rt, word, asked.places())?;
+        let root = root_of(asked, word)?;
+        let found = files_with_maps(asked.rt, word, places_in(asked, &root))?;
         for failure in &found.failures {
             tell(asked.rt, failure.as_str());
         }
         let is_whole = found.failures.is_empty();
-        let mut found = found.files;
-        if !found.is_empty() || !is_whole {
-            files.append(&mut found)?;
+        if !found.files.is_empty() || !is_whole {
+            for path in found.files {
+                let root = match &root {
+                    Some(root) => Some(String::from_str(asked.alloc(), root.as_str())?),
+                    None => None,
+                };
+                items.push(Item { path, root })?;
+            }
             return Ok(is_whole);
         }
     }
-    files.push(String::from_str(asked.alloc(), word)?)?;
+    let path = String::from_str(asked.alloc(), word)?;
+    items.push(Item { path, root: None })?;
     Ok(true)
 }
 
@@ -599,10 +637,7 @@ fn tell_failure(rt: &HostRuntime, failure: Failure) -> Outcome<()> {
 }
 
 /// The files that words stand for, and the last word of those whose folders cannot all be looked through.
-fn files_of<'w>(
-    asked: &Asked<'_, '_>,
-    words: &[&'w str],
-) -> Outcome<(Vec<String>, Option<&'w str>)> {
+fn files_of<'w>(asked: &Asked<'_, '_>, words: &[&'w str]) -> Outcome<(Vec<Item>, Option<&'w str>)> {
     let mut files = Vec::new(asked.alloc());
     let mut trouble = None;
     for word in words {
@@ -626,8 +661,8 @@ pub fn run(asked: &Asked<'_, '_>) -> Outcome<Status> {
     let mut is_wrong = false;
     let mut trouble = folder;
     for file in &files {
-        progress.begin(asked.rt, file.as_str());
-        let checked = check_file(asked, file.as_str());
+        progress.begin(asked.rt, file.path.as_str());
+        let checked = check_file(asked, file);
         progress.clear(asked.rt);
         match checked {
             Ok(report) => {
@@ -636,7 +671,7 @@ pub fn run(asked: &Asked<'_, '_>) -> Outcome<Status> {
             }
             Err(failure) => {
                 tell_failure(asked.rt, failure)?;
-                trouble = Some(file.as_str());
+                trouble = Some(file.path.as_str());
             }
         }
     }

@@ -1,12 +1,15 @@
-//! `coverage`: lines of originals that ran, by V8's block coverage.
+//! `coverage`: lines, functions and branches of originals that ran, by V8's block coverage.
+ghost use Rattle.std.specs.Prelude.{◌≡◌, ◌*◌, nat_lt};
 
+use crate::functions::{AllParts, Tally, add_parts};
+use crate::html::{Contents, add_content, page_of};
 use oxc_sourcemap_map::SourceMap;
 use oxc_sourcemap_text::{TextPositions, utf16_units};
 use oxc_sourcemap_tokens::Position;
 use sourcemap_files::{
-    Asked, CodeFile, InputPrefix, Lookup, MapText, Places, Progress, Sought, Status, find_code,
-    is_file, is_in_root, map_of_code, path_of_url, plain_path, print, read_map, read_text,
-    shown_name, tell, warn,
+    Asked, CodeFile, InputPrefix, Lookup, MapText, Places, Progress, Sought, Status, files_below,
+    find_code, is_file, is_in_root, map_of_code, names_folder, path_of_url, plain_path, print,
+    read_map, read_text, shown_name, tell, warn,
 };
 use sourcemap_run::{
     Block, Mark, Totals, add_marks, counted_lines, percent, push_covered, push_lcov, push_marks,
@@ -30,15 +33,18 @@ struct Coverage {
     /// What is before the paths of codes in the root.
     input: InputPrefix,
     sources: Totals,
+    parts: AllParts,
+    /// The contents of sources, if they are to be printed.
+    contents: Option<Contents>,
     /// The codes that are left out, and the reports on them.
     left_out: BTreeMap<String, String>,
 }
 
 /// The code of a script, and its positions.
 #[derive(Clone, Copy)]
-struct Code<'c> {
-    units: &'c [u16],
-    positions: &'c TextPositions<'c>,
+pub(crate) struct Code<'c> {
+    pub(crate) units: &'c [u16],
+    pub(crate) positions: &'c TextPositions<'c>,
 }
 
 /// Whether a unit is code of some line. White space and punctuation that a generator puts in or leaves out is of no line, and blocks
@@ -63,7 +69,7 @@ fn has_code(code: &Code<'_>, mark: &Mark) -> bool {
 }
 
 /// The positions of a run; None if V8's report is of another code.
-fn block_of(positions: &TextPositions<'_>, run: &Run) -> Option<Block> {
+pub(crate) fn block_of(positions: &TextPositions<'_>, run: &Run) -> Option<Block> {
     let (line, column) = positions.position(run.start).ok()?;
     let (end_line, end_column) = positions.position(run.end).ok()?;
     Some(Block {
@@ -95,18 +101,12 @@ fn marks_of(
 /// What the pieces of a script that have code say of lines.
 fn code_marks_of(
     alloc: Global,
-    code: &str,
+    code: &Code<'_>,
     map: &SourceMap<'_>,
     runs: &[Run],
 ) -> Outcome<Vec<Mark>> {
-    let positions = TextPositions::new(alloc, code)?;
-    let units = utf16_units(alloc, code)?;
-    let code = Code {
-        units: units.as_slice(),
-        positions: &positions,
-    };
-    let mut marks = marks_of(alloc, map, &positions, runs)?;
-    marks.retain(|mark| has_code(&code, mark));
+    let mut marks = marks_of(alloc, map, code.positions, runs)?;
+    marks.retain(|mark| has_code(code, mark));
     // Of pieces that follow one another and say the same one counts as much as all.
     marks.dedup_by_key(|mark| (mark.source_id, mark.line, mark.count));
     Ok(marks)
@@ -160,17 +160,32 @@ impl Coverage {
             folder: folder_from_here(asked.rt)?,
             input: asked.input_prefix()?,
             sources: Totals::new(alloc),
+            parts: AllParts::new(alloc),
+            contents: asked.has("html").then(|| Contents::new(alloc)),
             left_out: BTreeMap::new(alloc),
         })
     }
 
-    /// Adds the lines of a script to those of its sources.
-    fn add(&mut self, map: &SourceMap<'_>, folder: &str, marks: &[Mark]) -> Outcome<()> {
+    /// The paths of the sources of a map in a folder.
+    fn paths_of(&self, map: &SourceMap<'_>, folder: &str) -> Outcome<Vec<String>> {
         let mut paths = Vec::new(self.alloc);
         for source in map.get_sources() {
             paths.push(path_from_here(self.alloc, self.folder.as_str(), folder, source)?)?;
         }
-        Ok(add_marks(self.alloc, &mut self.sources, paths.as_slice(), marks)?)
+        Ok(paths)
+    }
+
+    /// Keeps the contents of the sources of a map, if they are to be printed.
+    fn keep_contents(&mut self, map: &SourceMap<'_>, paths: &[String]) -> Outcome<()> {
+        let Some(contents) = &mut self.contents else {
+            return Ok(());
+        };
+        for (path, content) in paths.iter().zip(map.get_source_contents()) {
+            if let Some(content) = content {
+                add_content(self.alloc, contents, path.as_str(), content)?;
+            }
+        }
+        Ok(())
     }
 
     fn leave_out(&mut self, code: &str, why: String) -> Outcome<()> {
@@ -190,9 +205,30 @@ impl Coverage {
     ) -> Outcome<()> {
         let mut map = SourceMap::from_parts(read_map(asked.rt, text)?);
         map.apply_source_root(self.alloc)?;
+        let positions = TextPositions::new(self.alloc, code)?;
+        let units = utf16_units(self.alloc, code)?;
+        let code = Code {
+            units: units.as_slice(),
+            positions: &positions,
+        };
         let runs = runs_of(self.alloc, script)?;
-        let marks = code_marks_of(self.alloc, code, &map, runs.as_slice())?;
-        self.add(&map, text.folder.as_str(), marks.as_slice())
+        let marks = code_marks_of(self.alloc, &code, &map, runs.as_slice())?;
+        let paths = self.paths_of(&map, text.folder.as_str())?;
+        add_marks(
+            self.alloc,
+            &mut self.sources,
+            paths.as_slice(),
+            marks.as_slice(),
+        )?;
+        self.keep_contents(&map, paths.as_slice())?;
+        add_parts(
+            self.alloc,
+            &mut self.parts,
+            paths.as_slice(),
+            &code,
+            &map,
+            script,
+        )
     }
 
     /// The code of a script, if it is there.
@@ -270,6 +306,28 @@ fn is_of_engine(url: &str) -> bool {
     url.is_empty() || url.starts_with("node:") || url.starts_with("evalmachine.")
 }
 
+/// Adds the files that a word stands for: of a folder those in it and below it that are named `*.json`.
+fn push_files(asked: &Asked<'_, '_>, word: &str, files: &mut Vec<String>) -> Outcome<()> {
+    let alloc = asked.alloc();
+    if !names_folder(asked.rt, word) {
+        return Ok(files.push(String::from_str(alloc, word)?)?);
+    }
+    let count = files.len();
+    let listed = files_below(asked.rt, word)?;
+    for path in listed.files {
+        if path.as_str().ends_with(".json") {
+            files.push(path)?;
+        }
+    }
+    if let Some(failure) = listed.failures.as_slice().first() {
+        return Err(failure_of(alloc, word, failure.as_str()));
+    }
+    if files.len() == count {
+        return Err(failure_of(alloc, word, "no file *.json is in this folder or below it"));
+    }
+    Ok(())
+}
+
 /// Adds the report in a file of V8.
 fn add_file(asked: &Asked<'_, '_>, file: &str, coverage: &mut Coverage) -> Outcome<()> {
     let alloc = asked.alloc();
@@ -289,134 +347,226 @@ fn add_file(asked: &Asked<'_, '_>, file: &str, coverage: &mut Coverage) -> Outco
     Ok(())
 }
 
+/// Appends a row: the percentage, of how many of these things, and which.
 fn push_row(
     alloc: Global,
+    tally: Tally,
+    things: &str,
     source: &str,
-    ran: u64,
-    all: u64,
     missed: &str,
     out: &mut String,
 ) -> Outcome<()> {
+    let Tally { ran, all } = tally;
     let Some(percent) = percent(ran, all) else {
-        return Ok(out.push_str("no lines\n")?);
+        return Ok(out.push_str(format!(in alloc; "no {things}\n")?.as_str())?);
     };
     let tail = if missed.is_empty() { "" } else { "  missed: " };
-    let row = format!(in alloc; "{percent:>3} %  {ran:>6} of {all:>6} lines  ")?;
+    let row = format!(in alloc; "{percent:>3} %  {ran:>6} of {all:>6} {things}  ")?;
     out.push_str(row.as_str())?;
     push_shown(source, out)?;
     out.push_str(format!(in alloc; "{tail}{missed}\n")?.as_str())?;
     Ok(())
 }
 
-/// How many lines of all originals ran, and how many there are.
-fn lines_of_all(alloc: Global, sources: &Totals) -> Outcome<(u64, u64)> {
-    let (mut total, mut all) = (0u64, 0u64);
-    for lines in sources.values() {
-        let lines = counted_lines(alloc, lines)?;
-        total = total.saturating_add(ran(lines.as_slice()));
-        all = all.saturating_add(lines.len() as u64);
-    }
-    Ok((total, all))
+/// What `--check` measures.
+#[derive(Clone, Copy)]
+enum Measure {
+    Lines,
+    Functions,
+    Branches,
 }
 
-fn table(alloc: Global, sources: &Totals) -> Outcome<String> {
-    let mut out = String::new(alloc);
-    for (source, lines) in sources {
-        let lines = counted_lines(alloc, lines)?;
-        let (own, count) = (ran(lines.as_slice()), lines.len() as u64);
-        let mut missed = String::new(alloc);
-        push_missed(alloc, lines.as_slice(), &mut missed)?;
-        push_row(
-            alloc,
-            source.as_str(),
-            own,
-            count,
-            missed.as_str(),
-            &mut out,
-        )?;
-    }
-    let (total, all) = lines_of_all(alloc, sources)?;
-    push_row(alloc, "all", total, all, "", &mut out)?;
-    Ok(out)
-}
-
-/// The lines as lcov reads them, to which a line feed in a path would be the end of it.
-fn lcov(rt: &HostRuntime, sources: &Totals) -> Outcome<String> {
-    let alloc = rt.alloc();
-    let mut out = String::new(alloc);
-    for (source, lines) in sources {
-        if source.as_str().chars().any(|ch| is_hidden(ch)) {
-            let mut shown = String::new(alloc);
-            push_shown(source.as_str(), &mut shown)?;
-            warn(
-                rt,
-                shown.as_str(),
-                "has a hidden character in its path, and is left out",
-            );
-            continue;
+impl Measure {
+    fn name(self) -> &'static str {
+        match self {
+            Measure::Lines => "lines",
+            Measure::Functions => "functions",
+            Measure::Branches => "branches",
         }
-        let lines = counted_lines(alloc, lines)?;
-        push_lcov(alloc, source.as_str(), lines.as_slice(), &mut out)?;
     }
-    Ok(out)
+
+    /// The measure of this name, if there is one.
+    fn of_name(name: &str) -> Option<Measure> {
+        match name {
+            "lines" => Some(Measure::Lines),
+            "functions" => Some(Measure::Functions),
+            "branches" => Some(Measure::Branches),
+            _ => None,
+        }
+    }
 }
 
-fn objects(alloc: Global, sources: &Totals) -> Outcome<String> {
-    let mut out = String::new(alloc);
-    for (source, lines) in sources {
-        let lines = counted_lines(alloc, lines)?;
-        push_covered(alloc, source.as_str(), lines.as_slice(), &mut out)?;
+impl Coverage {
+    /// How many lines of all originals ran.
+    fn all_lines(&self) -> Outcome<Tally> {
+        let mut tally = Tally::default();
+        for lines in self.sources.values() {
+            let lines = counted_lines(self.alloc, lines)?;
+            tally.add_all(Tally {
+                ran: ran(lines.as_slice()),
+                all: lines.len() as u64,
+            });
+        }
+        Ok(tally)
     }
-    Ok(out)
+
+    /// How many functions and how many branches of the originals that have lines ran.
+    fn all_parts(&self) -> (Tally, Tally) {
+        let mut all = (Tally::default(), Tally::default());
+        for source in self.sources.keys() {
+            if let Some(parts) = self.parts.get(source.as_str()) {
+                all.0.add_all(parts.functions());
+                all.1.add_all(parts.branches());
+            }
+        }
+        all
+    }
+
+    fn tally(&self, measure: Measure) -> Outcome<Tally> {
+        match measure {
+            Measure::Lines => self.all_lines(),
+            Measure::Functions => Ok(self.all_parts().0),
+            Measure::Branches => Ok(self.all_parts().1),
+        }
+    }
+
+    /// The table: a row for each original, and one of all for each measure, but for functions and branches if there are none.
+    fn table(&self) -> Outcome<String> {
+        let alloc = self.alloc;
+        let mut out = String::new(alloc);
+        for (source, lines) in &self.sources {
+            let lines = counted_lines(alloc, lines)?;
+            let tally = Tally {
+                ran: ran(lines.as_slice()),
+                all: lines.len() as u64,
+            };
+            let mut missed = String::new(alloc);
+            push_missed(alloc, lines.as_slice(), &mut missed)?;
+            push_row(
+                alloc,
+                tally,
+                "lines",
+                source.as_str(),
+                missed.as_str(),
+                &mut out,
+            )?;
+        }
+        push_row(alloc, self.all_lines()?, "lines", "all", "", &mut out)?;
+        for measure in [Measure::Functions, Measure::Branches] {
+            let tally = self.tally(measure)?;
+            if tally.all > 0 {
+                push_row(alloc, tally, measure.name(), "all", "", &mut out)?;
+            }
+        }
+        Ok(out)
+    }
+
+    /// Appends the record of an original for lcov: in it the functions and branches are ahead of the lines.
+    fn push_record(&self, source: &str, lines: &[(u32, u64)], out: &mut String) -> Outcome<()> {
+        let mut record = String::new(self.alloc);
+        push_lcov(self.alloc, source, lines, &mut record)?;
+        let start = "TN:\nSF:\n".len().saturating_add(source.len());
+        let (front, rest) = (record.as_str().get(..start), record.as_str().get(start..));
+        out.push_str(front.unwrap_or(""))?;
+        if let Some(parts) = self.parts.get(source) {
+            parts.push_lcov(self.alloc, out)?;
+        }
+        Ok(out.push_str(rest.unwrap_or(""))?)
+    }
+
+    /// What lcov reads. There a line feed in a path would be the end of it.
+    fn lcov(&self, rt: &HostRuntime) -> Outcome<String> {
+        let mut out = String::new(self.alloc);
+        for (source, lines) in &self.sources {
+            if source.as_str().chars().any(|ch| is_hidden(ch)) {
+                let mut shown = String::new(self.alloc);
+                push_shown(source.as_str(), &mut shown)?;
+                let why = "has a hidden character in its path, and is left out";
+                warn(rt, shown.as_str(), why);
+                continue;
+            }
+            let lines = counted_lines(self.alloc, lines)?;
+            self.push_record(source.as_str(), lines.as_slice(), &mut out)?;
+        }
+        Ok(out)
+    }
+
+    /// An object a line, for each original: that of its lines, with more members at its end.
+    fn objects(&self) -> Outcome<String> {
+        let mut out = String::new(self.alloc);
+        for (source, lines) in &self.sources {
+            let lines = counted_lines(self.alloc, lines)?;
+            let mut object = String::new(self.alloc);
+            push_covered(self.alloc, source.as_str(), lines.as_slice(), &mut object)?;
+            let object = object.as_str();
+            out.push_str(object.strip_suffix("}\n").unwrap_or(object))?;
+            if let Some(parts) = self.parts.get(source.as_str()) {
+                parts.push_members(self.alloc, &mut out)?;
+            } else {
+                out.push_str(",\"functions\":[],\"branches\":[]")?;
+            }
+            out.push_str("}\n")?;
+        }
+        Ok(out)
+    }
+
+    /// What is printed.
+    fn text(&self, asked: &Asked<'_, '_>) -> Outcome<String> {
+        match &self.contents {
+            Some(contents) => page_of(self.alloc, &self.sources, &self.parts, contents),
+            None if asked.has("json") => self.objects(),
+            None if asked.has("lcov") => self.lcov(asked.rt),
+            None => self.table(),
+        }
+    }
 }
 
-/// The percentage in a word of `--check`, as `lines=80`; None if it is no such word.
-fn percent_of(word: &str) -> Option<u64> {
-    let digits = word.strip_prefix("lines=")?;
+/// The measure and the percentage in a word of `--check`, as `lines=80`; None if it is no such word.
+fn check_of(word: &str) -> Option<(Measure, u64)> {
+    let (name, digits) = word.split_once('=')?;
+    let measure = Measure::of_name(name)?;
     if !digits.bytes().all(|byte| byte.is_ascii_digit()) {
         return None;
     }
     match digits.parse::<u64>() {
-        Ok(percent) if percent <= 100 => Some(percent),
+        Ok(percent) if percent <= 100 => Some((measure, percent)),
         _ => None,
     }
 }
 
-/// The percentages of lines that `--check` asks for.
-fn checks_of(asked: &Asked<'_, '_>) -> Outcome<Vec<u64>> {
+/// The percentages that `--check` asks for.
+fn checks_of(asked: &Asked<'_, '_>) -> Outcome<Vec<(Measure, u64)>> {
     let alloc = asked.alloc();
     let mut checks = Vec::new(alloc);
     for word in &asked.words("check")? {
-        let Some(percent) = percent_of(word) else {
+        let Some(check) = check_of(word) else {
             let text = format!(in alloc;
-                "{word:?} is no measure with a percentage: write lines=PERCENT, a whole number from 0 to 100"
+                "{word:?} is no measure with a percentage: write lines=PERCENT, functions=PERCENT or branches=PERCENT, with a whole number from 0 to 100"
             )?;
             return Err(failure_of(alloc, "--check", text.as_str()));
         };
-        checks.push(percent)?;
+        checks.push(check)?;
     }
     Ok(checks)
 }
 
-/// The percentage of lines that ran, rounded down, if fewer ran than a check asks for. Of no lines all ran.
-fn missed_by(check: u64, ran: u64, all: u64) -> Option<u64> {
-    let wanted = u128::from(check).saturating_mul(u128::from(all));
-    if u128::from(ran).saturating_mul(100) < wanted {
-        percent(ran, all)
-    } else {
-        None
-    }
+/// Whether a lower percentage ran than a check asks for. Of none all ran.
+fn are_missed(check: u64, ran: u64, all: u64) -> bool
+    ensures { result ≡ nat_lt (ran * 100) (check * all) }
+{
+    u128::from(ran) * 100 < u128::from(check) * u128::from(all)
 }
 
-/// Whether as many lines ran as all checks ask for. Those are told for which fewer did.
-fn are_met(rt: &HostRuntime, sources: &Totals, checks: &[u64]) -> Outcome<bool> {
+/// Whether as many ran as all checks ask for. Those are reported for which fewer did.
+fn are_met(rt: &HostRuntime, coverage: &Coverage, checks: &[(Measure, u64)]) -> Outcome<bool> {
     let alloc = rt.alloc();
-    let (ran, all) = lines_of_all(alloc, sources)?;
     let mut met = true;
-    for check in checks {
-        if let Some(percent) = missed_by(*check, ran, all) {
+    for (measure, check) in checks {
+        let Tally { ran, all } = coverage.tally(*measure)?;
+        if are_missed(*check, ran, all) {
+            let (name, percent) = (measure.name(), percent(ran, all).unwrap_or(0));
             let text = format!(in alloc;
-                "{percent} % of the lines ran, and --check asks for {check} %"
+                "{percent} % of the {name} ran, and --check asks for {check} %"
             )?;
             tell(rt, text.as_str());
             met = false;
@@ -427,26 +577,20 @@ fn are_met(rt: &HostRuntime, sources: &Totals, checks: &[u64]) -> Outcome<bool> 
 
 /// Runs the command `coverage`.
 pub fn run(asked: &Asked<'_, '_>) -> Outcome<Status> {
-    let alloc = asked.alloc();
-    let files = asked.words("V8.json")?;
     let checks = checks_of(asked)?;
+    let mut files = Vec::new(asked.alloc());
+    for word in &asked.words("V8.json")? {
+        push_files(asked, word, &mut files)?;
+    }
     let mut progress = Progress::new(asked.rt, files.len());
     let mut coverage = Coverage::new(asked)?;
     for file in &files {
-        progress.begin(asked.rt, file);
-        add_file(asked, file, &mut coverage)?;
+        progress.begin(asked.rt, file.as_str());
+        add_file(asked, file.as_str(), &mut coverage)?;
     }
     progress.clear(asked.rt);
     coverage.tell_left_out(asked.rt)?;
-    let sources = &coverage.sources;
-    let text = if asked.has("json") {
-        objects(alloc, sources)?
-    } else if asked.has("lcov") {
-        lcov(asked.rt, sources)?
-    } else {
-        table(alloc, sources)?
-    };
-    print(asked.rt, text.as_str())?;
-    let met = are_met(asked.rt, sources, checks.as_slice())?;
-    Ok(Status::of(met && !sources.is_empty()))
+    print(asked.rt, coverage.text(asked)?.as_str())?;
+    let met = are_met(asked.rt, &coverage, checks.as_slice())?;
+    Ok(Status::of(met && !coverage.sources.is_empty()))
 }

@@ -6,6 +6,8 @@ pub mod check;
 mod codes;
 pub mod coverage;
 pub mod diff;
+mod functions;
+mod html;
 pub mod page;
 mod scopes;
 pub mod size;

@@ -1,6 +1,6 @@
 //! The maps of codes by their debug ids.
 use serde_json::Value;
-use sourcemap_files::{Asked, MapText, files_below, map_of_file, read_text, tell, usage};
+use sourcemap_files::{Asked, MapText, Written, files_below, map_of_file, read_text, tell, usage};
 use sourcemap_run::{are_same_ids, debug_id_of_map};
 use sourcemap_words::{Failure, Outcome, failure_of};
 use std::alloc::Global;
@@ -66,6 +66,27 @@ fn maps_by_id(asked: &Asked<'_, '_>, folder: &str) -> Outcome<Vec<OwnId>> {
     Ok(maps)
 }
 
+/// The map in a file, if it is there and still has this debug id.
+fn map_in_file(asked: &Asked<'_, '_>, path: &str, id: &str) -> Outcome<Option<MapText>> {
+    let map = match map_of_file(asked.rt, path, asked.places()) {
+        Ok(map) => map,
+        Err(Failure::Told(_)) => return Ok(None),
+        Err(failure) => return Err(failure),
+    };
+    let is_same = match &map.written {
+        Written::Text(text) => debug_id_of_map(asked.alloc(), text.as_str())?.is_some_and(
+            |own| are_same_ids(own, id),
+        ),
+        Written::Compiled(_) => false,
+    };
+    Ok(is_same.then(|| map))
+}
+
+/// The folder with the maps: that of `--maps`, else the root.
+fn folder_of_maps<'a>(asked: &'a Asked<'_, '_>) -> &'a str {
+    asked.maps.as_deref().unwrap_or(asked.root.as_str())
+}
+
 /// The object with debug ids in a text.
 fn object_in(alloc: Global, path: &str, text: &str) -> Outcome<Value> {
     match Value::from_str(alloc, text.trim_start_matches('\u{feff}')) {
@@ -99,12 +120,30 @@ impl DebugIds {
         Ok(DebugIds { given, maps: None })
     }
 
-    /// The maps that have debug ids. They are looked for once.
-    fn maps(&mut self, asked: &Asked<'_, '_>, folder: &str) -> Outcome<&[OwnId]> {
+    /// The path of the map that has a debug id. The maps are listed if they are not.
+    fn path_with(&mut self, asked: &Asked<'_, '_>, id: &str) -> Outcome<Option<String>> {
         if self.maps.is_none() {
-            self.maps = Some(maps_by_id(asked, folder)?);
+            self.maps = Some(maps_by_id(asked, folder_of_maps(asked))?);
         }
-        Ok(self.maps.as_deref().unwrap_or(&[]))
+        let maps = self.maps.as_deref().unwrap_or(&[]);
+        match maps.iter().find(|map| are_same_ids(map.id.as_str(), id)) {
+            Some(map) => Ok(Some(String::from_str(asked.alloc(), map.path.as_str())?)),
+            None => Ok(None),
+        }
+    }
+
+    /// The map that has a debug id. Where that of the list is gone or has another id by now, the maps are listed once again.
+    fn map_with(&mut self, asked: &Asked<'_, '_>, id: &str) -> Outcome<Option<MapText>> {
+        for _ in 0..2 {
+            let Some(path) = self.path_with(asked, id)? else {
+                return Ok(None);
+            };
+            if let Some(map) = map_in_file(asked, path.as_str(), id)? {
+                return Ok(Some(map));
+            }
+            self.maps = None;
+        }
+        Ok(None)
     }
 
     /// The map that has the debug id of a code.
@@ -120,25 +159,19 @@ impl DebugIds {
                 }
             },
         };
-        let folder = asked.maps.as_deref().unwrap_or(asked.root.as_str());
-        let maps = self.maps(asked, folder)?;
-        let Some(map) = maps
-            .iter()
-            .find(|map| are_same_ids(map.id.as_str(), id.as_str()))
-        else {
-            let shown = if folder.is_empty() {
-                "the current folder"
-            } else {
-                folder
-            };
-            return Ok(ById::None(format!(in alloc;
-                "no map in {shown} has the debug id {id} of {file}: name its folder by --maps"
-            )?));
-        };
-        match map_of_file(asked.rt, map.path.as_str(), asked.places()) {
-            Ok(map) => Ok(ById::Map(map)),
-            Err(Failure::Told(why)) => Ok(ById::None(why)),
-            Err(failure) => Err(failure),
+        if let Some(map) = self.map_with(asked, id.as_str())? {
+            return Ok(ById::Map(map));
         }
+        let folder = match folder_of_maps(asked) {
+            "" => "the current folder",
+            folder => folder,
+        };
+        let advice = match asked.maps {
+            Some(_) => "",
+            None => ": name its folder by --maps",
+        };
+        Ok(ById::None(format!(in alloc;
+            "no map in {folder} has the debug id {id} of {file}{advice}"
+        )?))
     }
 }

@@ -3,6 +3,7 @@
 import hashlib
 import json
 import random
+import subprocess
 import tempfile
 import uuid
 from pathlib import Path
@@ -85,3 +86,37 @@ def tried(run, check, full):
         check(run(["debug-id", *names], folder)[0] == 0, "debug ids that were injected are the same")
         status = run(["debug-id", "--inject", "--force", *names], folder)[0]
         check((status, held(folder)) == (0, found), f"debug ids a second time: {status}")
+
+
+def answers(program, folder, lines):
+    """Starts `resolve` on a log in a folder, whose maps are named by debug ids, and answers each line that it is given with what it prints."""
+    words = [program, "resolve", "--maps", "maps", "--debug-id-map", "ids.json"]
+    pipes = {"stdin": subprocess.PIPE, "stdout": subprocess.PIPE, "stderr": subprocess.DEVNULL}
+    with subprocess.Popen(words, cwd=folder, text=True, bufsize=1, **pipes) as ran:
+        for line in lines:
+            ran.stdin.write(line)
+            ran.stdin.flush()
+            yield ran.stdout.readline()
+
+
+def followed(program, check):
+    """In a log that is followed, a map that was replaced, or moved, since the maps were listed is found by its id all the same."""
+    ids = [str(uuid.UUID(int=k, version=4)) for k in range(4)]
+
+    def put(name, source, number):
+        held = {"version": 3, "sources": [source], "names": [], "mappings": "AAAA", "debugId": ids[number]}
+        Path(folder, "maps", name).write_text(json.dumps(held))
+
+    with tempfile.TemporaryDirectory() as folder:
+        Path(folder, "maps").mkdir()
+        Path(folder, "ids.json").write_text(json.dumps({f"http://h/{k}.js": ids[k] for k in range(3)}))
+        for number, name in enumerate(("one.map", "two.map", "three.map")):
+            put(name, f"{number}.ts", number)
+        told = answers(program, folder, [f"    at f (http://h/{k}.js:1:1)\n" for k in range(3)])
+        check("0.ts" in (line := next(told)), f"a map by its debug id: {line}")
+        put("two.map", "wrong.ts", 3)
+        put("four.map", "1.ts", 1)
+        check("1.ts" in (line := next(told)), f"a map that was replaced, whose id is of another: {line}")
+        Path(folder, "maps/three.map").rename(Path(folder, "maps/five.map"))
+        check("2.ts" in (line := next(told)), f"a map that was moved: {line}")
+        told.close()

@@ -60,7 +60,11 @@ fn has_code(code: &Code<'_>, mark: &Mark) -> bool {
     let Ok(start) = code.positions.offset(mark.start.line, mark.start.column) else {
         return false;
     };
-    let end = match code.positions.offset(mark.end.line, mark.end.column) {
+    let end = code
+        .positions
+        .offset(mark.end.line, mark.end.column)
+        .or_else(|_| code.positions.offset(mark.end.line.saturating_add(1), 0));
+    let end = match end {
         Ok(end) => end as usize,
         Err(_) => code.units.len(),
     };

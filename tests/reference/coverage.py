@@ -11,7 +11,7 @@ and leaves them out, without tokens of their own, and V8's ranges begin and end 
 did not run if it has units and none ran. A line without units is not code.
 
 A function with a name, and each block that V8 counts by itself, is of the original to which the first token in it points, on its first
-line, or else the last token before it, or the first of the line. The last token of a block is the one at or before its last column. A
+line, or else the last token before it, or the first of the line. The last token of a block is the one at or before its last column, or the first if that points to no source. A
 function has the name of the map of a token near the first one, at which its name stands in the code. Counts of what begins (and ends,
 for blocks) at the same place add up.
 
@@ -156,8 +156,7 @@ def parts_of(units, functions, source_map):
                 called[full] = called.get(full, 0) + each["count"]
             if function.get("isBlockCoverage"):
                 last = clamped(end[0], max(end[1] - 1, 0))
-                last = flat[last] if last is not None else flat[first]
-                full = (*key, *(last[2] or (0, 0, 0))[1:])
+                full = (*key, *(last is not None and flat[last][2] or key)[1:])
                 branches[full] = branches.get(full, 0) + each["count"]
     return called, branches
 

@@ -15,7 +15,8 @@ const NEAR: usize = 3;
 /// A function of an original: the line and the column at which it begins, and its name.
 type Function = (u32, u32, String);
 
-/// A branch of an original: the line and the column at which it begins, and those of its last token.
+/// A branch of an original: the line and the column at which it begins, and those of its last token, or of the first if the last points to
+/// no source.
 type Branch = (u32, u32, u32, u32);
 
 /// How many ran, and how many there are.
@@ -117,11 +118,14 @@ impl<'c> Mapped<'c> {
         None
     }
 
-    /// The last token of a block.
+    /// The last token of a block, if that points to a source.
     fn last_in(&self, block: &Block) -> Option<Token> {
         let column = block.end.column.saturating_sub(1);
-        self.map
-            .lookup_token_approx(self.table, block.end.line, column)
+        let last = self
+            .map
+            .lookup_token_approx(self.table, block.end.line, column)?;
+        let _ = last.get_source_id()?;
+        Some(last)
     }
 }
 

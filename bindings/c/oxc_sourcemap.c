@@ -146,6 +146,19 @@ uint32_t smap_clone(const smap_map *map, smap_map **out, smap_fault *fault) {
     return code;
 }
 
+uint32_t smap_share_map(smap_map *map, smap_fault *fault) {
+    smap_fault own;
+    return proved_share_map(HANDLE(map), OR(fault, &own));
+}
+
+uint32_t smap_retain_map(const smap_map *map, smap_map **out, smap_fault *fault) {
+    smap_fault own;
+    proved_handle made = { NULL };
+    uint32_t code = proved_retain_map(LENT(map), &made, OR(fault, &own));
+    if (code == SMAP_OK) *out = made.at;
+    return code;
+}
+
 void smap_free_map(smap_map *map) {
     if (map) proved_free_map(HANDLE(map));
 }
@@ -788,6 +801,8 @@ const char *smap_code_name(uint32_t code) {
         NAMED(SMAP_NO_INDEX);
         NAMED(SMAP_BAD_OPTION);
         NAMED(SMAP_NO_FILE);
+        NAMED(SMAP_SHARED);
+        NAMED(SMAP_NOT_SHARED);
         default: return "SMAP_UNKNOWN";
     }
 }

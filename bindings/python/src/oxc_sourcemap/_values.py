@@ -66,6 +66,8 @@ class Code(IntEnum):
     NO_INDEX = 104
     BAD_OPTION = 105
     NO_FILE = 106
+    SHARED = 107
+    NOT_SHARED = 108
 
 
 class Field(IntEnum):

@@ -88,8 +88,6 @@ static void null_handles(void) {
     p.kind = 77, counts.tokens = 77;
 #define NULL_FAULT(call) CHECK((call) == SMAP_NULL_HANDLE && is_fault(&fault, SMAP_NULL_HANDLE, 0)), fault = junk()
     NULL_FAULT(smap_clone(NULL, &out, &fault));
-    NULL_FAULT(smap_share_map(NULL, &fault));
-    NULL_FAULT(smap_retain_map(NULL, &out, &fault));
     NULL_FAULT(smap_trace(NULL, 0, 0, 9, &p, &fault));
     NULL_FAULT(smap_trace_all(NULL, &one, 1, 9, &p, 0, &fault));
     NULL_FAULT(smap_find_all(NULL, &one, 1, 9, &n, 0, &fault));
@@ -133,8 +131,6 @@ static void null_handles(void) {
     NULL_FAULT(smap_visualizer_url(NULL, TEXT("\xff"), &string, &fault));
     NULL_HANDLE(smap_to_json_string(NULL, &string, NULL));
     NULL_HANDLE(smap_sort(NULL, NULL));
-    NULL_HANDLE(smap_share_map(NULL, NULL));
-    NULL_HANDLE(smap_retain_map(NULL, &out, NULL));
     CHECK(out == (smap_map *)&failed && string == (smap_string *)&failed && n == 77 && count == 77 && p.kind == 77);
     CHECK(counts.tokens == 77);
     smap_free_map(map);

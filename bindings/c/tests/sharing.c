@@ -123,9 +123,20 @@ static void shares_without_memory(void) {
     CHECK(kept == held);
 }
 
+static void null_maps(void) {
+    smap_map *out = (smap_map *)&failed;
+    smap_fault fault = junk();
+    CHECK(smap_share_map(NULL, &fault) == SMAP_NULL_HANDLE && is_fault(&fault, SMAP_NULL_HANDLE, 0));
+    fault = junk();
+    CHECK(smap_retain_map(NULL, &out, &fault) == SMAP_NULL_HANDLE && is_fault(&fault, SMAP_NULL_HANDLE, 0));
+    CHECK(smap_share_map(NULL, NULL) == SMAP_NULL_HANDLE && smap_retain_map(NULL, &out, NULL) == SMAP_NULL_HANDLE);
+    CHECK(out == (smap_map *)&failed);
+}
+
 void test_sharing(void) {
     for (int last = 0; last < 3; last++) last_handle_frees(last);
     no_call_changes_it();
     makes_of_it();
     shares_without_memory();
+    null_maps();
 }

@@ -26,6 +26,7 @@ fn trace_usual<'c>(held: Option<&'c Held>, at: Position, bias: u32, out: &mut Or
 {
     match held {
         Some(Held::Map(loaded)) if bias == 0 => loaded.trace_usual(at, out),
+        Some(Held::Shared(shared)) if bias == 0 => shared.deref().trace_usual(at, out),
         _ => false,
     }
 }

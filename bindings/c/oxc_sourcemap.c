@@ -146,6 +146,19 @@ uint32_t smap_clone(const smap_map *map, smap_map **out, smap_fault *fault) {
     return code;
 }
 
+uint32_t smap_share_map(smap_map *map, smap_fault *fault) {
+    smap_fault own;
+    return proved_share_map(HANDLE(map), OR(fault, &own));
+}
+
+uint32_t smap_retain_map(const smap_map *map, smap_map **out, smap_fault *fault) {
+    smap_fault own;
+    proved_handle made = { NULL };
+    uint32_t code = proved_retain_map(LENT(map), &made, OR(fault, &own));
+    if (code == SMAP_OK) *out = made.at;
+    return code;
+}
+
 void smap_free_map(smap_map *map) {
     if (map) proved_free_map(HANDLE(map));
 }
@@ -751,43 +764,16 @@ size_t smap_reason_message(const char *text, size_t text_len, const smap_fault *
     case code: return #code
 const char *smap_code_name(uint32_t code) {
     switch (code) {
-        NAMED(SMAP_OK);
-        NAMED(SMAP_VLQ_LEFTOVER);
-        NAMED(SMAP_VLQ_NO_VALUES);
-        NAMED(SMAP_VLQ_OVERFLOW);
-        NAMED(SMAP_JSON_READING);
-        NAMED(SMAP_JSON_SHAPE);
-        NAMED(SMAP_JSON_VERSION);
-        NAMED(SMAP_BAD_SEGMENT_SIZE);
-        NAMED(SMAP_BAD_SOURCE_REFERENCE);
-        NAMED(SMAP_BAD_NAME_REFERENCE);
-        NAMED(SMAP_OUT_OF_MEMORY);
-        NAMED(SMAP_TOO_LARGE);
-        NAMED(SMAP_LINE_ORDER);
-        NAMED(SMAP_BAD_CHUNKS);
-        NAMED(SMAP_SEVERAL_SOURCES);
-        NAMED(SMAP_UNSORTED);
-        NAMED(SMAP_TOO_DEEP);
-        NAMED(SMAP_WORDS);
-        NAMED(SMAP_NO_TEXT);
-        NAMED(SMAP_SECTION_ORDER);
-        NAMED(SMAP_INPUT_LINE_ORDER);
-        NAMED(SMAP_BAD_BASE64);
-        NAMED(SMAP_BAD_DATA_UTF8);
-        NAMED(SMAP_NOT_COMPILED);
-        NAMED(SMAP_COMPILED_VERSION);
-        NAMED(SMAP_COMPILED_LENGTH);
-        NAMED(SMAP_COMPILED_SIZES);
-        NAMED(SMAP_BAD_SCOPES);
-        NAMED(SMAP_SCOPES_NOT_TEXT);
-        NAMED(SMAP_SCOPES_INDEXED);
-        NAMED(SMAP_NULL_HANDLE);
-        NAMED(SMAP_NOT_UTF8);
-        NAMED(SMAP_LENGTHS);
-        NAMED(SMAP_NO_ENTRY);
-        NAMED(SMAP_NO_INDEX);
-        NAMED(SMAP_BAD_OPTION);
-        NAMED(SMAP_NO_FILE);
+        NAMED(SMAP_OK); NAMED(SMAP_VLQ_LEFTOVER); NAMED(SMAP_VLQ_NO_VALUES); NAMED(SMAP_VLQ_OVERFLOW);
+        NAMED(SMAP_JSON_READING); NAMED(SMAP_JSON_SHAPE); NAMED(SMAP_JSON_VERSION); NAMED(SMAP_BAD_SEGMENT_SIZE);
+        NAMED(SMAP_BAD_SOURCE_REFERENCE); NAMED(SMAP_BAD_NAME_REFERENCE); NAMED(SMAP_OUT_OF_MEMORY); NAMED(SMAP_TOO_LARGE);
+        NAMED(SMAP_LINE_ORDER); NAMED(SMAP_BAD_CHUNKS); NAMED(SMAP_SEVERAL_SOURCES); NAMED(SMAP_UNSORTED);
+        NAMED(SMAP_TOO_DEEP); NAMED(SMAP_WORDS); NAMED(SMAP_NO_TEXT); NAMED(SMAP_SECTION_ORDER);
+        NAMED(SMAP_INPUT_LINE_ORDER); NAMED(SMAP_BAD_BASE64); NAMED(SMAP_BAD_DATA_UTF8); NAMED(SMAP_NOT_COMPILED);
+        NAMED(SMAP_COMPILED_VERSION); NAMED(SMAP_COMPILED_LENGTH); NAMED(SMAP_COMPILED_SIZES); NAMED(SMAP_BAD_SCOPES);
+        NAMED(SMAP_SCOPES_NOT_TEXT); NAMED(SMAP_SCOPES_INDEXED); NAMED(SMAP_NULL_HANDLE); NAMED(SMAP_NOT_UTF8);
+        NAMED(SMAP_LENGTHS); NAMED(SMAP_NO_ENTRY); NAMED(SMAP_NO_INDEX); NAMED(SMAP_BAD_OPTION); NAMED(SMAP_NO_FILE);
+        NAMED(SMAP_SHARED); NAMED(SMAP_NOT_SHARED);
         default: return "SMAP_UNKNOWN";
     }
 }

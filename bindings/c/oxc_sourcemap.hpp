@@ -323,6 +323,11 @@ class SourceMap {
     [[nodiscard]] SourceMap clone() const {
         return made([&](smap_map **out, smap_fault *fault) { return smap_clone(get(), out, fault); });
     }
+    /* Makes the map shared: no call changes it any more, and `retain` makes more objects of it, in any thread, without copying it. */
+    void share() { change([&](smap_fault *fault) { return smap_share_map(get(), fault); }); }
+    [[nodiscard]] SourceMap retain() const {
+        return made([&](smap_map **out, smap_fault *fault) { return smap_retain_map(get(), out, fault); });
+    }
     [[nodiscard]] SourceMap compose(const SourceMap &input) const {
         return made([&](smap_map **out, smap_fault *fault) { return smap_compose(get(), input.get(), out, fault); });
     }

@@ -97,6 +97,16 @@ void holds() {
     CHECK(back.is_sorted() && back.names().empty() && !back.trace(0, 0)->source && is(back.trace(0, 3), 1, "c.js", 0, 0));
 }
 
+void shares() {
+    auto map = SourceMap::from_json(SMALL);
+    CHECK(thrown([&] { (void)map.retain(); }) == SMAP_NOT_SHARED && thrown([] { (void)SourceMap().retain(); }) == SMAP_NULL_HANDLE);
+    map.index_sources(), map.share(), map.share();
+    auto other = map.retain();
+    CHECK(thrown([&] { map.set_file("\xff"); }) == SMAP_SHARED && thrown([&] { other.sort(); }) == SMAP_SHARED && !other.file());
+    map = other.clone(), map.set_file("a.js");
+    CHECK(map.file() == "a.js" && is(other.trace(0, 3), 1, "a.js", 0, 4) && other.generated(0, 0, 4)->first == 1);
+}
+
 void writes() {
     auto map = SourceMap::from_json(SMALL);
     CHECK(map.mappings().view() == "AAAA,GAAIA" && encode_mappings(map.tokens()).str() == "AAAA,GAAIA");
@@ -308,6 +318,7 @@ static_assert(std::is_nothrow_move_constructible_v<CompiledFile> && std::is_noth
 int main(int, char **words) {
     reads_and_asks();
     holds();
+    shares();
     writes();
     makes_of_others();
     compiles(words[1]);

@@ -1,6 +1,7 @@
 /* Threads: eight read one map, one string, one list of mends, one compiled map and the scopes of one at once, by every call that
- * takes a `const` handle, and each gets the answers that one thread gets; and maps are made, changed and freed by threads that hand
- * them on. It is run under helgrind, and built with a thread sanitizer. The last line says how many threads answered otherwise.
+ * takes a `const` handle, and each gets the answers that one thread gets; maps are made, changed and freed by threads that hand
+ * them on; and handles of shared maps are made and freed by all at once. It is run under helgrind, and built with a thread
+ * sanitizer. The last line says how many threads answered otherwise.
  *
  *   test_threads [ROUNDS | race]
  *
@@ -260,6 +261,34 @@ static void *moves(void *number) {
     return NULL;
 }
 
+/* A shared map that all threads read by one handle, and handles of another, of which each thread has one. */
+static smap_map *common, *own_handles[THREADS];
+static uint64_t answer;
+static int strays;
+
+/* Makes handles while the others do, looks up by each and frees it. Whoever ends last frees the map of its own handles. */
+static void *retains(void *at) {
+    smap_map *own = *(smap_map **)at, *next;
+    smap_original found;
+    int wrong = 0;
+    for (int round = 0; round < rounds; round++) {
+        for (int is_common = 0; is_common < 2; is_common++) {
+            uint64_t sum = 0;
+            must(smap_retain_map(is_common ? common : own, &next, NULL));
+            must(smap_trace(next, 0, 4, SMAP_BEFORE, &found, NULL));
+            add_original(&sum, &found);
+            wrong += sum != answer || smap_set_file(next, TEXT("f"), NULL) != SMAP_SHARED;
+            smap_free_map(is_common ? next : own);
+            if (!is_common) own = next;
+        }
+    }
+    smap_free_map(own);
+    pthread_mutex_lock(&lock);
+    strays += wrong;
+    pthread_mutex_unlock(&lock);
+    return NULL;
+}
+
 static void *changes(void *it) {
     for (int round = 0; round < rounds; round++) must(smap_set_file(it, TEXT("a file with a name"), NULL));
     return NULL;
@@ -271,6 +300,21 @@ static void run(void *(*body)(void *), void *entries, size_t size) {
     for (size_t i = 0; i < THREADS; i++)
         if (pthread_create(&threads[i], NULL, body, (char *)entries + i * size)) exit(3);
     for (size_t i = 0; i < THREADS; i++) pthread_join(threads[i], NULL);
+}
+
+/* Runs threads over the handles of two shared maps, and returns how many lookups answered otherwise, or changes were not refused. */
+static int run_retains(void) {
+    smap_original found;
+    must(smap_from_json_string(TEXT(JSON), &common, NULL));
+    must(smap_trace(common, 0, 4, SMAP_BEFORE, &found, NULL));
+    add_original(&answer, &found);
+    must(smap_share_map(common, NULL));
+    must(smap_from_json_string(TEXT(JSON), &own_handles[0], NULL));
+    must(smap_share_map(own_handles[0], NULL));
+    for (int i = 1; i < THREADS; i++) must(smap_retain_map(own_handles[0], &own_handles[i], NULL));
+    run(retains, own_handles, sizeof *own_handles);
+    smap_free_map(common);
+    return strays;
 }
 
 int main(int argc, char **argv) {
@@ -302,6 +346,7 @@ int main(int argc, char **argv) {
     for (int i = 0; i < THREADS; i++) wrong += sums[i] != wanted, numbers[i] = i;
     run(moves, numbers, sizeof *numbers);
     for (int i = 0; i < THREADS; i++) freed += waiting[i] != NULL, smap_free_map(waiting[i]);
+    wrong += run_retains();
     smap_free_map(made);
     smap_free_map(other);
     smap_free_map(found);

@@ -43,6 +43,8 @@ static const struct {
     { SMAP_NO_INDEX, 104, "SMAP_NO_INDEX", "The map has no index of its sources" },
     { SMAP_BAD_OPTION, 105, "SMAP_BAD_OPTION", "There is no such option" },
     { SMAP_NO_FILE, 106, "SMAP_NO_FILE", NULL },
+    { SMAP_SHARED, 107, "SMAP_SHARED", "The map is shared" },
+    { SMAP_NOT_SHARED, 108, "SMAP_NOT_SHARED", "The map is not shared" },
 };
 
 /* Whether a call that writes words writes these, and as much as fits of them. */

@@ -10,6 +10,7 @@ int main(void) {
     test_errors();
     test_reading();
     test_holding();
+    test_sharing();
     test_lookups();
     test_compiled();
     test_scopes();

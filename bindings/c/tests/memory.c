@@ -3,7 +3,7 @@
 
 /* What run_all makes. */
 typedef struct made_all {
-    smap_map *maps[13];
+    smap_map *maps[14];
     smap_string *strings[12];
     smap_compiled *compiled;
     smap_scopes *scopes[2];
@@ -135,6 +135,8 @@ static uint32_t change_all(made_all *m, smap_fault *f) {
     MAKES(smap_sort(map, f));
     MAKES(smap_index_sources(map, f));
     MAKES(smap_simplify(map, f));
+    MAKES(smap_share_map(map, f));
+    MAKES(smap_retain_map(map, &m->maps[13], f));
     return build_all(m, f);
 }
 

@@ -68,6 +68,7 @@ extern const smap_token REVERSED[6];
 void test_errors(void);
 void test_reading(void);
 void test_holding(void);
+void test_sharing(void);
 void test_lookups(void);
 void test_compiled(void);
 void test_scopes(void);

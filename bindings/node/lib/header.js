@@ -42,6 +42,8 @@ const Code = Object.freeze({
   NO_INDEX: 104,
   BAD_OPTION: 105,
   NO_FILE: 106,
+  SHARED: 107,
+  NOT_SHARED: 108,
 });
 
 const Field = Object.freeze({

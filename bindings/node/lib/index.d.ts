@@ -300,6 +300,7 @@ export type Code =
   | "SMAP_NO_INDEX"
   | "SMAP_BAD_OPTION"
   | "SMAP_NO_FILE"
+  | "SMAP_NOT_SHARED"
   | "SMAP_UNKNOWN"
   /** The map is shared with other threads, and cannot be changed. */
   | "SMAP_SHARED"

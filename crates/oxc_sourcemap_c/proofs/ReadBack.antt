@@ -116,3 +116,5 @@ read_back (Compiled Sizes) s = refl
 read_back (BadScopes f) s = scopes_back f.kind f.byte
 read_back ScopesNotText s = refl
 read_back ScopesIndexed s = refl
+read_back Shared s = refl
+read_back NotShared s = refl

@@ -26,6 +26,8 @@ use Rattle.oxc_sourcemap_c.specs.declared.numbers.call_error.CallError.TheVarian
 use Rattle.oxc_sourcemap_c.specs.declared.numbers.call_error.CallError.TheVariants.{BadScopes}
 use Rattle.oxc_sourcemap_c.specs.declared.numbers.call_error.CallError.TheVariants.{ScopesNotText}
 use Rattle.oxc_sourcemap_c.specs.declared.numbers.call_error.CallError.TheVariants.{ScopesIndexed}
+use Rattle.oxc_sourcemap_c.specs.declared.numbers.call_error.CallError.TheVariants.{Shared}
+use Rattle.oxc_sourcemap_c.specs.declared.numbers.call_error.CallError.TheVariants.{NotShared}
 use Rattle.oxc_sourcemap_scopes.specs.Messages.{error_text}
 use Rattle.oxc_sourcemap_scopes.specs.declared.errors.ScopesError.{ScopesError}
 use Rattle.oxc_sourcemap_scopes.specs.declared.errors.ScopesError.TheVariants as scopes
@@ -51,6 +53,8 @@ call_error_text (Compiled error) = compiled_error_text error
 call_error_text (BadScopes fault) = error_text (scopes.Fault fault)
 call_error_text ScopesNotText = error_text scopes.NotText
 call_error_text ScopesIndexed = error_text scopes.Indexed
+call_error_text Shared = codes "The map is shared"
+call_error_text NotShared = codes "The map is not shared"
 
 -- an error of a call on a map
 abbrev pub of_map : Error → CallError

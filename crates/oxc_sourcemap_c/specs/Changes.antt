@@ -1,5 +1,5 @@
 -- Calls that change the map that a handle holds, and their errors.
-use Rattle.std.specs.Prelude.{◌≡◌, Option, Some, Ok, MatchOption, IsUtf8, true, false}
+use Rattle.std.specs.Prelude.{◌≡◌, Option, Some, Ok, MatchOption, IsNone, IsUtf8, true, false}
 use Rattle.oxc_sourcemap_tokens.specs.Results.{lent_items}
 use Rattle.oxc_sourcemap_parts.specs.Record.{MapRecord}
 use Rattle.oxc_sourcemap_parts.specs.Roots.{rooted}
@@ -7,7 +7,6 @@ use Rattle.oxc_sourcemap_parts.specs.Sorted.{are_tokens_sorted}
 use Rattle.oxc_sourcemap_steps.specs.Sorting.{sorted_map}
 use Rattle.oxc_sourcemap_steps.specs.Simplified.{simplification}
 use Rattle.oxc_sourcemap_c.specs.declared.numbers.call_error.CallError.{CallError}
-use Rattle.oxc_sourcemap_c.specs.declared.numbers.call_error.CallError.TheVariants.{NullHandle}
 use Rattle.oxc_sourcemap_c.specs.declared.making.changing.Change.{Change}
 use Rattle.oxc_sourcemap_c.specs.declared.making.changing.Change.TheVariants.{File, SourceRoot}
 use Rattle.oxc_sourcemap_c.specs.declared.making.changing.Change.TheVariants.{DebugId, IgnoreList}
@@ -17,18 +16,22 @@ use Rattle.oxc_sourcemap_c.specs.declared.making.changing.Change.TheVariants.{Ap
 use Rattle.oxc_sourcemap_c.specs.declared.making.changing.Change.TheVariants.{Simplify}
 use Rattle.oxc_sourcemap_c.specs.declared.holding.held.Held.{Held}
 use Rattle.oxc_sourcemap_c.specs.CallErrors.{IsNotText, IsSimplifyError, IsUnsorted}
-use Rattle.oxc_sourcemap_c.specs.Holding.{held_map, held_loaded}
+use Rattle.oxc_sourcemap_c.specs.Holding.{own_map, own_loaded, why_not}
 use Rattle.oxc_sourcemap_c.specs.Indices.{Loaded}
 use Rattle.oxc_sourcemap_c.specs.Lists.{AreTexts, IsNotTexts, known_texts, AreContents}
 use Rattle.oxc_sourcemap_c.specs.Lists.{IsNotContents}
 
--- a handle holds a map before a call and one after it, and this holds of the two
+-- a handle holds a map before a call and one after it, both not shared, and this holds of the two
 abbrev pub Changes : Option Held → Option Held → (Loaded → Loaded → Type 0) → Type 0
-Changes old new P = MatchOption (held_loaded old) ⊥ (λ l. MatchOption (held_loaded new) ⊥ (λ n. P l n))
+Changes old new P = MatchOption (own_loaded old) ⊥ (λ l. MatchOption (own_loaded new) ⊥ (λ n. P l n))
 
--- an error of a call on the map in a handle: the handle holds none, or this is an error of the call
+-- an error of a call that changes the map in a handle: the handle holds none or a shared one, or this is an error of the call
 abbrev pub IsMapError : Option Held → (MapRecord → CallError → Type 0) → CallError → Type 0
-IsMapError held IsOther r = MatchOption (held_map held) (r ≡ NullHandle) (λ m. IsOther m r)
+IsMapError held IsOther r = MatchOption (own_map held) (r ≡ why_not held) (λ m. IsOther m r)
+
+-- the error of a call that changes the map in a handle that holds none or a shared one
+abbrev pub IsUnchangeable : Option Held → CallError → Type 0
+IsUnchangeable held r = IsNone (own_map held) × (r ≡ why_not held)
 
 -- a map and the map after a change; its indices stay, but for a change of tokens
 abbrev pub IsChange : Change → Loaded → Loaded → Type 0

@@ -37,6 +37,8 @@ use Rattle.oxc_sourcemap_c.specs.declared.numbers.call_error.CallError.TheVarian
 use Rattle.oxc_sourcemap_c.specs.declared.numbers.call_error.CallError.TheVariants.{BadScopes}
 use Rattle.oxc_sourcemap_c.specs.declared.numbers.call_error.CallError.TheVariants.{ScopesNotText}
 use Rattle.oxc_sourcemap_c.specs.declared.numbers.call_error.CallError.TheVariants.{ScopesIndexed}
+use Rattle.oxc_sourcemap_c.specs.declared.numbers.call_error.CallError.TheVariants.{Shared}
+use Rattle.oxc_sourcemap_c.specs.declared.numbers.call_error.CallError.TheVariants.{NotShared}
 use Rattle.oxc_sourcemap_c.specs.ScopesKinds.{number_of_fault_kind, fault_kind_of}
 use Rattle.oxc_sourcemap_scopes.specs.declared.errors.ScopesFault.{ScopesFault}
 use Rattle.oxc_sourcemap_compiled.specs.declared.errors.CompiledError.{CompiledError}
@@ -106,6 +108,8 @@ fault_of (Compiled error) = fault_of_compiled error
 fault_of (BadScopes f) = fault_of_scopes f
 fault_of ScopesNotText = fault 28 0
 fault_of ScopesIndexed = fault 29 0
+fault_of Shared = fault 107 0
+fault_of NotShared = fault 108 0
 
 -- the numbers of an error, and of the place of its fault
 abbrev pub fault_at : CallError → Option FaultPlace → Fault
@@ -162,6 +166,8 @@ call_error_of f =
     else if f.code == 27 then option_map (λ kind. BadScopes (record { kind = kind; byte = f.detail })) (fault_kind_of f.field)
     else if f.code == 28 then Some ScopesNotText
     else if f.code == 29 then Some ScopesIndexed
+    else if f.code == 107 then Some Shared
+    else if f.code == 108 then Some NotShared
     else option_map (λ error. Plan (Map error)) (error_of f)
 
 -- the number that an error carries, if it is one of 32 bits
@@ -204,6 +210,8 @@ short_number_of (Compiled Sizes) = 0
 short_number_of (BadScopes f) = 0
 short_number_of ScopesNotText = 0
 short_number_of ScopesIndexed = 0
+short_number_of Shared = 0
+short_number_of NotShared = 0
 
 -- an error as the library makes it: a number of 32 bits is below 2^32
 abbrev pub IsSmall : CallError → Type 0

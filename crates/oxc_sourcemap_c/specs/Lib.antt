@@ -22,6 +22,7 @@ pub mod Mends
 pub mod Writing
 pub mod Joining
 pub mod Changes
+pub mod Sharing
 pub mod Builders
 pub mod Failures
 pub mod Making

@@ -3,6 +3,7 @@ use Rattle.std.specs.Prelude.{◌≡◌, ℕ, Bool, true, false, List, [], lengt
 use Rattle.std.specs.Prelude.{Option, Some, None, Result, Ok, Err, MatchOption, MatchResult}
 use Rattle.oxc_sourcemap_tokens.specs.declared.errors.error.Error.{Error}
 use Rattle.oxc_sourcemap_tokens.specs.Token.{TokenRecord}
+use Rattle.oxc_sourcemap_parts.specs.Record.{MapRecord}
 use Rattle.oxc_sourcemap_map.specs.Places.{no_token}
 use Rattle.oxc_sourcemap_map.specs.Reverse.{indices_at, indices_for, indices_from, indices_on}
 use Rattle.oxc_sourcemap_map.specs.Reverse.{index_fault}
@@ -67,7 +68,6 @@ AreAllGenerated held number at answer old new =
     (λ indices. (answer ≡ Ok (length indices)) × (new ≡ filled indices old))
     (λ r. (answer ≡ Err r) × (new ≡ old))
 
--- an error of making the index by original positions: no map, or too many tokens
-abbrev pub IsIndexError : Option Loaded → CallError → Type 0
-IsIndexError None r = r ≡ NullHandle
-IsIndexError (Some l) r = (e : Error) × (index_fault l.map.tokens ≡ Some e) × (r ≡ of_map e)
+-- an error of making the index by original positions of a map: too many tokens
+abbrev pub IsIndexError : MapRecord → CallError → Type 0
+IsIndexError m r = (e : Error) × (index_fault m.tokens ≡ Some e) × (r ≡ of_map e)

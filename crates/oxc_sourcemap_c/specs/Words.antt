@@ -6,7 +6,8 @@ pub use Rattle.oxc_sourcemap_c.specs.CallErrors.{call_error_text, out_of_memory,
 pub use Rattle.oxc_sourcemap_c.specs.CallErrors.{of_map, IsSimplifyError, IsUnsorted}
 pub use Rattle.oxc_sourcemap_c.specs.Codes.{call_error_of, code_of, fault_of, no_fault}
 pub use Rattle.oxc_sourcemap_c.specs.Codes.{IsErrorAs, fault_at, IsSmall}
-pub use Rattle.oxc_sourcemap_c.specs.Holding.{HoldsMap, HoldsOrder, held_loaded, held_map}
+pub use Rattle.oxc_sourcemap_c.specs.Holding.{HoldsMap, HoldsOwn, held_loaded, held_map}
+pub use Rattle.oxc_sourcemap_c.specs.Holding.{own_loaded, own_map, shared_loaded}
 pub use Rattle.oxc_sourcemap_c.specs.Holding.{held_mends, held_text, held_builder, held_join}
 pub use Rattle.oxc_sourcemap_c.specs.Listed.{AreFilled, IsListed, IsListedBy, IsOptionListed}
 pub use Rattle.oxc_sourcemap_c.specs.Listed.{cow_options, filled}
@@ -78,7 +79,9 @@ pub use Rattle.oxc_sourcemap_c.specs.Builders.{Builds, IsBuilderError, IsFinishe
 pub use Rattle.oxc_sourcemap_c.specs.Builders.{IsPathError, IsSourceError, IsStep, IsStepError}
 pub use Rattle.oxc_sourcemap_c.specs.Builders.{with_file, with_tokens}
 pub use Rattle.oxc_sourcemap_c.specs.Changes.{Changes, IsChange, IsChangeError, IsMapError}
-pub use Rattle.oxc_sourcemap_c.specs.Changes.{IsSureError, NeedsNoMemory}
+pub use Rattle.oxc_sourcemap_c.specs.Changes.{IsSureError, IsUnchangeable, NeedsNoMemory}
+pub use Rattle.oxc_sourcemap_c.specs.Sharing.{IsRetainError, IsShared, IsSharedOf}
+pub use Rattle.oxc_sourcemap_c.specs.declared.holding.held.Held.TheVariants.{Map as HeldMap}
 pub use Rattle.oxc_sourcemap_c.specs.Joining.{IsAddError, IsJoinFinished, IsJoined, IsNullJoin}
 pub use Rattle.oxc_sourcemap_c.specs.Joining.{IsOneNull, IsPartsError}
 pub use Rattle.oxc_sourcemap_c.specs.Making.{HasTexts, IsListsError, IsMapMissing, IsNotTextOf}

@@ -7,4 +7,5 @@ mod joins;
 mod maps_of_maps;
 mod plans;
 mod reading_texts;
+mod sharing;
 mod whole_lists;

@@ -103,6 +103,8 @@ PROTOTYPES: dict[str, tuple[Any, ...]] = {
     "smap_mend_message": (_size, POINTER(Mend), _array, _size),
     "smap_from_tokens": (_u32, _array, _size, _array, _size, _array, _size, _array, _size, _array, _size, _made, _fault),
     "smap_clone": (_u32, _handle, _made, _fault),
+    "smap_share_map": (_u32, _handle, _fault),
+    "smap_retain_map": (_u32, _handle, _made, _fault),
     "smap_free_map": (None, _handle),
     "smap_free_mends": (None, _handle),
     "smap_get_counts": (_u32, _handle, POINTER(Counts)),

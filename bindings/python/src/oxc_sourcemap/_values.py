@@ -22,8 +22,8 @@ Text = Union[str, "Buffer"]
 class Code(IntEnum):
     """What is wrong, as `SourceMapError.code`. The names are those of oxc_sourcemap.h, without `SMAP_`.
 
-    OUT_OF_MEMORY is raised as MemoryError, and NULL_HANDLE as ValueError; no call raises NO_ENTRY, which is None, and NO_FILE, which is
-    OSError.
+    OUT_OF_MEMORY is raised as MemoryError, and NULL_HANDLE as ValueError; no call raises NO_ENTRY, which is None, NO_FILE, which is
+    OSError, SHARED and NOT_SHARED.
 
     >>> Code.LINE_ORDER.value
     12
@@ -66,6 +66,8 @@ class Code(IntEnum):
     NO_INDEX = 104
     BAD_OPTION = 105
     NO_FILE = 106
+    SHARED = 107
+    NOT_SHARED = 108
 
 
 class Field(IntEnum):

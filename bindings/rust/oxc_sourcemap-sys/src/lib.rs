@@ -74,6 +74,8 @@ pub const SMAP_NO_ENTRY: u32 = 103;
 pub const SMAP_NO_INDEX: u32 = 104;
 pub const SMAP_BAD_OPTION: u32 = 105;
 pub const SMAP_NO_FILE: u32 = 106;
+pub const SMAP_SHARED: u32 = 107;
+pub const SMAP_NOT_SHARED: u32 = 108;
 
 // Fields of JSON maps.
 pub const SMAP_FIELD_OBJECT: u32 = 0;
@@ -417,6 +419,8 @@ unsafe extern "C" {
         fault: *mut smap_fault,
     ) -> u32;
     pub fn smap_clone(map: *const smap_map, out: *mut *mut smap_map, fault: *mut smap_fault) -> u32;
+    pub fn smap_share_map(map: *mut smap_map, fault: *mut smap_fault) -> u32;
+    pub fn smap_retain_map(map: *const smap_map, out: *mut *mut smap_map, fault: *mut smap_fault) -> u32;
     pub fn smap_free_map(map: *mut smap_map);
     pub fn smap_free_mends(mends: *mut smap_mends);
     pub fn smap_get_counts(map: *const smap_map, out: *mut smap_counts) -> u32;

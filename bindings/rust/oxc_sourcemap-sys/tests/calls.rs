@@ -156,6 +156,7 @@ fn changes_tell_null_handles_first() {
             smap_apply_source_root(null_mut(), &mut out.fault),
             smap_sort(null_mut(), &mut out.fault),
             smap_simplify(null_mut(), &mut out.fault),
+            smap_share_map(null_mut(), &mut out.fault),
         ]
     };
     are_of_null_handles(&codes, &out);
@@ -170,6 +171,7 @@ fn makers_of_maps_tell_null_handles_first() {
     let codes = unsafe {
         [
             smap_clone(null(), &mut out.map, &mut out.fault),
+            smap_retain_map(null(), &mut out.map, &mut out.fault),
             smap_compose(null(), live, &mut out.map, &mut out.fault),
             smap_compose(live, null(), &mut out.map, &mut out.fault),
             smap_remap(null(), null(), 0, null(), 0, &mut out.map, &mut out.fault),
@@ -575,6 +577,6 @@ fn each_code_has_its_name() {
         SMAP_BAD_CHUNKS SMAP_SEVERAL_SOURCES SMAP_UNSORTED SMAP_TOO_DEEP SMAP_WORDS SMAP_NO_TEXT SMAP_SECTION_ORDER
         SMAP_INPUT_LINE_ORDER SMAP_BAD_BASE64 SMAP_BAD_DATA_UTF8 SMAP_NOT_COMPILED SMAP_COMPILED_VERSION
         SMAP_COMPILED_LENGTH SMAP_COMPILED_SIZES SMAP_BAD_SCOPES SMAP_SCOPES_NOT_TEXT SMAP_SCOPES_INDEXED SMAP_NULL_HANDLE SMAP_NOT_UTF8 SMAP_LENGTHS
-        SMAP_NO_ENTRY SMAP_NO_INDEX SMAP_BAD_OPTION SMAP_NO_FILE
+        SMAP_NO_ENTRY SMAP_NO_INDEX SMAP_BAD_OPTION SMAP_NO_FILE SMAP_SHARED SMAP_NOT_SHARED
     }
 }

@@ -543,7 +543,7 @@ mod tests {
             assert!(!matches!(error, Error::Unknown(_)), "{code}");
             assert_eq!(error.told(), fault, "{code}");
         }
-        for code in [30, 100, 103, 105, 4_000_000_000] {
+        for code in [30, 100, 103, 105, 107, 108, 4_000_000_000] {
             assert_eq!(Error::of(&smap_fault { code, ..smap_fault::default() }), Error::Unknown(code));
             assert_eq!(Error::Unknown(code).told().code, code);
         }

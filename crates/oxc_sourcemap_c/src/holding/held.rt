@@ -18,6 +18,7 @@ use oxc_sourcemap_scopes::Scopes;
 use oxc_sourcemap_tokens::{Error, Position, Result, Token};
 use std::alloc::Global;
 use std::marker::Model;
+use std::sync::Arc;
 
 /// A map, the index of its lines, or the error of making that, and the order of its tokens by original positions, if it was asked
 /// for. It borrows nothing.
@@ -360,4 +361,6 @@ pub enum Held {
     Compiled(CompiledMap<'static>),
     /// The scopes of a map.
     Scopes(Scopes),
+    /// A map that several handles may hold, and that no call changes.
+    Shared(Arc<LoadedMap, Global>),
 }

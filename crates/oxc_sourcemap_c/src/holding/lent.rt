@@ -11,6 +11,7 @@ use oxc_sourcemap_found::Mend;
 use oxc_sourcemap_map::OwnedSourceMap;
 use oxc_sourcemap_scopes::Scopes;
 use std::marker::Model;
+use std::ops::Deref;
 
 /// What a call borrows from C: null, or a shared borrow of what a handle holds, for the lifetime `life`.
 #[repr(C)]
@@ -65,6 +66,7 @@ impl Lent {
     {
         match self.into_held() {
             Some(Held::Map(loaded)) => Ok(loaded),
+            Some(Held::Shared(shared)) => Ok(shared.deref()),
             _ => Err(CallError::NullHandle),
         }
     }
@@ -113,6 +115,7 @@ impl Lent {
     {
         match self.get() {
             Some(Held::Map(loaded)) => Ok(loaded),
+            Some(Held::Shared(shared)) => Ok(shared.deref()),
             _ => Err(CallError::NullHandle),
         }
     }

@@ -1,7 +1,7 @@
 //! Putting results into handles.
 ghost use Rattle.std.specs.Prelude.{◌≡◌, ◌≢◌, Some, Err, string_bytes, IfOk, IfErr, MatchResult};
 ghost use Rattle.oxc_sourcemap_c.specs.Words.{out_of_memory, fault_of, code_of, no_fault};
-ghost use Rattle.oxc_sourcemap_c.specs.Words.{held_map, held_text, held_scopes, IsErrorAs};
+ghost use Rattle.oxc_sourcemap_c.specs.Words.{held_map, own_map, held_text, held_scopes, IsErrorAs};
 
 use crate::holding::handle::Handle;
 use crate::holding::held::{Held, LoadedMap, index_of};
@@ -22,6 +22,7 @@ pub fn empty_box(alloc: Global) -> Result<Box<Held>, CallError>
 // The box and the index are made first, so that the map is copied into the box at once.
 pub fn box_map(alloc: Global, map: OwnedSourceMap) -> Result<Box<Held>, CallError>
     ensures map { IfOk result (λ held. held_map (Some held.value) ≡ Some map) }
+    ensures own { IfOk result (λ held. own_map (Some held.value) ≡ Some map) }
     ensures error { IfErr result (λ r. r ≡ out_of_memory) }
 {
     let mut held = empty_box(alloc)?;
@@ -41,6 +42,7 @@ pub fn put_map(
         (λ map. (held_map handle.new.held ≡ Some map) × (fault.new ≡ no_fault)) (λ _. ⊥) }
     ensures error { result ≢ 0 → (handle.new.held ≡ handle.old.held)
         × IsErrorAs result fault.new (λ r. made ≡ Err r) }
+    ensures own { result ≡ 0 → own_map handle.new.held ≡ held_map handle.new.held }
     ensures told { IfErr made (λ r. result ≡ code_of r) }
 {
     let held = match made {

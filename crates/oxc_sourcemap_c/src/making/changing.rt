@@ -6,7 +6,7 @@ ghost use Rattle.oxc_sourcemap_c.specs.Words.{IsChangeError, IsSureError, CallEr
 ghost use Rattle.oxc_sourcemap_c.specs.Words.{no_fault, IsErrorAs, IsNotText, IsNotTexts, AreTexts};
 ghost use Rattle.oxc_sourcemap_c.specs.Words.{rooted, AreContents, known_texts, IsNotContents};
 ghost use Rattle.oxc_sourcemap_c.specs.Words.{lent_items, IsSimplifyError, IsUnsorted, sorted_map};
-ghost use Rattle.oxc_sourcemap_c.specs.Words.{simplification, NeedsNoMemory, HoldsMap};
+ghost use Rattle.oxc_sourcemap_c.specs.Words.{simplification, NeedsNoMemory, HoldsOwn};
 ghost use Rattle.oxc_sourcemap_c.specs.Words.{are_tokens_sorted};
 
 use crate::answers::write_fault;
@@ -60,16 +60,18 @@ fn change_held(held: &mut Held, alloc: Global, change: Change<'_>) -> Result<(),
         → IsMapError (Some held.old) (IsChangeError change.entry) r) }
     ensures sure { (r : CallError) → IsMapError (Some held.old) (IsSureError change.entry) r
         → result ≡ Err r }
-    ensures no_memory { HoldsMap (Some held.old) (NeedsNoMemory change.entry) → IsOk result }
+    ensures no_memory { HoldsOwn (Some held.old) (NeedsNoMemory change.entry) → IsOk result }
     ensures unchanged { OnErr result (held.new ≡ held.old) }
 {
     match held {
         Held::Map(loaded) => change_loaded(loaded, alloc, change),
+        Held::Shared(_) => Err(CallError::Shared),
         _ => Err(CallError::NullHandle),
     }
 }
 
-/// Changes the map in a handle. Fails with `NullHandle` if there is none; on an error the map is as it was.
+/// Changes the map in a handle. Fails with `NullHandle` if there is none, with `Shared` if it is shared; on an error the map is as
+/// it was.
 fn change_map(alloc: Global, handle: &mut Handle, change: Change<'_>) -> Result<(), CallError>
     ensures changed { OnOk result (Changes handle.old.held handle.new.held
         (IsChange change.entry)) }
@@ -77,7 +79,7 @@ fn change_map(alloc: Global, handle: &mut Handle, change: Change<'_>) -> Result<
         → IsMapError handle.old.held (IsChangeError change.entry) r) }
     ensures sure { (r : CallError) → IsMapError handle.old.held (IsSureError change.entry) r
         → result ≡ Err r }
-    ensures no_memory { HoldsMap handle.old.held (NeedsNoMemory change.entry) → IsOk result }
+    ensures no_memory { HoldsOwn handle.old.held (NeedsNoMemory change.entry) → IsOk result }
     ensures unchanged { OnErr result (handle.new.held ≡ handle.old.held) }
 {
     match handle.take(alloc) {
@@ -238,7 +240,7 @@ pub extern "C" fn proved_apply_source_root(
 pub extern "C" fn proved_sort(alloc: Global, map: &mut Handle, fault: &mut Fault) -> u32
     ensures sorted { result ≡ 0 → Changes map.old.held map.new.held
         (λ l n. (n.map ≡ sorted_map l.map) × (n.has_order ≡ false)) }
-    ensures no_memory { HoldsMap map.old.held (λ m. are_tokens_sorted m.tokens ≡ true)
+    ensures no_memory { HoldsOwn map.old.held (λ m. are_tokens_sorted m.tokens ≡ true)
         → result ≡ 0 }
     ensures no_error { result ≡ 0 → fault.new ≡ no_fault }
     ensures error { result ≢ 0 → (map.new.held ≡ map.old.held)

@@ -8,7 +8,7 @@ ghost use Rattle.oxc_sourcemap_c.specs.Words.{IsRemapped, IsRemapError, IsRemapp
 ghost use Rattle.oxc_sourcemap_c.specs.Words.{IsRemapping, AreTexts, IsJoinOfLent, IsJoinErrorOf};
 ghost use Rattle.oxc_sourcemap_c.specs.Words.{added, lent_inputs, nothing_joined};
 ghost use Rattle.oxc_sourcemap_c.specs.Words.{IsMapMissing, IsAddErrorOf, IsComposingError};
-ghost use Rattle.oxc_sourcemap_c.specs.Words.{no_fault, HoldsMap, IsErrorAs};
+ghost use Rattle.oxc_sourcemap_c.specs.Words.{no_fault, HoldsMap, IsErrorAs, own_map};
 ghost use Rattle.oxc_sourcemap_c.specs.Words.{CallError, Error, IsSureComposeError, code_of};
 ghost use Rattle.oxc_sourcemap_c.specs.Words.{IsSureJoinError, IsSureRemapError};
 ghost use Rattle.oxc_sourcemap_c.specs.Words.{composition_fault, of_map};
@@ -49,6 +49,7 @@ pub extern "C" fn proved_clone(
     fault: &mut Fault,
 ) -> u32
     ensures map { result ≡ 0 → HoldsMap map.now.held (λ m. held_map out.new.held ≡ Some m) }
+    ensures own { result ≡ 0 → own_map out.new.held ≡ held_map out.new.held }
     ensures no_error { result ≡ 0 → fault.new ≡ no_fault }
     ensures error { result ≢ 0 → (out.new.held ≡ out.old.held)
         × IsErrorAs result fault.new (IsMapMissing map.now.held) }

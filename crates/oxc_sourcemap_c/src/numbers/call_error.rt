@@ -43,6 +43,10 @@ pub enum CallError {
     ScopesNotText,
     /// The scopes of an indexed map are not read.
     ScopesIndexed,
+    /// The map is shared, so it cannot be changed.
+    Shared,
+    /// The map is not shared, so it has one handle.
+    NotShared,
 }
 
 impl CallError {
@@ -78,6 +82,8 @@ impl fmt::Display for CallError {
             CallError::BadScopes(fault) => write!(f, "{}", ScopesError::Fault(*fault)),
             CallError::ScopesNotText => write!(f, "{}", ScopesError::NotText),
             CallError::ScopesIndexed => write!(f, "{}", ScopesError::Indexed),
+            CallError::Shared => write!(f, "The map is shared"),
+            CallError::NotShared => write!(f, "The map is not shared"),
         }
     }
 }

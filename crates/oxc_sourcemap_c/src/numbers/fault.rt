@@ -123,6 +123,8 @@ impl Fault {
             },
             CallError::ScopesNotText => Fault::with(28, 0),
             CallError::ScopesIndexed => Fault::with(29, 0),
+            CallError::Shared => Fault::with(107, 0),
+            CallError::NotShared => Fault::with(108, 0),
         }
     }
 
@@ -192,6 +194,8 @@ impl Fault {
             })),
             28 => Some(CallError::ScopesNotText),
             29 => Some(CallError::ScopesIndexed),
+            107 => Some(CallError::Shared),
+            108 => Some(CallError::NotShared),
             _ => Some(CallError::Plan(PlanError::Map(self.error(number, index)?))),
         }
     }

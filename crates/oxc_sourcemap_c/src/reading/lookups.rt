@@ -15,6 +15,7 @@ use crate::reading::reverse::generated;
 use crate::texts::{Original, PieceNumbers};
 use oxc_sourcemap_queries::Pieces;
 use oxc_sourcemap_tokens::Position;
+use std::ops::Deref;
 
 /// Writes what the map in a handle says of a generated position, where this is quick: there is a map, its index of lines has the
 /// usual form, and the number is that of the bias `Before`. Else it writes nothing, and returns false.
@@ -25,6 +26,7 @@ fn trace_usual<'c>(held: Option<&'c Held>, at: Position, bias: u32, out: &mut Or
 {
     match held {
         Some(Held::Map(loaded)) if bias == 0 => loaded.trace_usual(at, out),
+        Some(Held::Shared(shared)) if bias == 0 => shared.deref().trace_usual(at, out),
         _ => false,
     }
 }
@@ -99,6 +101,7 @@ fn loaded_of(held: Option<&Held>) -> Result<&LoadedMap, CallError>
 {
     match held {
         Some(Held::Map(loaded)) => Ok(loaded),
+        Some(Held::Shared(shared)) => Ok(shared.deref()),
         _ => Err(CallError::NullHandle),
     }
 }

@@ -3,12 +3,12 @@ ghost use Rattle.std.specs.Prelude.{◌≡◌, ◌≢◌, ◌<◌, ◌≤◌, �
 ghost use Rattle.std.specs.Prelude.{get_or, slice_get, OnOk, OnErr, IfErr, IfSome, IsNone};
 ghost use Rattle.std.specs.Prelude.{MatchResult, Ok, Err};
 ghost use Rattle.oxc_sourcemap_c.specs.Words.{TokenRecord, is_into, indices_on, answering};
-ghost use Rattle.oxc_sourcemap_c.specs.Words.{IsSourceOrderOf, filled, held_loaded, held_map};
-ghost use Rattle.oxc_sourcemap_c.specs.Words.{IsFirstGenerated, AreAllGenerated, HoldsOrder};
+ghost use Rattle.oxc_sourcemap_c.specs.Words.{IsSourceOrderOf, filled, held_loaded, Changes};
+ghost use Rattle.oxc_sourcemap_c.specs.Words.{IsFirstGenerated, AreAllGenerated, IsMapError};
 ghost use Rattle.oxc_sourcemap_c.specs.Words.{IsIndexError, out_of_memory, OnLine, code_of};
 ghost use Rattle.oxc_sourcemap_c.specs.Words.{no_fault, IsErrorAs, NullHandle, HasFirst, HasAll};
 ghost use Rattle.oxc_sourcemap_c.specs.Words.{source_place};
-ghost use Rattle.oxc_sourcemap_c.specs.Words.{CallError, IsMapMissing};
+ghost use Rattle.oxc_sourcemap_c.specs.Words.{CallError, IsUnchangeable};
 
 use crate::answers::{write_fault, write_found};
 use crate::holding::{Handle, Held, Lent};
@@ -260,27 +260,28 @@ pub extern "C" fn proved_all_generated(
 
 /// Makes the index by original positions in what a handle holds.
 fn index_held(alloc: Global, held: &mut Held) -> Result<(), CallError>
-    ensures made { OnOk result ((held_map (Some held.new) ≡ held_map (Some held.old))
-        × HoldsOrder (Some held.new)) }
+    ensures made { OnOk result (Changes (Some held.old) (Some held.new)
+        (λ l n. (n.map ≡ l.map) × (n.has_order ≡ true))) }
     ensures error { IfErr result (λ r. (r ≢ out_of_memory)
-        → IsIndexError (held_loaded (Some held.old)) r) }
+        → IsMapError (Some held.old) IsIndexError r) }
     ensures unchanged { OnErr result (held.new ≡ held.old) }
-    ensures sure { (r : CallError) → IsMapMissing (Some held.old) r → result ≡ Err r }
+    ensures sure { (r : CallError) → IsUnchangeable (Some held.old) r → result ≡ Err r }
 {
     match held {
         Held::Map(loaded) => Ok(loaded.index_sources(alloc)?),
+        Held::Shared(_) => Err(CallError::Shared),
         _ => Err(CallError::NullHandle),
     }
 }
 
-/// Makes the index by original positions of the map in a handle, if it has none.
+/// Makes the index by original positions of the map in a handle, if it has none. Fails with `NullHandle` or `Shared`.
 fn index_sources(alloc: Global, handle: &mut Handle) -> Result<(), CallError>
-    ensures made { OnOk result ((held_map handle.new.held ≡ held_map handle.old.held)
-        × HoldsOrder handle.new.held) }
+    ensures made { OnOk result (Changes handle.old.held handle.new.held
+        (λ l n. (n.map ≡ l.map) × (n.has_order ≡ true))) }
     ensures error { IfErr result (λ r. (r ≢ out_of_memory)
-        → IsIndexError (held_loaded handle.old.held) r) }
+        → IsMapError handle.old.held IsIndexError r) }
     ensures unchanged { OnErr result (handle.new.held ≡ handle.old.held) }
-    ensures sure { (r : CallError) → IsMapMissing handle.old.held r → result ≡ Err r }
+    ensures sure { (r : CallError) → IsUnchangeable handle.old.held r → result ≡ Err r }
 {
     match handle.take(alloc) {
         Some(held) => {
@@ -296,12 +297,12 @@ fn index_sources(alloc: Global, handle: &mut Handle) -> Result<(), CallError>
 /// Makes the index by original positions of a map, if it has none.
 #[unsafe(no_mangle)]
 pub extern "C" fn proved_index_sources(alloc: Global, map: &mut Handle, fault: &mut Fault) -> u32
-    ensures made { result ≡ 0 → (held_map map.new.held ≡ held_map map.old.held)
-        × HoldsOrder map.new.held }
+    ensures made { result ≡ 0 → Changes map.old.held map.new.held
+        (λ l n. (n.map ≡ l.map) × (n.has_order ≡ true)) }
     ensures no_error { result ≡ 0 → fault.new ≡ no_fault }
     ensures error { result ≢ 0 → (map.new.held ≡ map.old.held)
-        × IsErrorAs result fault.new (IsIndexError (held_loaded map.old.held)) }
-    ensures sure { (r : CallError) → IsMapMissing map.old.held r → result ≡ code_of r }
+        × IsErrorAs result fault.new (IsMapError map.old.held IsIndexError) }
+    ensures sure { (r : CallError) → IsUnchangeable map.old.held r → result ≡ code_of r }
 {
     write_fault(index_sources(alloc, map), fault)
 }

@@ -72,11 +72,11 @@ def refused(run, check, folder):
     Path(folder, "app.js.map").write_text(f"{text} ")
     for file in ("app.js", "app.js.map"):
         told = run(["check", file], folder)
-        wanted = "app.js.map: note: app.js.map.smc is out of date: compile it again\n"
+        wanted = "app.js.map: note: app.js.map.smc is out of date: compile it again [stale-beside]\n"
         check(told[0] == 0 and wanted in told[1], f"{file}: {told}, not {wanted}")
     Path(folder, "app.js.map").write_text(text)
     told = run(["check", "maps/d.js.map.smc"], folder)
-    check(told[0] == 0 and "note: not compared: maps/d.js.map is not there\n" in told[1], f"a check without a map: {told}")
+    check(told[0] == 0 and "note: not compared: maps/d.js.map is not there [uncompared]\n" in told[1], f"a check without a map: {told}")
 
 
 def other_sources(compiled):
@@ -150,7 +150,7 @@ def tried(run, check, code, text):
         ):
             Path(folder, "app.js.map.smc").write_bytes(damaged)
             status, out, _ = run(["check", "app.js.map.smc"], folder)
-            check(status == 1 and f"app.js.map.smc: wrong: {wanted}\n" in out, f"{wanted}: {status}, {out}")
+            check(status == 1 and f"app.js.map.smc: error: {wanted} [" in out, f"{wanted}: {status}, {out}")
         refused(run, check, folder)
         not_taken(run, check, folder, text, data)
     contents_apart(run, check, text)

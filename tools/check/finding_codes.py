@@ -2,6 +2,7 @@
 
 import re
 import subprocess
+import tempfile
 from pathlib import Path
 
 CODES = Path(__file__).resolve().parents[2] / "crates/sourcemap_reports/src/codes.rt"
@@ -19,3 +20,23 @@ def codes_of_findings(program, tally):
         elif found := re.fullmatch(r"    ([a-z-]+) +\S.*", line):
             told[found[1]] = level
     tally.check(told == made, f"codes: {sorted(told.items() ^ made.items())}")
+
+
+def roots(program, tally):
+    """Files that are named in a folder outside of the root may lie in that folder, and nowhere else above it."""
+    good = '{"version":3,"sources":["a.ts"],"sourcesContent":["f()"],"names":[],"mappings":"AAAA"}'
+    with tempfile.TemporaryDirectory() as top:
+        folder = Path(top, "build", "dist")
+        for path in (folder / "js", Path(top, "here")):
+            path.mkdir(parents=True)
+        for name, url in (("js/in.js", "../maps/in.map"), ("js/out.js", "../../out.map"), ("js/gone.js", "/js/gone.map")):
+            Path(folder, name).write_text(f"f()\n//# sourceMappingURL={url}\n")
+        for path in (folder / "maps" / "in.map", folder.parent / "out.map", folder / "js" / "gone.map"):
+            path.parent.mkdir(exist_ok=True)
+            path.write_text(good)
+        for words in (["../build/dist"], [f"{folder}/"], [str(folder), "--root", "../build"]):
+            ran = subprocess.run([program, "check", *words], capture_output=True, text=True, cwd=Path(top, "here"), check=False)
+            lines = ran.stdout.splitlines()
+            wrong = sorted(Path(it.partition(": error: ")[0]).name for it in lines if ": error: " in it)
+            hoped = ["gone.js"] if "--root" in words else ["out.js"]
+            tally.check(wrong == hoped and ran.returncode == 1, f"check of {words}: {wrong}, not {hoped}: {ran}")

@@ -42,7 +42,7 @@ impl Report {
         if self.json {
             self.push_object(Some(code), text)
         } else {
-            self.push_line(Some(level.kind()), text)
+            self.push_finding(code, text)
         }
     }
 
@@ -51,18 +51,21 @@ impl Report {
         if self.json {
             self.push_object(None, text)
         } else {
-            self.push_line(None, text)
+            let line = format!(in self.alloc; "{}: {text}", self.file)?;
+            self.push_line(line.as_str())
         }
     }
 
-    /// Appends a line: the file, what a finding is called, and the text.
-    fn push_line(&mut self, kind: Option<&str>, text: &str) -> Outcome<()> {
-        let file = &self.file;
-        let line = match kind {
-            Some(kind) => format!(in self.alloc; "{file}: {kind}: {text}")?,
-            None => format!(in self.alloc; "{file}: {text}")?,
-        };
-        push_visible(line.as_str(), &mut self.out)?;
+    /// Appends a line: the file, the level of a finding, the text, and the code in brackets.
+    fn push_finding(&mut self, code: Code, text: &str) -> Outcome<()> {
+        let (file, Code(code, level)) = (&self.file, code);
+        let level = level.name();
+        let line = format!(in self.alloc; "{file}: {level}: {text} [{code}]")?;
+        self.push_line(line.as_str())
+    }
+
+    fn push_line(&mut self, line: &str) -> Outcome<()> {
+        push_visible(line, &mut self.out)?;
         Ok(self.out.push('\n')?)
     }
 

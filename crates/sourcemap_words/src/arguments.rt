@@ -357,7 +357,7 @@ const COVERAGE: Words = Words {
         Word(
             "V8.json",
             Kind::Files,
-            "What V8 wrote, or a folder with such files",
+            "What V8 wrote, or folders: the files *.json in them and below",
         ),
         PREFIX,
         Word("lcov", Kind::Flag, "Prints it as lcov reads it"),

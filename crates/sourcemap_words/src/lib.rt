@@ -16,5 +16,5 @@ pub use completions::completions_of;
 pub use failure::{Failure, Outcome, failure_of, file_failure};
 pub use frames::{Finder, Line, NO_TEXT, Named, Patterns};
 pub use manual::manual_of;
-pub use v8::{Called, Report, Run, Script, runs_of};
+pub use v8::{Called, Report, Run, Script, ranges_of, runs_of};
 pub use views::{Nesting, Row};

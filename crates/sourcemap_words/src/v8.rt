@@ -18,9 +18,8 @@ pub struct Script {
 #[derive(Drop, Deserialize)]
 #[serde(rename_all = "camelCase")]
 struct Function {
-    /// Empty if it has no name.
-    #[serde(default)]
-    function_name: String,
+    /// Empty or missing if it has no name.
+    function_name: Option<String>,
     /// The first is that of the whole function.
     ranges: Vec<Range>,
     /// Whether the other ranges are its blocks.
@@ -37,7 +36,7 @@ struct Range {
     count: u64,
 }
 
-/// A part of the code in which no range begins or ends, and how often it ran.
+/// A range of the code, or a part of it in which no range begins or ends, and how often it ran.
 #[derive(Clone, Copy)]
 pub struct Run {
     pub start: u32,
@@ -68,10 +67,11 @@ impl Script {
         let mut called = Vec::new(alloc);
         for function in &self.functions {
             if let Some(range) = function.ranges.as_slice().first()
-                && !function.function_name.is_empty()
+                && let Some(name) = &function.function_name
+                && !name.is_empty()
             {
                 called.push(Called {
-                    name: function.function_name.as_str(),
+                    name: name.as_str(),
                     run: range.as_run(),
                 })?;
             }
@@ -79,7 +79,7 @@ impl Script {
         Ok(called)
     }
 
-    /// The blocks that V8 counts by themselves, each whole function among them, in V8's order.
+    /// The blocks that V8 counts by themselves, each whole function that ran among them, in V8's order.
     pub fn blocks(&self, alloc: Global) -> Result<Vec<Run>, AllocError> {
         let mut blocks = Vec::new(alloc);
         for function in &self.functions {
@@ -94,19 +94,17 @@ impl Script {
 }
 
 /// The order in which the ranges are met: by where they begin, the longest first, so that an outer one is before those in it.
-fn is_before(a: &Range, b: &Range) -> std::cmp::Ordering {
-    a.start_offset
-        .cmp(&b.start_offset)
-        .then(b.end_offset.cmp(&a.end_offset))
+fn is_before(a: &Run, b: &Run) -> std::cmp::Ordering {
+    a.start.cmp(&b.start).then(b.end.cmp(&a.end))
 }
 
-/// The ranges of a script, in the order in which they are met.
-fn ranges_of(alloc: Global, script: &Script) -> Result<Vec<Range>, AllocError> {
+/// The ranges of a script, by where they begin, an outer one before those in it. Empty ones are left out.
+pub fn ranges_of(alloc: Global, script: &Script) -> Result<Vec<Run>, AllocError> {
     let mut ranges = Vec::new(alloc);
     for function in &script.functions {
         for range in &function.ranges {
             if range.start_offset < range.end_offset {
-                ranges.push(*range)?;
+                ranges.push(range.as_run())?;
             }
         }
     }
@@ -117,7 +115,7 @@ fn ranges_of(alloc: Global, script: &Script) -> Result<Vec<Range>, AllocError> {
 /// The ranges around the place that is reached, the innermost last.
 #[derive(Drop)]
 struct Around {
-    open: Vec<Range>,
+    open: Vec<Run>,
     at: u32,
     runs: Vec<Run>,
 }
@@ -142,8 +140,8 @@ impl Around {
     fn leave(&mut self, offset: u32) -> Result<(), AllocError> {
         for _ in 0..self.open.len() {
             match self.open.as_slice().last() {
-                Some(range) if range.end_offset <= offset => {
-                    let end = range.end_offset;
+                Some(range) if range.end <= offset => {
+                    let end = range.end;
                     self.go_to(end)?;
                     let _ = self.open.pop();
                 }
@@ -162,8 +160,8 @@ pub fn runs_of(alloc: Global, script: &Script) -> Result<Vec<Run>, AllocError> {
         runs: Vec::new(alloc),
     };
     for range in &ranges_of(alloc, script)? {
-        around.leave(range.start_offset)?;
-        around.go_to(range.start_offset)?;
+        around.leave(range.start)?;
+        around.go_to(range.start)?;
         around.open.push(*range)?;
     }
     around.leave(u32::MAX)?;

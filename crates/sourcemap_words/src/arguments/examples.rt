@@ -22,8 +22,9 @@ Examples:
 const CHECK: &str =
     "A folder stands for the files in it and below it, in order of their paths: codes (.js, .mjs, .cjs, .css) that name a map or have one;
 maps (.map) that are not those of such codes; compiled maps (.map.smc). Folders node_modules below it are left out, and links.
+Without --root, a folder that is not in the current one is the root of its files.
 
-Each finding but the summary has a level and, in --json, a code:
+Each finding but the summary has a level and a code:
   error, where the map is wrong or a lookup may be
     bad-compiled                 a compiled map cannot be read, or is damaged
     bad-member                   a member is missing, or of the wrong type
@@ -143,7 +144,7 @@ const DIFF: &str = "Examples:
 
 const COVERAGE: &str =
     "Lines count from 1. Node writes such files into the folder NODE_V8_COVERAGE; counts of several files add up. Functions are
-those that have a name; branches are the blocks that V8 counts by themselves, each whole function among them.
+those that have a name; branches are the blocks that V8 counts by themselves, each whole function that ran among them.
 
 Examples:
   NODE_V8_COVERAGE=out node app.js && sourcemap coverage out

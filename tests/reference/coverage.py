@@ -10,10 +10,11 @@ that the exact lookup finds at it. White space and the punctuation `( ) [ ] { } 
 and leaves them out, without tokens of their own, and V8's ranges begin and end at them. A line ran if some unit of it ran, and
 did not run if it has units and none ran. A line without units is not code.
 
-A function with a name, and each block that V8 counts by itself, is of the original to which the first token in it points, on its first
-line, or else the last token before it, or the first of the line. The last token of a block is the one at or before its last column, or the first if that points to no source. A
-function has the name of the map of a token near the first one, at which its name stands in the code. Counts of what begins (and ends,
-for blocks) at the same place add up.
+A function with a name, and a block that V8 counts by itself, is of the original to which the first token in it on its first line points,
+or else the last token before it on that line. The last token of a block is the last one that is not behind its last unit, on that line,
+or the first if that points to no source. A function has the name of the map of a token near the first one, at which its name stands in the
+code. Of several reports on one code a block ran, in each, as often as the innermost range around it. Blocks of one code at the same place
+in the originals are distinct; those of several codes, and functions at the same place of one name, add up.
 
 Beside that the way of v8-to-istanbul, from ends: each line ran, unless a range says otherwise. The two ends of a range are mapped;
 a range with an end that is not mapped, or with ends in two sources, is dropped. The lines that lie wholly between the two take
@@ -112,52 +113,54 @@ def is_of_name(unit):
     return unit > 127 or unit < 128 and (chr(unit).isalnum() or chr(unit) in "$_")
 
 
-def parts_of(units, functions, source_map):
-    """The functions, {(source id, line, column, name): count}, and the branches, {(source id, line, column, last line, last column): count}."""
-    lines, at = named_tokens(source_map["mappings"]), positions(units)
-    flat = [(line, *token) for line, tokens in enumerate(lines) for token in tokens]
-    called, branches = {}, {}
+def first_in(flat, start, end):
+    """The index of the first token in a block on its first line, or else of the last before it on that line."""
+    own = [i for i, token in enumerate(flat) if token[0] == start[0]]
+    inside = [i for i in own if start <= flat[i][:2] < end]
+    before = [i for i in own if flat[i][:2] < start]
+    return inside[0] if inside else before[-1] if before else None
 
-    def clamped(line, col):
-        """The index of the first token at a column, else of the last of the greatest column before it, else of the first of the line."""
-        own = [i for i, token in enumerate(flat) if token[0] == line]
-        same = [i for i in own if flat[i][1] == col]
-        before = [i for i in own if flat[i][1] < col]
-        return same[0] if same else before[-1] if before else own[0] if own else None
 
-    def first_in(start, end):
-        line, col = start
-        after = [i for i, token in enumerate(flat) if token[0] == line and token[1] >= col]
-        least = [i for i in after if flat[i][1] == flat[after[0]][1]] if after else []
-        chosen = (least[-1] if flat[least[0]][1] == col else least[0]) if least else None
-        return chosen if chosen is not None and flat[chosen][:2] < end else clamped(line, col)
+def original_name(flat, names, units, at, first, name):
+    """The name of a function: that of the map, where it stands in the code at one of the tokens near the first."""
+    text = units_of(name)
+    for i in [*range(first, min(first + 3, len(flat))), *range(first - 1, max(first - 4, -1), -1)]:
+        line, col, _, own = flat[i]
+        place = [k for k, where in enumerate(at) if where == (line, col)]
+        behind = units[place[0] + len(text):][:1] if place else []
+        if own is not None and place and units[place[0]:][:len(text)] == text and not any(map(is_of_name, behind)):
+            return names[own] or name
+    return name
 
-    def original_name(first, name):
-        text = units_of(name)
-        for i in [*range(first, min(first + 3, len(flat))), *range(first - 1, max(first - 4, -1), -1)]:
-            line, col, _, own = flat[i]
-            place = [k for k, where in enumerate(at) if where == (line, col)]
-            behind = units[place[0] + len(text):][:1] if place else []
-            if own is not None and place and units[place[0]:][:len(text)] == text and not any(map(is_of_name, behind)):
-                return source_map["names"][own]
-        return name
 
-    for function in functions:
+def count_in(functions, start, end):
+    """The count of the innermost range around a block; of equal ranges that of the last."""
+    around = [it for function in functions for it in function["ranges"] if it["startOffset"] <= start and it["endOffset"] >= end]
+    least = min((it["endOffset"] - it["startOffset"] for it in around), default=0)
+    return [it["count"] for it in around if it["endOffset"] - it["startOffset"] == least][-1] if around else 0
+
+
+def parts_of(units, reports, source_map):
+    """By several reports on one code, each a list of functions: the functions, {(source id, line, column, name): count}, and the branches,
+    {(source id, line, column, last line, last column, how many before it at the same place): count}."""
+    at = positions(units)
+    flat = [(line, *token) for line, tokens in enumerate(named_tokens(source_map["mappings"])) for token in tokens]
+    called, blocks, branches = {}, set(), {}
+    for function in (it for functions in reports for it in functions):
         for number, each in enumerate(function["ranges"]):
-            if max(each["startOffset"], each["endOffset"]) >= len(at):
-                continue
-            start, end = at[each["startOffset"]], at[each["endOffset"]]
-            first = first_in(start, end)
+            start, end = each["startOffset"], each["endOffset"]
+            first = first_in(flat, at[start], at[end]) if max(start, end) < len(at) else None
             if first is None or flat[first][2] is None:
                 continue
-            key = flat[first][2]
             if number == 0 and function.get("functionName"):
-                full = (*key, original_name(first, function["functionName"]))
+                full = (*flat[first][2], original_name(flat, source_map["names"], units, at, first, function["functionName"]))
                 called[full] = called.get(full, 0) + each["count"]
-            if function.get("isBlockCoverage"):
-                last = clamped(end[0], max(end[1] - 1, 0))
-                full = (*key, *(last is not None and flat[last][2] or key)[1:])
-                branches[full] = branches.get(full, 0) + each["count"]
+            if function.get("isBlockCoverage") and start < end:
+                last = [token for token in flat if token[0] == at[end - 1][0] and token[:2] <= at[end - 1]]
+                blocks.add((start, -end, *flat[first][2], *(last and last[-1][2] or flat[first][2])[1:]))
+    for start, end, *place in sorted(blocks):
+        number = sum(it[:5] == tuple(place) for it in branches)
+        branches[*place, number] = sum(count_in(functions, start, -end) for functions in reports)
     return called, branches
 
 

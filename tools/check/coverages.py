@@ -14,9 +14,9 @@ CODES = ("bundle.js", "bundle.min.js")
 WORDS = ["f", "g", "f2", "\u00e9", "if", "(", ")", "{", "}", ";", " ", "\n", "\U0001f600", "=>"]
 
 
-def v8(url, functions):
-    """A report on one script."""
-    return json.dumps({"result": [{"url": url, "functions": functions}]})
+def v8(url, *reports):
+    """Reports on one script."""
+    return json.dumps({"result": [{"url": url, "functions": functions} for functions in reports]})
 
 
 def objects(run, words, folder):
@@ -25,13 +25,16 @@ def objects(run, words, folder):
     return status, {it["source"]: it for it in map(json.loads, out.splitlines())}, err
 
 
-def wanted(ref, units, functions, held):
+def wanted(ref, units, reports, held):
     """What the reference says of each source that has lines."""
-    lines = ref.lines_of(units, functions, ref.tokens_by_line(held["mappings"]))
-    called, branches = ref.parts_of(units, functions, held)
+    all_lines = [ref.lines_of(units, functions, ref.tokens_by_line(held["mappings"])) for functions in reports]
+    called, branches = ref.parts_of(units, reports, held)
     found = {}
     for source, name in enumerate(held["sources"]):
-        own = {line: ran for (of, line), (ran, _) in sorted(lines.items()) if of == source}
+        own = {}
+        for (of, line), (ran, _) in sorted(it for lines in all_lines for it in lines.items()):
+            if of == source:
+                own[line] = own.get(line, 0) + ran
         if own:
             missed = [line + 1 for line, ran in own.items() if not ran]
             found[name] = {
@@ -55,7 +58,7 @@ def of_bundles(run, write, check, ref):
             write(folder, {"v8.json": v8(f"file:///somewhere/{name}", entry["functions"])})
             status, told, err = objects(run, ["--prefix", "/somewhere=.", "v8.json"], folder)
             units, held, functions = ref.read(DATA, name)
-            hoped = wanted(ref, units, functions, held)
+            hoped = wanted(ref, units, [functions], held)
             check(told == hoped, f"coverage of {name}: {status}, {told}, not {hoped}, {err}")
             names.append({source: it["functions"] for source, it in told.items()})
             page = run(["coverage", "--prefix", "/somewhere=.", "--html", "v8.json"], folder)[1]
@@ -120,18 +123,26 @@ def reports(chance, ranges, functions):
     return functions
 
 
+def again(chance, function):
+    """What V8 might report of a function in another process: without some of its blocks."""
+    ranges = [it for number, it in enumerate(function["ranges"]) if number == 0 or chance.random() < 0.6]
+    return {**function, "ranges": [{**it, "count": chance.randrange(3)} for it in ranges]}
+
+
 def random_case(chance, vlq):
-    """A code, a map of it and what V8 might report."""
+    """A code, a map of it and what V8 might report, once or twice."""
     words = chance.choices(WORDS, k=chance.randrange(1, 60))
     code, places = "".join(words), [0]
     for word in words:
         places.append(places[-1] + len(word.encode("utf-16-le")) // 2)
-    functions = reports(chance, nested(chance, places, 3), [])
+    found = [reports(chance, nested(chance, places, 3), [])]
+    if chance.random() < 0.5:
+        found.append([again(chance, it) for it in found[0]])
     rows, last = [], [0, 0, 0, 0]
     for line in re.split("\n", code):
         column, segments = 0, []
         starts = [len(line[:k].encode("utf-16-le")) // 2 for k in range(len(line) + 1)]
-        for at in sorted({chance.choice([*starts, starts[-1] + 1]) for _ in range(chance.randrange(6))}):
+        for at in sorted(chance.choice([*starts, starts[-1] + 1]) for _ in range(chance.randrange(6))):
             fields, column = [at - column], at
             if chance.random() < 0.85:
                 now = [chance.randrange(2), chance.randrange(5), chance.randrange(9), last[3]]
@@ -141,7 +152,7 @@ def random_case(chance, vlq):
                 last = now
             segments.append("".join(map(vlq, fields)))
         rows.append(",".join(segments))
-    return code, {"version": 3, "sources": ["s.ts", "t.ts"], "names": ["first", "second", "third"], "mappings": ";".join(rows)}, functions
+    return code, {"version": 3, "sources": ["s.ts", "t.ts"], "names": ["first", "second", "third"], "mappings": ";".join(rows)}, found
 
 
 def of_random(run, write, check, ref, vlq):
@@ -149,12 +160,11 @@ def of_random(run, write, check, ref, vlq):
     chance = random.Random(73)
     with tempfile.TemporaryDirectory() as folder:
         for _ in range(200):
-            code, held, functions = random_case(chance, vlq)
-            write(folder, {"v.js": code, "v.js.map": json.dumps(held), "v8.json": v8("http://h/v.js", functions)})
+            code, held, found = random_case(chance, vlq)
+            write(folder, {"v.js": code, "v.js.map": json.dumps(held), "v8.json": v8("http://h/v.js", *found)})
             _, told, err = objects(run, ["v8.json"], folder)
-            units = ref.units_of(code)
-            hoped = wanted(ref, units, functions, held)
-            check(told == hoped, f"coverage of {code!r}, {held}, {functions}: {told}, not {hoped}, {err}")
+            hoped = wanted(ref, ref.units_of(code), found, held)
+            check(told == hoped, f"coverage of {code!r}, {held}, {found}: {told}, not {hoped}, {err}")
 
 
 def of_paths(run, write, check):
@@ -191,7 +201,25 @@ def of_hostile_texts(run, write, check):
         check("FN:1,f\\u000aDA:9,9\n" in out and "\nDA:9,9\n" not in out, f"lcov with a hostile name: {out}")
 
 
+def of_runs(run, write, check):
+    """A function that was called twice, once by each of two processes; the one that took the branch has no block for it (as Node has it)."""
+    code = "function f(x){if(x){g()}}\nfunction g(){}\nf(1)\n"
+    held = {"version": 3, "sources": ["s.ts"], "names": [], "mappings": "AAAA,mBAAmB;AACA;AACA"}
+    taken = [{"functionName": "f", "isBlockCoverage": True, "ranges": [{"startOffset": 0, "endOffset": 25, "count": 1}]}]
+    not_taken = [{**taken[0], "ranges": [*taken[0]["ranges"], {"startOffset": 19, "endOffset": 24, "count": 0}]}]
+    with tempfile.TemporaryDirectory() as folder:
+        write(folder, {"v.js": code, "v.js.map": json.dumps(held)})
+        write(folder, {"out/1.json": v8("http://h/v.js", taken), "out/2.json": v8("http://h/v.js", not_taken)})
+        told = objects(run, ["out"], folder)[1]["s.ts"]["branches"]
+        check(told == [{"line": 1, "count": 2}, {"line": 1, "count": 1}], f"a branch that one of two processes took: {told}")
+        late = {"offset": {"line": 4294967295, "column": 0}, "map": {**held, "mappings": "AAAA"}}
+        write(folder, {"v.js.map": json.dumps({"version": 3, "sections": [late]})})
+        status, out, err = run(["coverage", "out"], folder)
+        check(status == 1 and out == "no lines\n", f"a map whose tokens are on the last line that there may be: {status}, {out}, {err}")
+
+
 def tried(run, write, check, ref, vlq):
+    of_runs(run, write, check)
     of_bundles(run, write, check, ref)
     of_random(run, write, check, ref, vlq)
     of_paths(run, write, check)

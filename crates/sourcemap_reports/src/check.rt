@@ -575,7 +575,11 @@ fn places_in<'p>(asked: &'p Asked<'_, '_>, root: &'p Option<String>) -> Places<'
 
 /// The root of the files of a folder: the folder itself, if it is not in the root and none is named.
 fn root_of(asked: &Asked<'_, '_>, folder: &str) -> Outcome<Option<String>> {
-    if !asked.root.is_empty() || is_in_root(asked.rt, folder, asked.places()) {
+    let places = Places {
+        outside: false,
+        ..asked.places()
+    };
+    if !asked.root.is_empty() || is_in_root(asked.rt, folder, places) {
         return Ok(None);
     }
     let folder = folder.trim_end_matches('/');

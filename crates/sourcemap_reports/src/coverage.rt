@@ -1,7 +1,7 @@
 //! `coverage`: lines, functions and branches of originals that ran, by V8's block coverage.
 ghost use Rattle.std.specs.Prelude.{◌≡◌, ◌*◌, nat_lt};
 
-use crate::functions::{AllParts, Tally, add_parts};
+use crate::functions::{AllParts, Tally};
 use crate::html::{Contents, add_content, page_of};
 use oxc_sourcemap_map::SourceMap;
 use oxc_sourcemap_text::{TextPositions, utf16_units};
@@ -199,11 +199,12 @@ impl Coverage {
         Ok(())
     }
 
-    /// Adds V8's report of a script with this code and this map.
+    /// Adds V8's report of a script with the code in this file and this map.
     fn add_mapped(
         &mut self,
         asked: &Asked<'_, '_>,
         script: &Script,
+        path: &str,
         code: &str,
         text: &MapText,
     ) -> Outcome<()> {
@@ -225,14 +226,7 @@ impl Coverage {
             marks.as_slice(),
         )?;
         self.keep_contents(&map, paths.as_slice())?;
-        add_parts(
-            self.alloc,
-            &mut self.parts,
-            paths.as_slice(),
-            &code,
-            &map,
-            script,
-        )
+        self.parts.add(path, paths.as_slice(), &code, &map, script)
     }
 
     /// The code of a script, if it is there.
@@ -281,7 +275,7 @@ impl Coverage {
         }
         let code = read_text(rt, path)?;
         match map_of_code(rt, path, code.as_str(), places)? {
-            Lookup::Map(text) => self.add_mapped(asked, script, code.as_str(), &text),
+            Lookup::Map(text) => self.add_mapped(asked, script, path, code.as_str(), &text),
             Lookup::None(why) => self.leave_out(path, why),
         }
     }
@@ -554,7 +548,7 @@ fn checks_of(asked: &Asked<'_, '_>) -> Outcome<Vec<(Measure, u64)>> {
     Ok(checks)
 }
 
-/// Whether a lower percentage ran than a check asks for. Of none all ran.
+/// Whether a lower percentage ran than a check asks for. If there are none, no check is missed.
 fn are_missed(check: u64, ran: u64, all: u64) -> bool
     ensures { result ≡ nat_lt (ran * 100) (check * all) }
 {
@@ -593,6 +587,7 @@ pub fn run(asked: &Asked<'_, '_>) -> Outcome<Status> {
         add_file(asked, file.as_str(), &mut coverage)?;
     }
     progress.clear(asked.rt);
+    coverage.parts.finish()?;
     coverage.tell_left_out(asked.rt)?;
     print(asked.rt, coverage.text(asked)?.as_str())?;
     let met = are_met(asked.rt, &coverage, checks.as_slice())?;

@@ -5,19 +5,26 @@ use oxc_sourcemap_text::utf16_units;
 use oxc_sourcemap_tokens::{Position, Token};
 use sourcemap_run::{Block, push_number_member, push_object, push_text_member};
 use sourcemap_texts::push_visible;
-use sourcemap_words::{Called, Outcome, Script};
+use sourcemap_words::{Called, Outcome, Run, Script, ranges_of};
 use std::alloc::{AllocError, Global};
-use std::collections::BTreeMap;
+use std::cmp::Ordering;
+use std::collections::{BTreeMap, BTreeSet};
 
 /// How many tokens ahead of the first of a function, and from that on, may be the one of its name.
 const NEAR: usize = 3;
 
+/// Names of maps with more bytes are passed over: one name may be that of many functions.
+const LONGEST_NAME: usize = 4096;
+
 /// A function of an original: the line and the column at which it begins, and its name.
 type Function = (u32, u32, String);
 
-/// A branch of an original: the line and the column at which it begins, and those of its last token, or of the first if the last points to
-/// no source.
-type Branch = (u32, u32, u32, u32);
+/// A branch of an original: the line and the column at which it begins; those of its last token, or of the first if the last points to no
+/// source; and how many before it in its code are at the same place.
+type Branch = (u32, u32, u32, u32, u32);
+
+/// Where a block of a code is: the number of its original, and of its branch all but the last.
+type Place = (usize, u32, u32, u32, u32);
 
 /// How many ran, and how many there are.
 #[derive(Clone, Copy, Default)]
@@ -49,15 +56,33 @@ pub(crate) struct Parts {
     branches: BTreeMap<Branch, u64>,
 }
 
-/// The functions and the branches of originals, by their paths.
-pub(crate) type AllParts = BTreeMap<String, Parts>;
+/// V8's reports on one code.
+#[derive(Drop)]
+struct Reports {
+    /// The blocks that any of them counts: by where they begin, an outer one before those in it (so the second number is the distance of
+    /// the end from the greatest number).
+    blocks: BTreeMap<(u32, u32), Place>,
+    /// The ranges of each, in the same order.
+    ranges: Vec<Vec<Run>>,
+}
 
-/// A script with its map, and a table for its lookups.
+/// The functions and the branches of originals.
+#[derive(Drop)]
+pub(crate) struct AllParts {
+    alloc: Global,
+    /// The numbers of originals, by their paths.
+    numbers: BTreeMap<String, usize>,
+    parts: Vec<Parts>,
+    /// By the paths of codes.
+    reports: BTreeMap<String, Reports>,
+}
+
+/// A script with its map, and the numbers of its sources' originals.
 #[derive(Clone, Copy)]
 struct Mapped<'c> {
     code: &'c Code<'c>,
     map: &'c SourceMap<'c>,
-    table: &'c [&'c [Token]],
+    originals: &'c [usize],
 }
 
 /// Whether a unit may stand in a name.
@@ -69,14 +94,60 @@ fn is_of_name(unit: u16) -> bool {
     is_word || unit > 127
 }
 
+/// How many tokens are before a position.
+fn count_before(tokens: &[Token], at: Position) -> usize {
+    let found = tokens.binary_search_by(|token| {
+        if (token.get_dst_line(), token.get_dst_col()) < (at.line, at.column) {
+            Ordering::Less
+        } else {
+            Ordering::Greater
+        }
+    });
+    match found {
+        Ok(count) | Err(count) => count,
+    }
+}
+
+/// The index of the first token in a block on the block's first line, or if there is none, of the last one before it on that line.
+fn first_in(tokens: &[Token], block: &Block) -> Option<usize> {
+    let Position { line, column: _ } = block.start;
+    let next = count_before(tokens, block.start);
+    let is_in = tokens.get(next).is_some_and(|token| {
+        token.get_dst_line() == line
+            && (line, token.get_dst_col()) < (block.end.line, block.end.column)
+    });
+    if is_in {
+        return Some(next);
+    }
+    let before = next.checked_sub(1)?;
+    let token = tokens.get(before)?;
+    (token.get_dst_line() == line).then(|| before)
+}
+
+/// The last token that is not behind a position, on the position's line.
+fn last_at(tokens: &[Token], at: Position) -> Option<Token> {
+    let behind = Position {
+        line: at.line,
+        column: at.column.saturating_add(1),
+    };
+    let token = tokens.get(count_before(tokens, behind).checked_sub(1)?)?;
+    (token.get_dst_line() == at.line).then(|| *token)
+}
+
 impl<'c> Mapped<'c> {
+    fn tokens(&self) -> &'c [Token] {
+        self.map.get_tokens().as_slice()
+    }
+
+    /// The number of the original that a token points to.
+    fn original(&self, token: &Token) -> Option<usize> {
+        self.originals.get(token.get_source_id()? as usize).copied()
+    }
+
     /// Whether a name stands in the code where a token is.
-    fn is_named(&self, token: Token, name: &[u16]) -> bool {
-        let Ok(at) = self
-            .code
-            .positions
-            .offset(token.get_dst_line(), token.get_dst_col())
-        else {
+    fn is_named(&self, token: &Token, name: &[u16]) -> bool {
+        let positions = self.code.positions;
+        let Ok(at) = positions.offset(token.get_dst_line(), token.get_dst_col()) else {
             return false;
         };
         let rest = self.code.units.get(at as usize..).unwrap_or(&[]);
@@ -86,22 +157,9 @@ impl<'c> Mapped<'c> {
         }
     }
 
-    /// The index of the first token of a block, or if none is in it on its first line, of the last one before it.
-    fn first_in(&self, block: &Block) -> Option<usize> {
-        let Position { line, column } = block.start;
-        let after = self.map.lookup_token_index_after(self.table, line, column);
-        let inner = after.filter(|at| {
-            let token = self.map.get_tokens().as_slice().get(*at);
-            token.is_some_and(|token| {
-                (token.get_dst_line(), token.get_dst_col()) < (block.end.line, block.end.column)
-            })
-        });
-        inner.or_else(|| self.map.lookup_token_index_approx(self.table, line, column))
-    }
-
     /// The name that the map has for a function: of one of the tokens near the first one, where its name stands in the code.
     fn name_near(&self, first: usize, name: &[u16]) -> Option<&'c str> {
-        let tokens = self.map.get_tokens().as_slice();
+        let tokens = self.tokens();
         let from = first.saturating_sub(NEAR);
         let (ahead, inner) = (
             tokens.get(from..first).unwrap_or(&[]),
@@ -110,22 +168,44 @@ impl<'c> Mapped<'c> {
         let near = inner.iter().take(NEAR).chain(ahead.iter().rev());
         for token in near {
             if let Some(id) = token.get_name_id()
-                && self.is_named(*token, name)
+                && self.is_named(token, name)
             {
-                return self.map.get_name(id);
+                let name = self.map.get_name(id)?;
+                return (!name.is_empty() && name.len() <= LONGEST_NAME).then(|| name);
             }
         }
         None
     }
 
-    /// The last token of a block, if that points to a source.
-    fn last_in(&self, block: &Block) -> Option<Token> {
-        let column = block.end.column.saturating_sub(1);
-        let last = self
-            .map
-            .lookup_token_approx(self.table, block.end.line, column)?;
-        let _ = last.get_source_id()?;
-        Some(last)
+    /// The position of the last character before an offset.
+    fn last_position(&self, offset: u32) -> Option<(u32, u32)> {
+        let positions = self.code.positions;
+        match positions.position(offset.saturating_sub(1)) {
+            Ok(position) => Some(position),
+            Err(_) => positions.position(offset.saturating_sub(2)).ok(),
+        }
+    }
+
+    /// Where a range is in the originals; None if it is in none.
+    fn place_of(&self, run: &Run) -> Option<Place> {
+        if run.start >= run.end {
+            return None;
+        }
+        let tokens = self.tokens();
+        let block = block_of(self.code.positions, run)?;
+        let first = tokens.get(first_in(tokens, &block)?)?;
+        let original = self.original(first)?;
+        let (line, column) = self.last_position(run.end)?;
+        let last = last_at(tokens, Position { line, column })
+            .filter(|last| last.get_source_id().is_some())
+            .unwrap_or(*first);
+        Some((
+            original,
+            first.get_src_line(),
+            first.get_src_col(),
+            last.get_src_line(),
+            last.get_src_col(),
+        ))
     }
 }
 
@@ -143,112 +223,227 @@ fn add_branch(parts: &mut Parts, branch: Branch, count: u64) -> Result<(), Alloc
     Ok(())
 }
 
-/// The parts of the original that a token points to, of these paths of all sources; None if it points to none.
-fn parts_of<'p>(
-    alloc: Global,
-    all: &'p mut AllParts,
-    paths: &[String],
-    token: Token,
-) -> Result<Option<&'p mut Parts>, AllocError> {
-    let Some(path) = token.get_source_id().and_then(|id| paths.get(id as usize)) else {
-        return Ok(None);
-    };
-    if !all.contains_key(path.as_str()) {
-        let parts = Parts {
-            functions: BTreeMap::new(alloc),
-            branches: BTreeMap::new(alloc),
-        };
-        let _ = all.insert(String::from_str(alloc, path.as_str())?, parts)?;
-    }
-    Ok(all.get_mut(path.as_str()))
+/// The ranges of a report around the block that is reached, the innermost last, and those behind.
+#[derive(Drop)]
+struct Around<'r> {
+    open: Vec<Run>,
+    behind: &'r [Run],
 }
 
-/// Adds a function that was called, if an original has it.
-fn add_called(
-    alloc: Global,
-    all: &mut AllParts,
-    paths: &[String],
-    mapped: Mapped<'_>,
-    called: &Called<'_>,
-) -> Result<(), AllocError> {
-    let Some(block) = block_of(mapped.code.positions, &called.run) else {
-        return Ok(());
-    };
-    let Some(first) = mapped.first_in(&block) else {
-        return Ok(());
-    };
-    let tokens = mapped.map.get_tokens().as_slice();
-    let Some(token) = tokens.get(first).copied() else {
-        return Ok(());
-    };
-    let units = utf16_units(alloc, called.name)?;
-    let name = mapped
-        .name_near(first, units.as_slice())
-        .unwrap_or(called.name);
-    let name = String::from_str(alloc, name)?;
-    match parts_of(alloc, all, paths, token)? {
-        Some(parts) => {
-            let function = (token.get_src_line(), token.get_src_col(), name);
-            add_function(parts, function, called.run.count)
+impl Around<'_> {
+    /// Leaves the ranges that end at or before an offset.
+    fn leave(&mut self, offset: u32) {
+        for _ in 0..self.open.len() {
+            match self.open.as_slice().last() {
+                Some(range) if range.end <= offset => {
+                    let _ = self.open.pop();
+                }
+                _ => break,
+            }
         }
-        None => Ok(()),
+    }
+
+    /// Advances to a block.
+    fn go_to(&mut self, block: &Run) -> Result<(), AllocError> {
+        for _ in 0..self.behind.len() {
+            match self.behind.split_first() {
+                Some((range, rest)) if (range.start, block.end) <= (block.start, range.end) => {
+                    self.leave(range.start);
+                    self.open.push(*range)?;
+                    self.behind = rest;
+                }
+                _ => break,
+            }
+        }
+        self.leave(block.start);
+        Ok(())
+    }
+
+    /// The count of the innermost range around a block that was reached.
+    fn count(&self, block: &Run) -> u64 {
+        let around = self.open.iter().rev().find(|range| range.end >= block.end);
+        around.map_or(0, |range| range.count)
     }
 }
 
-/// Adds a block that V8 counts by itself, if an original has it.
-fn add_block(
-    alloc: Global,
-    all: &mut AllParts,
-    paths: &[String],
-    mapped: Mapped<'_>,
-    block: &Block,
-) -> Result<(), AllocError> {
-    let Some(first) = mapped.first_in(block) else {
-        return Ok(());
+/// Adds to the count of each of some blocks that of the innermost range around it: V8 leaves out a block that ran as often as that.
+fn add_counts(alloc: Global, ranges: &[Run], blocks: &mut [Run]) -> Result<(), AllocError> {
+    let mut around = Around {
+        open: Vec::new(alloc),
+        behind: ranges,
     };
-    let tokens = mapped.map.get_tokens().as_slice();
-    let Some(token) = tokens.get(first).copied() else {
-        return Ok(());
-    };
-    let last = mapped.last_in(block).unwrap_or(token);
-    match parts_of(alloc, all, paths, token)? {
-        Some(parts) => {
-            let branch = (
-                token.get_src_line(),
-                token.get_src_col(),
-                last.get_src_line(),
-                last.get_src_col(),
-            );
-            add_branch(parts, branch, block.count)
-        }
-        None => Ok(()),
-    }
-}
-
-/// Adds the functions and the branches of a script to those of its originals. `paths` has the path of each source.
-pub(crate) fn add_parts(
-    alloc: Global,
-    all: &mut AllParts,
-    paths: &[String],
-    code: &Code<'_>,
-    map: &SourceMap<'_>,
-    script: &Script,
-) -> Outcome<()> {
-    let table = map.generate_lookup_table(alloc)?;
-    let mapped = Mapped {
-        code,
-        map,
-        table: table.as_slice(),
-    };
-    for called in &script.called(alloc)? {
-        add_called(alloc, all, paths, mapped, called)?;
-    }
-    for run in &script.blocks(alloc)? {
-        if let Some(block) = block_of(code.positions, run) {
-            add_block(alloc, all, paths, mapped, &block)?;
-        }
+    for block in blocks {
+        around.go_to(block)?;
+        block.count = block.count.saturating_add(around.count(block));
     }
     Ok(())
+}
+
+impl Reports {
+    /// The blocks, with how often they ran by all reports.
+    fn counted(&self, alloc: Global) -> Result<Vec<Run>, AllocError> {
+        let mut blocks = Vec::new(alloc);
+        for (start, distance) in self.blocks.keys() {
+            blocks.push(Run {
+                start: *start,
+                end: u32::MAX - *distance,
+                count: 0,
+            })?;
+        }
+        for ranges in &self.ranges {
+            add_counts(alloc, ranges.as_slice(), blocks.as_mut_slice())?;
+        }
+        Ok(blocks)
+    }
+
+    /// Adds the blocks to the branches of their originals.
+    fn add_to(&self, alloc: Global, parts: &mut [Parts]) -> Result<(), AllocError> {
+        let mut met: BTreeMap<Place, u32> = BTreeMap::new(alloc);
+        let blocks = self.counted(alloc)?;
+        for (place, block) in self.blocks.values().zip(blocks.iter()) {
+            let number = met.get(place).map_or(0, |number| *number);
+            let _ = met.insert(*place, number.saturating_add(1))?;
+            let (original, line, column, last_line, last_column) = *place;
+            if let Some(parts) = parts.get_mut(original) {
+                let branch = (line, column, last_line, last_column, number);
+                add_branch(parts, branch, block.count)?;
+            }
+        }
+        Ok(())
+    }
+}
+
+impl AllParts {
+    pub(crate) fn new(alloc: Global) -> AllParts {
+        AllParts {
+            alloc,
+            numbers: BTreeMap::new(alloc),
+            parts: Vec::new(alloc),
+            reports: BTreeMap::new(alloc),
+        }
+    }
+
+    /// Those of the original with this path.
+    pub(crate) fn get(&self, path: &str) -> Option<&Parts> {
+        self.parts.get(*self.numbers.get(path)?)
+    }
+
+    /// The number of the original with this path.
+    fn number_of(&mut self, path: &str) -> Result<usize, AllocError> {
+        if let Some(number) = self.numbers.get(path) {
+            return Ok(*number);
+        }
+        let number = self.parts.len();
+        self.parts.push(Parts {
+            functions: BTreeMap::new(self.alloc),
+            branches: BTreeMap::new(self.alloc),
+        })?;
+        let _ = self
+            .numbers
+            .insert(String::from_str(self.alloc, path)?, number)?;
+        Ok(number)
+    }
+
+    /// Adds a function that was called, if an original has it.
+    fn add_called(&mut self, mapped: Mapped<'_>, called: &Called<'_>) -> Result<(), AllocError> {
+        let tokens = mapped.tokens();
+        let block = block_of(mapped.code.positions, &called.run);
+        let Some(first) = block.and_then(|block| first_in(tokens, &block)) else {
+            return Ok(());
+        };
+        let units = utf16_units(self.alloc, called.name)?;
+        let name = mapped
+            .name_near(first, units.as_slice())
+            .unwrap_or(called.name);
+        if let Some(token) = tokens.get(first)
+            && let Some(original) = mapped.original(token)
+            && let Some(parts) = self.parts.get_mut(original)
+        {
+            let name = String::from_str(self.alloc, name)?;
+            let function = (token.get_src_line(), token.get_src_col(), name);
+            add_function(parts, function, called.run.count)?;
+        }
+        Ok(())
+    }
+
+    /// Adds the blocks of a report on a code.
+    fn add_blocks(
+        &mut self,
+        path: &str,
+        mapped: Mapped<'_>,
+        script: &Script,
+    ) -> Result<(), AllocError> {
+        if !self.reports.contains_key(path) {
+            let reports = Reports {
+                blocks: BTreeMap::new(self.alloc),
+                ranges: Vec::new(self.alloc),
+            };
+            let _ = self
+                .reports
+                .insert(String::from_str(self.alloc, path)?, reports)?;
+        }
+        let Some(reports) = self.reports.get_mut(path) else {
+            return Ok(());
+        };
+        reports.ranges.push(ranges_of(self.alloc, script)?)?;
+        for block in &script.blocks(self.alloc)? {
+            if let Some(place) = mapped.place_of(block) {
+                let key = (block.start, u32::MAX - block.end);
+                let _ = reports.blocks.insert(key, place)?;
+            }
+        }
+        Ok(())
+    }
+
+    /// Adds a report on the code in a file. `paths` has the path of each source of its map.
+    pub(crate) fn add(
+        &mut self,
+        path: &str,
+        paths: &[String],
+        code: &Code<'_>,
+        map: &SourceMap<'_>,
+        script: &Script,
+    ) -> Outcome<()> {
+        let mut originals = Vec::new(self.alloc);
+        for path in paths {
+            originals.push(self.number_of(path.as_str())?)?;
+        }
+        let mapped = Mapped {
+            code,
+            map,
+            originals: originals.as_slice(),
+        };
+        for called in &script.called(self.alloc)? {
+            self.add_called(mapped, called)?;
+        }
+        Ok(self.add_blocks(path, mapped, script)?)
+    }
+
+    /// Counts the branches, once all reports are added.
+    pub(crate) fn finish(&mut self) -> Outcome<()> {
+        for reports in self.reports.values() {
+            reports.add_to(self.alloc, self.parts.as_mut_slice())?;
+        }
+        self.reports = BTreeMap::new(self.alloc);
+        Ok(())
+    }
+}
+
+/// Appends the name of a function for lcov, which tells functions of one file apart by their names: so one whose name was met has its line
+/// and column too.
+fn push_name(
+    alloc: Global,
+    function: &Function,
+    met: &BTreeSet<&str>,
+    out: &mut String,
+) -> Outcome<()> {
+    let (line, column, name) = function;
+    push_visible(name.as_str(), out)?;
+    if met.contains(name.as_str()) {
+        let (line, column) = (u64::from(*line) + 1, u64::from(*column) + 1);
+        out.push_str(format!(in alloc; ":{line}:{column}")?.as_str())?;
+    }
+    Ok(out.push('\n')?)
 }
 
 impl Parts {
@@ -272,17 +467,17 @@ impl Parts {
 
     /// Appends the functions as lcov reads them.
     fn push_lcov_functions(&self, alloc: Global, out: &mut String) -> Outcome<()> {
-        for ((line, _, name), _) in &self.functions {
-            let line = u64::from(*line) + 1;
+        let mut met = BTreeSet::new(alloc);
+        let mut counts = String::new(alloc);
+        for (function, count) in &self.functions {
+            let line = u64::from(function.0) + 1;
             out.push_str(format!(in alloc; "FN:{line},")?.as_str())?;
-            push_visible(name.as_str(), out)?;
-            out.push('\n')?;
+            push_name(alloc, function, &met, out)?;
+            counts.push_str(format!(in alloc; "FNDA:{count},")?.as_str())?;
+            push_name(alloc, function, &met, &mut counts)?;
+            let _ = met.insert(function.2.as_str())?;
         }
-        for ((_, _, name), count) in &self.functions {
-            out.push_str(format!(in alloc; "FNDA:{count},")?.as_str())?;
-            push_visible(name.as_str(), out)?;
-            out.push('\n')?;
-        }
+        out.push_str(counts.as_str())?;
         let Tally { ran, all } = self.functions();
         out.push_str(format!(in alloc; "FNF:{all}\nFNH:{ran}\n")?.as_str())?;
         Ok(())
@@ -291,7 +486,7 @@ impl Parts {
     /// Appends the branches as lcov reads them.
     fn push_lcov_branches(&self, alloc: Global, out: &mut String) -> Outcome<()> {
         let mut number = 0u64;
-        for ((line, _, _, _), count) in &self.branches {
+        for ((line, _, _, _, _), count) in &self.branches {
             let line = u64::from(*line) + 1;
             out.push_str(format!(in alloc; "BRDA:{line},{number},0,{count}\n")?.as_str())?;
             number = number.saturating_add(1);
@@ -327,7 +522,7 @@ impl Parts {
     /// Appends the entries of the member `branches`.
     fn push_branches(&self, alloc: Global, out: &mut String) -> Outcome<()> {
         let mut is_first = true;
-        for ((line, _, _, _), count) in &self.branches {
+        for ((line, _, _, _, _), count) in &self.branches {
             let mut members = String::new(alloc);
             push_number_member(alloc, "line", u64::from(*line) + 1, &mut members)?;
             push_number_member(alloc, "count", *count, &mut members)?;

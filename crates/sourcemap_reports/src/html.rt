@@ -1,6 +1,6 @@
 //! The page of `coverage --html`: how often each line ran, beside its text.
 use crate::functions::{AllParts, Tally};
-use sourcemap_run::{LINE_ENDS, Totals, counted_lines, percent, ran};
+use sourcemap_run::{LINE_ENDS, Totals, counted_lines, percent, push_missed, ran};
 use sourcemap_texts::{is_hidden, push_shown, push_visible_char};
 use sourcemap_words::Outcome;
 use std::alloc::{AllocError, Global};
@@ -168,6 +168,16 @@ fn push_content(
     Ok(out.push_str("</table>\n")?)
 }
 
+/// Appends which lines of an original without a content did not run.
+fn push_missed_lines(alloc: Global, lines: &[(u32, u64)], out: &mut String) -> Outcome<()> {
+    out.push_str("<p>The map has no content of it. Lines that did not run: ")?;
+    if lines.iter().all(|line| line.1 > 0) {
+        out.push_str("none")?;
+    }
+    push_missed(alloc, lines, out)?;
+    Ok(out.push_str("</p>\n")?)
+}
+
 /// Appends the originals.
 fn push_originals(
     alloc: Global,
@@ -183,7 +193,7 @@ fn push_originals(
         out.push_str("</h2>\n")?;
         match contents.get(source.as_str()) {
             Some(content) => push_content(alloc, content.as_str(), lines.as_slice(), out)?,
-            None => out.push_str("<p>The map has no content of it.</p>\n")?,
+            None => push_missed_lines(alloc, lines.as_slice(), out)?,
         }
         number = number.saturating_add(1);
     }

@@ -142,7 +142,9 @@ def random_case(chance, vlq):
     for line in re.split("\n", code):
         column, segments = 0, []
         starts = [len(line[:k].encode("utf-16-le")) // 2 for k in range(len(line) + 1)]
-        for at in sorted(chance.choice([*starts, starts[-1] + 1]) for _ in range(chance.randrange(6))):
+        columns = [chance.choice([*starts, starts[-1] + 1]) for _ in range(chance.randrange(6))]
+        # (of two tokens at one column the second is that of the second half of a pair, which is no position)
+        for at in sorted(set(columns) if "\U0001f600" in code else columns):
             fields, column = [at - column], at
             if chance.random() < 0.85:
                 now = [chance.randrange(2), chance.randrange(5), chance.randrange(9), last[3]]

@@ -496,8 +496,11 @@ impl Parts {
         Ok(())
     }
 
-    /// Appends the functions and the branches as lcov reads them.
+    /// Appends the functions and the branches as lcov reads them, if there are any.
     pub(crate) fn push_lcov(&self, alloc: Global, out: &mut String) -> Outcome<()> {
+        if self.functions.is_empty() && self.branches.is_empty() {
+            return Ok(());
+        }
         self.push_lcov_functions(alloc, out)?;
         self.push_lcov_branches(alloc, out)
     }

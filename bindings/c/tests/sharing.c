@@ -68,7 +68,7 @@ static void no_call_changes_it(void) {
     CHECK(smap_generated(map, 0, 0, 9, SMAP_AT, ids, &token) == SMAP_NO_INDEX && ids[0] == 9);
     CHECK(smap_clone(map, &copy, NULL) == SMAP_OK && writes(copy, A));
     CHECK(smap_retain_map(copy, &copy, NULL) == SMAP_NOT_SHARED && smap_index_sources(copy, NULL) == SMAP_OK);
-    CHECK(smap_set_file(copy, TEXT("f"), NULL) == SMAP_OK && !writes(copy, A) && writes(map, A));
+    CHECK(smap_set_file(copy, TEXT("f"), NULL) == SMAP_OK && smap_get_file(copy, bad) == SMAP_OK && is(bad, "f") && writes(map, A));
     smap_free_map(copy);
     smap_free_map(map);
 }

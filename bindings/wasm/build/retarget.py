@@ -42,7 +42,14 @@ FOR_AARCH64 = {
     "stack-probe-size": lambda it: [it],
     "target-cpu": lambda _: ['"target-cpu"="generic"'],
 }
-# Nothing in the toolchain's modules has these: code of one processor, several threads, exceptions, pointers to functions.
+
+# The steps on the counts of handles of shared maps: of 64 bits, and in one order with all others. In a module of WebAssembly, which has one
+# thread, the compiler makes plain steps of them.
+ATOMIC = re.compile(
+    r"  %[\w.]+ = (?:atomicrmw sub ptr %\w+, i64 %\w+ seq_cst|load atomic i64, ptr %\w+ seq_cst|"
+    r"cmpxchg ptr %\w+, i64 %\w+, i64 %\w+ seq_cst seq_cst), align 8$"
+)
+# Nothing else in the toolchain's modules has these: code of one processor, several threads, exceptions, pointers to functions.
 REFUSED = re.compile(r"\b(?:asm|atomic|volatile|x86_fp80|fp128|ppc_fp128|x86_amx|byval|inalloca|preallocated|sret|swifterror)\b|addrspace\(|\btoken\b")
 
 DEFINE = re.compile(r"define (?:internal |private |hidden )?(?!thread_local)")
@@ -127,6 +134,9 @@ def retargeted(lines, processor="wasm64"):
     is_inside = False
     for line in lines:
         line = line.rstrip("\n")
+        if is_inside and ATOMIC.match(line):
+            yield line
+            continue
         if found := REFUSED.search(STRINGS.sub("", line).partition(";")[0]):
             refuse(line, f"there is no {found[0]} in what the toolchain writes")
         yield in_body(line) if is_inside else outside(line, processor)

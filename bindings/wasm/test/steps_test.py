@@ -53,8 +53,22 @@ class Retarget(unittest.TestCase):
         self.assertIn('target triple = "aarch64-unknown-linux-gnu"', out)
         self.assertNotIn("f80", out[0])
 
+    def test_counts(self):
+        """The steps on the counts of shared maps stay, in one order with all others."""
+        rows = [
+            "  %r7 = atomicrmw sub ptr %a0, i64 %a1 seq_cst, align 8",
+            "  %r11 = load atomic i64, ptr %a0 seq_cst, align 8",
+            "  %r33 = cmpxchg ptr %a0, i64 %r27, i64 %r28 seq_cst seq_cst, align 8",
+        ]
+        for row in rows:
+            self.assertIn(row, retargeted(row))
+            with self.subTest(row), self.assertRaises(SystemExit):
+                retargeted(row.replace("seq_cst", "monotonic"))
+            with self.subTest(row), self.assertRaises(SystemExit):
+                retargeted(row.replace("i64", "i32"))
+
     def test_what_is_refused(self):
-        """Code of one processor, threads, exceptions, pointers to functions, and what nobody has looked at."""
+        """Code of one processor, other threads, exceptions, pointers to functions, and what nobody has looked at."""
         rows = [
             "  %x = call i32 @llvm.x86.sse42.crc32.32.8(i32 0, i8 0)",
             '  call void asm sideeffect "nop", ""()',

@@ -45,6 +45,8 @@ use Rattle.oxc_sourcemap_c.specs.declared.numbers.call_error.CallError.TheVarian
 use Rattle.oxc_sourcemap_c.specs.declared.numbers.call_error.CallError.TheVariants.{BadScopes}
 use Rattle.oxc_sourcemap_c.specs.declared.numbers.call_error.CallError.TheVariants.{ScopesNotText}
 use Rattle.oxc_sourcemap_c.specs.declared.numbers.call_error.CallError.TheVariants.{ScopesIndexed}
+use Rattle.oxc_sourcemap_c.specs.declared.numbers.call_error.CallError.TheVariants.{Shared}
+use Rattle.oxc_sourcemap_c.specs.declared.numbers.call_error.CallError.TheVariants.{NotShared}
 use Rattle.oxc_sourcemap_scopes.specs.declared.errors.ScopesFaultKind.{ScopesFaultKind}
 use Rattle.oxc_sourcemap_scopes.specs.declared.errors.ScopesFaultKind.TheVariants as kinds
 use Rattle.oxc_sourcemap_compiled.specs.declared.errors.CompiledError.TheVariants.{NotCompiled}

@@ -10,7 +10,8 @@ that the exact lookup finds at it. White space and the punctuation `( ) [ ] { } 
 and leaves them out, without tokens of their own, and V8's ranges begin and end at them. A line ran if some unit of it ran, and
 did not run if it has units and none ran. A line without units is not code.
 
-A function with a name, and a block that V8 counts by itself, is of the original to which the first token in it on its first line points,
+A function with a name, and a block that V8 counts by itself, from its first unit that is no white space, is of the original to which the
+first token in it on its first line points,
 or else the last token before it on that line. The last token of a block is the last one that is not behind its last unit, on that line,
 or the first if that points to no source. A function has the name of the map of a token near the first one, at which its name stands in the
 code. Of several reports on one code a block ran, in each, as often as the innermost range around it. Blocks of one code at the same place
@@ -24,7 +25,8 @@ import json, os, sys
 
 DIGITS = "ABCDEFGHIJKLMNOPQRSTUVWXYZabcdefghijklmnopqrstuvwxyz0123456789+/"
 LINE_ENDS = {0x0A, 0x0D, 0x2028, 0x2029}
-IGNORED = LINE_ENDS | {0x09, 0x0B, 0x0C, 0x20, 0xA0, 0xFEFF} | set(map(ord, "()[]{},:;"))
+SPACES = LINE_ENDS | {0x09, 0x0B, 0x0C, 0x20, 0xA0, 0xFEFF}
+IGNORED = SPACES | set(map(ord, "()[]{},:;"))
 
 
 def units_of(text):
@@ -149,13 +151,14 @@ def parts_of(units, reports, source_map):
     for function in (it for functions in reports for it in functions):
         for number, each in enumerate(function["ranges"]):
             start, end = each["startOffset"], each["endOffset"]
-            first = first_in(flat, at[start], at[end]) if max(start, end) < len(at) else None
-            if first is None or flat[first][2] is None:
+            if max(start, end) >= len(at):
                 continue
-            if number == 0 and function.get("functionName"):
-                full = (*flat[first][2], original_name(flat, source_map["names"], units, at, first, function["functionName"]))
+            code = next((k for k in range(start, end) if units[k] not in SPACES), start)
+            called_at, first = first_in(flat, at[start], at[end]), first_in(flat, at[code], at[end])
+            if number == 0 and function.get("functionName") and called_at is not None and flat[called_at][2]:
+                full = (*flat[called_at][2], original_name(flat, source_map["names"], units, at, called_at, function["functionName"]))
                 called[full] = called.get(full, 0) + each["count"]
-            if function.get("isBlockCoverage") and start < end:
+            if function.get("isBlockCoverage") and start < end and first is not None and flat[first][2]:
                 last = [token for token in flat if token[0] == at[end - 1][0] and token[:2] <= at[end - 1]]
                 blocks.add((start, -end, *flat[first][2], *(last and last[-1][2] or flat[first][2])[1:]))
     for start, end, *place in sorted(blocks):

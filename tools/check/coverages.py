@@ -135,7 +135,8 @@ def random_case(chance, vlq):
     code, places = "".join(words), [0]
     for word in words:
         places.append(places[-1] + len(word.encode("utf-16-le")) // 2)
-    found = [reports(chance, nested(chance, places, 3), [])]
+    whole = {"functionName": "", "isBlockCoverage": True, "ranges": [{"startOffset": 0, "endOffset": places[-1], "count": 1}]}
+    found = [reports(chance, nested(chance, places, 3), [whole])]
     if chance.random() < 0.5:
         found.append([again(chance, it) for it in found[0]])
     rows, last = [], [0, 0, 0, 0]
@@ -191,7 +192,7 @@ def of_hostile_texts(run, write, check):
     """Texts and names of sources and functions are no HTML, and no line of lcov."""
     name, content = "<b>&\".ts", "<script>alert(1)</script>\t\u202e&amp;\r\n]]>"
     held = {"version": 3, "sources": [name], "sourcesContent": [content], "names": [], "mappings": "AAAA"}
-    ran = [{"functionName": "f\nDA:9,9", "isBlockCoverage": False, "ranges": [{"startOffset": 0, "endOffset": 2, "count": 1}]}]
+    ran = [{"functionName": "f\nDA:9,9", "isBlockCoverage": False, "ranges": [{"startOffset": 0, "endOffset": 4, "count": 1}]}]
     with tempfile.TemporaryDirectory() as folder:
         write(folder, {"v.js": "f()\n", "v.js.map": json.dumps(held), "v8.json": v8("http://h/v.js", ran)})
         page = run(["coverage", "--html", "v8.json"], folder)[1]
@@ -207,13 +208,19 @@ def of_runs(run, write, check):
     """A function that was called twice, once by each of two processes; the one that took the branch has no block for it (as Node has it)."""
     code = "function f(x){if(x){g()}}\nfunction g(){}\nf(1)\n"
     held = {"version": 3, "sources": ["s.ts"], "names": [], "mappings": "AAAA,mBAAmB;AACA;AACA"}
-    taken = [{"functionName": "f", "isBlockCoverage": True, "ranges": [{"startOffset": 0, "endOffset": 25, "count": 1}]}]
-    not_taken = [{**taken[0], "ranges": [*taken[0]["ranges"], {"startOffset": 19, "endOffset": 24, "count": 0}]}]
+    block = {"startOffset": 19, "endOffset": 24, "count": 0}
+    whole, f = ({"functionName": name, "isBlockCoverage": True, "ranges": [{"startOffset": 0, "endOffset": end, "count": 1}]} for name, end in (("", 46), ("f", 25)))
+    taken, not_taken = [whole, f], [whole, {**f, "ranges": [*f["ranges"], block]}]
     with tempfile.TemporaryDirectory() as folder:
         write(folder, {"v.js": code, "v.js.map": json.dumps(held)})
         write(folder, {"out/1.json": v8("http://h/v.js", taken), "out/2.json": v8("http://h/v.js", not_taken)})
         told = objects(run, ["out"], folder)[1]["s.ts"]["branches"]
-        check(told == [{"line": 1, "count": 2}, {"line": 1, "count": 1}], f"a branch that one of two processes took: {told}")
+        check([it["count"] for it in told] == [2, 2, 1], f"a branch that one of two processes took: {told}")
+        for end, why in ((45, "V8 saw 45 characters, and it has 46"), (47, "V8 saw 47 characters, and it has 46")):
+            other = {**whole, "ranges": [{"startOffset": 0, "endOffset": end, "count": 1}]}
+            write(folder, {"other.json": v8("http://h/v.js", [other, f])})
+            found = run(["coverage", "other.json"], folder)
+            check(found[0] == 1 and f"left out: v.js is of another build: {why}" in found[2], f"a code of another build: {found}")
         late = {"offset": {"line": 4294967295, "column": 0}, "map": {**held, "mappings": "AAAA"}}
         write(folder, {"v.js.map": json.dumps({"version": 3, "sections": [late]})})
         status, out, err = run(["coverage", "out"], folder)

@@ -1,7 +1,7 @@
 //! `coverage`: lines, functions and branches of originals that ran, by V8's block coverage.
 ghost use Rattle.std.specs.Prelude.{◌≡◌, ◌*◌, nat_lt};
 
-use crate::functions::{AllParts, Tally};
+use crate::functions::{AllParts, Tally, tokens_around};
 use crate::html::{Contents, add_content, page_of};
 use oxc_sourcemap_map::SourceMap;
 use oxc_sourcemap_text::{TextPositions, utf16_units};
@@ -16,7 +16,7 @@ use sourcemap_run::{
     push_missed, ran,
 };
 use sourcemap_texts::{is_hidden, push_shown};
-use sourcemap_words::{Outcome, Report, Run, Script, failure_of, runs_of};
+use sourcemap_words::{Outcome, Report, Run, Script, failure_of, ranges_of, runs_of};
 use std::alloc::{AllocError, Global};
 use std::collections::BTreeMap;
 use std::env;
@@ -47,12 +47,16 @@ pub(crate) struct Code<'c> {
     pub(crate) positions: &'c TextPositions<'c>,
 }
 
+/// Whether a unit is white space.
+pub(crate) fn is_space(unit: u16) -> bool {
+    matches!(unit, 9..=13 | 32 | 0xa0 | 0x2028 | 0x2029 | 0xfeff)
+}
+
 /// Whether a unit is code of some line. White space and punctuation that a generator puts in or leaves out is of no line, and blocks
 /// begin and end at it.
 fn is_code(unit: u16) -> bool {
-    let is_space = matches!(unit, 9..=13 | 32 | 0xa0 | 0x2028 | 0x2029 | 0xfeff);
     let is_mark = b"()[]{},:;".iter().any(|mark| u16::from(*mark) == unit);
-    !is_space && !is_mark
+    !is_space(unit) && !is_mark
 }
 
 /// Whether there is code in a piece. A piece that goes past the end of its line ends with it.
@@ -96,7 +100,8 @@ fn marks_of(
     let mut marks = Vec::new(alloc);
     for run in runs {
         if let Some(block) = block_of(positions, run) {
-            push_marks(map.get_tokens().as_slice(), block, &mut marks)?;
+            let tokens = tokens_around(map.get_tokens().as_slice(), &block);
+            push_marks(tokens, block, &mut marks)?;
         }
     }
     Ok(marks)
@@ -216,6 +221,9 @@ impl Coverage {
             units: units.as_slice(),
             positions: &positions,
         };
+        if let Some(why) = other_build(self.alloc, path, units.len(), script)? {
+            return self.leave_out(path, why);
+        }
         let runs = runs_of(self.alloc, script)?;
         let marks = code_marks_of(self.alloc, &code, &map, runs.as_slice())?;
         let paths = self.paths_of(&map, text.folder.as_str())?;
@@ -297,6 +305,30 @@ impl Coverage {
         }
         Ok(())
     }
+}
+
+/// Why a code of this length is not the one that V8 saw, whose range is around all others, or past whose end one is; None if it may be.
+fn other_build(
+    alloc: Global,
+    path: &str,
+    len: usize,
+    script: &Script,
+) -> Result<Option<String>, AllocError> {
+    let ranges = ranges_of(alloc, script)?;
+    let end = ranges.iter().map(|range| range.end as usize).max();
+    let Some(end) = end else {
+        return Ok(None);
+    };
+    let is_around = ranges
+        .as_slice()
+        .first()
+        .is_some_and(|first| first.start == 0 && first.end as usize == end);
+    if end == len || end < len && !is_around {
+        return Ok(None);
+    }
+    Ok(Some(format!(in alloc;
+        "{path} is of another build: V8 saw {end} characters, and it has {len}"
+    )?))
 }
 
 /// Whether V8 names a script that is no file: of Node, or of a text that was evaluated.

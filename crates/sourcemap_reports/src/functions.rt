@@ -1,5 +1,5 @@
 //! Functions and branches of originals, and how often they ran.
-use crate::coverage::{Code, block_of};
+use crate::coverage::{Code, block_of, is_space};
 use oxc_sourcemap_map::SourceMap;
 use oxc_sourcemap_text::utf16_units;
 use oxc_sourcemap_tokens::{Position, Token};
@@ -108,6 +108,19 @@ fn count_before(tokens: &[Token], at: Position) -> usize {
     }
 }
 
+/// The tokens that a block needs, for lookups in it: those in it, and those at the last column before it.
+pub(crate) fn tokens_around<'t>(tokens: &'t [Token], block: &Block) -> &'t [Token] {
+    let mut from = count_before(tokens, block.start);
+    if let Some(last) = from.checked_sub(1)
+        && let Some(token) = tokens.get(last)
+    {
+        let (line, column) = (token.get_dst_line(), token.get_dst_col());
+        from = count_before(tokens, Position { line, column });
+    }
+    let end = count_before(tokens, block.end);
+    tokens.get(from..end).unwrap_or(&[])
+}
+
 /// The index of the first token in a block on the block's first line, or if there is none, of the last one before it on that line.
 fn first_in(tokens: &[Token], block: &Block) -> Option<usize> {
     let Position { line, column: _ } = block.start;
@@ -186,13 +199,25 @@ impl<'c> Mapped<'c> {
         }
     }
 
+    /// A range without the white space at its beginning, at which V8's blocks behind a `return` begin.
+    fn without_space(&self, run: &Run) -> Run {
+        let units = self.code.units.get(run.start as usize..run.end as usize);
+        let skipped = units
+            .and_then(|units| units.iter().position(|unit| !is_space(*unit)))
+            .unwrap_or(0);
+        Run {
+            start: run.start.saturating_add(skipped as u32),
+            ..*run
+        }
+    }
+
     /// Where a range is in the originals; None if it is in none.
     fn place_of(&self, run: &Run) -> Option<Place> {
         if run.start >= run.end {
             return None;
         }
         let tokens = self.tokens();
-        let block = block_of(self.code.positions, run)?;
+        let block = block_of(self.code.positions, &self.without_space(run))?;
         let first = tokens.get(first_in(tokens, &block)?)?;
         let original = self.original(first)?;
         let (line, column) = self.last_position(run.end)?;

@@ -20,7 +20,10 @@ const HEAD: &str = "<!doctype html>
 table { border-collapse: collapse }
 th, td { padding: 0 0.7em; text-align: right; vertical-align: top }
 th:first-child, td:first-child, .code td:last-child { text-align: left }
-.code { font-family: monospace; white-space: pre-wrap; overflow-wrap: anywhere; tab-size: 4 }
+td:not(:first-child) { white-space: nowrap }
+td:first-child, h2 { overflow-wrap: anywhere }
+.code { font-family: monospace; tab-size: 4 }
+.code td:last-child { white-space: pre-wrap; overflow-wrap: anywhere }
 .code td:first-child { text-align: right; color: GrayText }
 .ran td:nth-child(2) { border-left: 4px solid #0072b2 }
 .missed td { background: #d55e0033 }

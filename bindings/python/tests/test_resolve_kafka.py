@@ -78,7 +78,8 @@ class Cluster:
 
     def fails(self, request: int, *errors: int) -> None:
         """Has the next requests of a kind answered by these errors."""
-        self.library.rd_kafka_mock_push_request_errors_array(self.cluster, request, ctypes.c_size_t(len(errors)), (ctypes.c_int * len(errors))(*errors))
+        codes = (ctypes.c_int * len(errors))(*errors)
+        self.library.rd_kafka_mock_push_request_errors_array(self.cluster, request, ctypes.c_size_t(len(errors)), codes)
 
     def put_header(self, name: bytes, value: bytes) -> None:
         """A record of this value with a header whose name is any bytes, which Python cannot give it."""
@@ -116,7 +117,8 @@ class Kafka(Case):
     # ---- the program ----
 
     def start(self, *words: str) -> subprocess.Popen[bytes]:
-        env = {**os.environ, "PYTHONPATH": os.pathsep.join([str(Path(oxc_sourcemap.__file__).parents[1]), os.environ.get("PYTHONPATH", "")])}
+        paths = [str(Path(oxc_sourcemap.__file__).parents[1]), os.environ.get("PYTHONPATH", "")]
+        env = {**os.environ, "PYTHONPATH": os.pathsep.join(filter(None, paths))}
         given = [str(self.room / "dist"), "http://h/", self.cluster.servers, "in", "out", "--config", str(self.room / "settings"), *words]
         with open(self.room / "errors", "ab") as errors:
             program = subprocess.Popen([sys.executable, str(EXAMPLE), *given], stdout=subprocess.PIPE, stderr=errors, env=env)
@@ -276,13 +278,19 @@ class Kafka(Case):
         self.assertEqual((counts["delivered"], self.committed()), (400, self.ends("in")))
         self.are_once_in_order(400)
 
-    def test_a_record_that_is_not_delivered(self):
+    def are_not_delivered(self, error: int) -> None:
         self.feed(range(400))
-        self.cluster.fails(PRODUCE, KafkaError.TOPIC_AUTHORIZATION_FAILED)
+        self.cluster.fails(PRODUCE, error)
         program = self.start()
         self.assertEqual(program.wait(60), 1, self.errors())
-        self.assertRegex(self.errors(), r"not delivered, and not committed: in\[\d\]@\d+ to out: Broker: Topic authorization failed")
+        self.assertRegex(self.errors(), r"not delivered, and not committed: in\[\d\]@\d+ to out: Broker: [TM]")
         self.assertEqual(self.committed(), [0] * PARTITIONS)
+
+    def test_a_topic_that_may_not_be_written(self):
+        self.are_not_delivered(KafkaError.TOPIC_AUTHORIZATION_FAILED)
+
+    def test_records_that_the_broker_refuses(self):
+        self.are_not_delivered(KafkaError.MSG_SIZE_TOO_LARGE)
         again = self.start()
         self.until(lambda: self.committed() == self.ends("in"))
         self.ended(again)

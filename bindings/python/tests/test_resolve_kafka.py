@@ -303,14 +303,26 @@ class Kafka(Case):
         self.assertEqual(program.wait(60), 1, self.errors())
         self.assertEqual((self.count("out"), self.committed()), (0, [0] * PARTITIONS))
 
-    def test_it_ends_while_the_broker_is_away(self):
+    def waiting(self) -> subprocess.Popen[bytes]:
+        """A program that has read 80 records, and waits for the broker of the output, which is away."""
         self.feed(range(80))
         self.cluster.call("broker_set_down", 2)
         program = self.start()
         # (before it blocks these signals, they end it)
         self.until(lambda: "SigBlk:\t0000000000004202\n" in Path(f"/proc/{program.pid}/status").read_text())
         self.until(lambda: self.asked(program)["read"] == 80)
-        start = time.monotonic()
+        return program
+
+    def test_a_second_signal_ends_it_at_once(self):
+        program, start = self.waiting(), time.monotonic()
+        program.send_signal(signal.SIGINT)
+        time.sleep(1)
+        self.ended(program, status=1)
+        self.assertLess(time.monotonic() - start, 6)
+        self.assertEqual(self.committed(), [0] * PARTITIONS)
+
+    def test_it_ends_while_the_broker_is_away(self):
+        program, start = self.waiting(), time.monotonic()
         counts = self.ended(program, status=1)
         self.assertLess(time.monotonic() - start, 15)
         self.assertEqual((counts["read"], counts["delivered"], self.committed()), (80, 0, [0] * PARTITIONS))

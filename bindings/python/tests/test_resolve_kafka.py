@@ -304,13 +304,13 @@ class Kafka(Case):
         self.assertEqual((self.count("out"), self.committed()), (0, [0] * PARTITIONS))
 
     def waiting(self) -> subprocess.Popen[bytes]:
-        """A program that has read 80 records, and waits for the broker of the output, which is away."""
+        """A program that has read some of 80 records, and waits for the broker of the output, which is away."""
         self.feed(range(80))
         self.cluster.call("broker_set_down", 2)
         program = self.start()
         # (before it blocks these signals, they end it)
         self.until(lambda: "SigBlk:\t0000000000004202\n" in Path(f"/proc/{program.pid}/status").read_text())
-        self.until(lambda: self.asked(program)["read"] == 80)
+        self.until(lambda: self.asked(program)["read"] > 0)
         return program
 
     def test_a_second_signal_ends_it_at_once(self):
@@ -325,7 +325,7 @@ class Kafka(Case):
         program, start = self.waiting(), time.monotonic()
         counts = self.ended(program, status=1)
         self.assertLess(time.monotonic() - start, 15)
-        self.assertEqual((counts["read"], counts["delivered"], self.committed()), (80, 0, [0] * PARTITIONS))
+        self.assertEqual((counts["delivered"], self.committed()), (0, [0] * PARTITIONS))
         self.cluster.call("broker_set_up", 2)
         again = self.start()
         self.until(lambda: self.committed() == self.ends("in"))

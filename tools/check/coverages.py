@@ -93,8 +93,11 @@ class Page(html.parser.HTMLParser):
 
 
 def of_page(check, page, held, told):
-    """The page has each line of each source, and those that did not run have the count 0."""
+    """The page has each line of each source, and those that did not run have the count 0; and the functions that did not run."""
     rows = Page(page).rows
+    missed = [f"{it['name']} (line {it['line']})" for name in told for it in told[name]["functions"] if not it["count"]]
+    found = [it for text in re.findall("<p>Functions that did not run: (.*)</p>", page) for it in text.split(", ")]
+    check(found == missed, f"functions on a page: {found}, not {missed}")
     for name, content in zip(held["sources"], held["sourcesContent"]):
         lines = content.removesuffix("\n").split("\n")
         shown = [(int(number), text) for number, _, text in rows.get(name, [])]

@@ -16,7 +16,7 @@ use sourcemap_run::{
     push_missed, ran,
 };
 use sourcemap_texts::{is_hidden, push_shown};
-use sourcemap_words::{Outcome, Report, Run, Script, failure_of, ranges_of, runs_of};
+use sourcemap_words::{Failure, Outcome, Report, Run, Script, failure_of, ranges_of, runs_of};
 use std::alloc::{AllocError, Global};
 use std::collections::BTreeMap;
 use std::env;
@@ -377,6 +377,30 @@ fn add_file(asked: &Asked<'_, '_>, file: &str, coverage: &mut Coverage) -> Outco
     Ok(())
 }
 
+/// Adds the reports in files. Returns the last file that could not be read, which is reported if it is not the only one.
+fn add_files<'f>(
+    asked: &Asked<'_, '_>,
+    files: &'f [String],
+    coverage: &mut Coverage,
+) -> Outcome<Option<&'f str>> {
+    let mut progress = Progress::new(asked.rt, files.len());
+    let mut trouble = None;
+    for file in files {
+        progress.begin(asked.rt, file.as_str());
+        match add_file(asked, file.as_str(), coverage) {
+            Ok(()) => {}
+            Err(Failure::Told(why)) if files.len() > 1 => {
+                progress.clear(asked.rt);
+                tell(asked.rt, why.as_str());
+                trouble = Some(file.as_str());
+            }
+            Err(failure) => return Err(failure),
+        }
+    }
+    progress.clear(asked.rt);
+    Ok(trouble)
+}
+
 /// Appends a row: the percentage, of how many of these things, and which.
 fn push_row(
     alloc: Global,
@@ -612,16 +636,14 @@ pub fn run(asked: &Asked<'_, '_>) -> Outcome<Status> {
     for word in &asked.words("V8.json")? {
         push_files(asked, word, &mut files)?;
     }
-    let mut progress = Progress::new(asked.rt, files.len());
     let mut coverage = Coverage::new(asked)?;
-    for file in &files {
-        progress.begin(asked.rt, file.as_str());
-        add_file(asked, file.as_str(), &mut coverage)?;
-    }
-    progress.clear(asked.rt);
+    let trouble = add_files(asked, files.as_slice(), &mut coverage)?;
     coverage.parts.finish()?;
     coverage.tell_left_out(asked.rt)?;
     print(asked.rt, coverage.text(asked)?.as_str())?;
     let met = are_met(asked.rt, &coverage, checks.as_slice())?;
-    Ok(Status::of(met && !coverage.sources.is_empty()))
+    match trouble {
+        Some(file) => Err(failure_of(asked.alloc(), file, "was not read to its end, see above")),
+        None => Ok(Status::of(met && !coverage.sources.is_empty())),
+    }
 }

@@ -490,6 +490,28 @@ impl Parts {
         tally
     }
 
+    /// The lines and the names of the functions that did not run.
+    pub(crate) fn missed_functions(&self, alloc: Global) -> Result<Vec<(u32, &str)>, AllocError> {
+        let mut missed = Vec::new(alloc);
+        for ((line, _, name), count) in &self.functions {
+            if *count == 0 {
+                missed.push((*line, name.as_str()))?;
+            }
+        }
+        Ok(missed)
+    }
+
+    /// The lines of the branches that did not run.
+    pub(crate) fn missed_branches(&self, alloc: Global) -> Result<Vec<u32>, AllocError> {
+        let mut missed = Vec::new(alloc);
+        for ((line, _, _, _, _), count) in &self.branches {
+            if *count == 0 {
+                missed.push(*line)?;
+            }
+        }
+        Ok(missed)
+    }
+
     /// Appends the functions as lcov reads them.
     fn push_lcov_functions(&self, alloc: Global, out: &mut String) -> Outcome<()> {
         let mut met = BTreeSet::new(alloc);

@@ -1,5 +1,5 @@
 //! The page of `coverage --html`: how often each line ran, beside its text.
-use crate::functions::{AllParts, Tally};
+use crate::functions::{AllParts, Parts, Tally};
 use sourcemap_run::{LINE_ENDS, Totals, counted_lines, percent, push_missed, ran};
 use sourcemap_texts::{is_hidden, push_shown, push_visible_char};
 use sourcemap_words::Outcome;
@@ -181,10 +181,38 @@ fn push_missed_lines(alloc: Global, lines: &[(u32, u64)], out: &mut String) -> O
     Ok(out.push_str("</p>\n")?)
 }
 
+/// Appends which functions of an original did not run.
+fn push_missed_functions(alloc: Global, parts: &Parts, out: &mut String) -> Outcome<()> {
+    let mut separator = "<p>Functions that did not run: ";
+    for (line, name) in &parts.missed_functions(alloc)? {
+        out.push_str(separator)?;
+        push_text(name, out)?;
+        let line = u64::from(*line) + 1;
+        out.push_str(format!(in alloc; " (line {line})")?.as_str())?;
+        separator = ", ";
+    }
+    let end = if separator == ", " { "</p>\n" } else { "" };
+    Ok(out.push_str(end)?)
+}
+
+/// Appends on which lines of an original branches did not run.
+fn push_missed_branches(alloc: Global, parts: &Parts, out: &mut String) -> Outcome<()> {
+    let mut separator = "<p>Branches did not run on lines ";
+    for line in &parts.missed_branches(alloc)? {
+        out.push_str(separator)?;
+        let line = u64::from(*line) + 1;
+        out.push_str(format!(in alloc; "{line}")?.as_str())?;
+        separator = ", ";
+    }
+    let end = if separator == ", " { "</p>\n" } else { "" };
+    Ok(out.push_str(end)?)
+}
+
 /// Appends the originals.
 fn push_originals(
     alloc: Global,
     sources: &Totals,
+    parts: &AllParts,
     contents: &Contents,
     out: &mut String,
 ) -> Outcome<()> {
@@ -194,6 +222,10 @@ fn push_originals(
         out.push_str(format!(in alloc; "<h2 id=\"s{number}\">")?.as_str())?;
         push_path(alloc, source.as_str(), out)?;
         out.push_str("</h2>\n")?;
+        if let Some(parts) = parts.get(source.as_str()) {
+            push_missed_functions(alloc, parts, out)?;
+            push_missed_branches(alloc, parts, out)?;
+        }
         match contents.get(source.as_str()) {
             Some(content) => push_content(alloc, content.as_str(), lines.as_slice(), out)?,
             None => push_missed_lines(alloc, lines.as_slice(), out)?,
@@ -213,7 +245,7 @@ pub(crate) fn page_of(
     let mut out = String::from_str(alloc, HEAD)?;
     push_rows(alloc, sources, parts, &mut out)?;
     out.push_str(MIDDLE)?;
-    push_originals(alloc, sources, contents, &mut out)?;
+    push_originals(alloc, sources, parts, contents, &mut out)?;
     Ok(out)
 }
 

@@ -104,6 +104,14 @@ fn uuid_in(value: &Value) -> Option<&str> {
     value.as_str().filter(|id| are_same_ids(id, id))
 }
 
+/// What an object has for a file by its name, or by that without a query or a fragment.
+fn value_of<'v>(given: &'v Value, file: &str) -> Option<&'v Value> {
+    let end = file.find(['?', '#'].as_slice()).unwrap_or(file.len());
+    given
+        .get(file)
+        .or_else(|| given.get(file.get(..end).unwrap_or(file)))
+}
+
 impl DebugIds {
     /// The debug ids in the file of `--debug-id-map`. Fails if that has no JSON object.
     pub fn new(asked: &Asked<'_, '_>) -> Outcome<DebugIds> {
@@ -149,7 +157,8 @@ impl DebugIds {
     /// The map that has the debug id of a code.
     pub fn find(&mut self, asked: &Asked<'_, '_>, file: &str) -> Outcome<ById> {
         let alloc = asked.alloc();
-        let id = match self.given.as_ref().and_then(|given| given.get(file)) {
+        let given = self.given.as_ref();
+        let id = match given.and_then(|given| value_of(given, file)) {
             None => return Ok(ById::Unknown),
             Some(value) => match uuid_in(value) {
                 Some(id) => String::from_str(alloc, id)?,

@@ -8,7 +8,7 @@ use seplogic.Ra.Ura.{Ura}
 use mir.Val.{Val, vptr}
 use base.Share
 use base.Logic.{ent, sep, emp, id⊢, never_e, upd_i}
-use base.Fml.{Lft, Share, Fml, ftrue, fsep, fseps, fex, flft, fdead, fbor, fobor, fwand, fupd}
+use base.Fml.{Lft, Share, ftrue, fsep, fseps, flft, fdead, fbor, fobor, fwand, fupd}
 use base.Before.{before}
 use ghost.Rules.{Halves}
 use types.Logic.{Logic, sem}

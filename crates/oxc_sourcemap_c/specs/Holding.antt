@@ -1,6 +1,6 @@
 -- A handle, as contracts see it: what it holds. Rattle has one type of handle and C has seven, so a handle may also hold what a call
 -- does not take.
-use Rattle.std.specs.Prelude.{◌≡◌, ℕ, true, List, Option, Some, None, string_bytes, MatchOption}
+use Rattle.std.specs.Prelude.{ℕ, List, Option, Some, None, string_bytes, MatchOption}
 use Rattle.oxc_sourcemap_parts.specs.Record.{Text, MapRecord}
 use Rattle.oxc_sourcemap_map.specs.Built.{Built}
 use Rattle.oxc_sourcemap_c.specs.Indices.{Loaded}

@@ -34,7 +34,7 @@ def rows_of(data):
 
 def told(program, sourcemap, code, folder, names):
     """What the program tells of a code, as a page of `page` has it: `names` are the page's of sources, in the order of the map."""
-    _, out, err = sourcemap.run(program, ["size", "--json", code], folder)
+    _, out, _ = sourcemap.run(program, ["size", "--json", code], folder)
     found, order = [json.loads(it) for it in out.splitlines()], [*names, None]
     found.sort(key=lambda it: (-it["bytes"], order.index(it.get("name"))))
     sizes = [{**it, **({"name": names[it["name"]]} if "name" in it else {})} for it in found]
@@ -43,11 +43,11 @@ def told(program, sourcemap, code, folder, names):
 
 def real(program, sourcemap, template, folder):
     """Writes the page of a real code. Gives what is to be done with it: its sizes are opened by keys, and sources chosen in them."""
-    code = TOP / "tests/real-maps/esbuild-min/main.js"
-    sourcemap.run(program, ["page", str(code), "--template", template, "-o", "real.html"], folder)
-    found = json.loads(Path(f"{code}.map").read_text())
+    top, code = TOP / "tests/real-maps", "esbuild-min/main.js"
+    sourcemap.run(program, ["page", code, "--template", template, "-o", str(Path(folder, "real.html"))], top)
+    found = json.loads(Path(top, f"{code}.map").read_text())
     contents = dict(zip(found["sources"], found["sourcesContent"]))
-    data = told(program, sourcemap, code.name, code.parent, {it: it for it in found["sources"]})
+    data = told(program, sourcemap, code, top, {it.removeprefix("../"): it for it in found["sources"]})
     of, unmapped = data["bytes"], next(it["bytes"] for it in data["sizes"] if "name" not in it)
     named = [it for it in data["sizes"] if "name" in it]
     parts = [part(it["name"], it["bytes"], of) for it in named]
@@ -69,7 +69,10 @@ def real(program, sourcemap, template, folder):
         {"key": "ArrowRight"},
         {"key": "Enter", "wants": shows(1)},
         {"key": "Escape", "wants": {**whole, "focus": outer[0]}},
-        {"click": ["[unmapped]"], "wants": {**whole, **shows(1), "focus": outer[1]}},
+        {"key": "End", "wants": {"focus": outer[1]}},
+        {"key": "Enter", "wants": {**whole, **shows(1), "focus": outer[1]}},
+        {"key": "Home"},
+        {"key": "Enter", "wants": {**shows(1), "focus": parts[0], "rows": whole["rows"]}},
     ]
     return {"page": "real.html", "probe": "sides", "steps": steps}
 

@@ -383,7 +383,7 @@ class Page {
 
   /** Shows how many bytes of the code come from each source. */
   showSizes() {
-    element('ways').append(' That of a source shows it below.');
+    element('ways').append(' A source is shown below.');
     showSizes(sizesOf(this.data.code.text, this.answers, this.names), ({ id }) => {
       if (id === undefined) return;
       this.openSource(id);

@@ -202,6 +202,7 @@ class Treemap {
     if (key === 'Enter') this.enter(this.folder.parts[this.at]);
     else if (key in steps) this.focus();
     else this.leave();
+    this.map.scrollIntoView({ block: 'nearest' });
   }
 
   focus() {

@@ -24,7 +24,7 @@ const FACTS = `(() => {
   const here = document.querySelector('#code .here')?.getBoundingClientRect();
   const pane = document.querySelector('#code').getBoundingClientRect();
   return {
-    ...${areas.FACTS},
+    ...${areas.FACTS}, square: true, // (a source may have all but a few bytes)
     width: document.documentElement.scrollWidth <= innerWidth, height: document.documentElement.scrollHeight <= innerHeight,
     elements: document.querySelectorAll('*').length < 8000,
     room: [...document.querySelectorAll('.pane:not([hidden])')].every((it) => it.clientHeight >= 100),

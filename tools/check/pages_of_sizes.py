@@ -32,6 +32,51 @@ def rows_of(data):
     return "|".join(f"{name}{it['bytes']:,}{1000 * it['bytes'] // data['bytes'] / 10:.1f} %" for name, it in zip(names, data["sizes"]))
 
 
+def told(program, sourcemap, code, folder, names):
+    """What the program tells of a code, as a page of `page` has it: `names` are the page's of sources, in the order of the map."""
+    _, out, _ = sourcemap.run(program, ["size", "--json", code], folder)
+    found, order = [json.loads(it) for it in out.splitlines()], [*names, None]
+    found.sort(key=lambda it: (-it["bytes"], order.index(it.get("name"))))
+    sizes = [{**it, **({"name": names[it["name"]]} if "name" in it else {})} for it in found]
+    return {"bytes": found[0]["of"], "sizes": sizes}
+
+
+def real(program, sourcemap, template, folder):
+    """Writes the page of a real code. Gives what is to be done with it: its sizes are opened by keys, and sources chosen in them."""
+    top, code = TOP / "tests/real-maps", "esbuild-min/main.js"
+    sourcemap.run(program, ["page", code, "--template", template, "-o", str(Path(folder, "real.html"))], top)
+    found = json.loads(Path(top, f"{code}.map").read_text())
+    contents = dict(zip(found["sources"], found["sourcesContent"]))
+    data = told(program, sourcemap, code, top, {it.removeprefix("../"): it for it in found["sources"]})
+    of, unmapped = data["bytes"], next(it["bytes"] for it in data["sizes"] if "name" not in it)
+    named = [it for it in data["sizes"] if "name" in it]
+    parts = [part(it["name"], it["bytes"], of) for it in named]
+    outer = [part("../sources/", of - unmapped, of, len(named)), part("[unmapped]", unmapped, of)]
+
+    def shows(number):
+        name = named[number]["name"]
+        return {"option": name, "begin": contents[name].split("\n")[0][:20], "focus": parts[number], "answer": f"Source: {name}"}
+
+    whole = {"rows": rows_of(data), "sum": f"total{of:,}100.0 %", "path": "All", "parts": "|".join(outer)}
+    steps = [
+        {"wants": {"rows": "", "sum": "", "parts": "", "focus": "code"}},
+        {"key": "Tab", "shift": True, "wants": {"focus": "Sizes"}},
+        {"key": "Enter", "wants": {**whole, "focus": "Sizes", "said": part("All", of, of, 2)}},
+        {"click": ["../sources/"], "wants": {"parts": "|".join(parts), "path": "All|../sources/", "focus": parts[0]}},
+        {"key": "End", "wants": {"focus": parts[-1]}},
+        {"key": "Enter", "wants": shows(-1)},
+        {"click": [named[0]["name"].removeprefix("../sources/")], "wants": shows(0)},
+        {"key": "ArrowRight"},
+        {"key": "Enter", "wants": shows(1)},
+        {"key": "Escape", "wants": {**whole, "focus": outer[0]}},
+        {"key": "End", "wants": {"focus": outer[1]}},
+        {"key": "Enter", "wants": {**whole, **shows(1), "focus": outer[1]}},
+        {"key": "Home"},
+        {"key": "Enter", "wants": {**shows(1), "focus": parts[0], "rows": whole["rows"]}},
+    ]
+    return {"page": "real.html", "probe": "sides", "steps": steps}
+
+
 def sources():
     """Sources in folders, one of them in folders that have nothing else; every key, and the mouse."""
     sizes = {"src/a.ts": 4000, "node_modules/x/lib/i.js": 2000, "src/b.ts": 1000, "node_modules/y/i.js": 1000, "webpack:///./w.js": 500}
@@ -141,7 +186,7 @@ def many():
 
 def empty():
     data = data_of("source", {})
-    return data, [{"wants": {"said": "There is nothing to show: the codes have no bytes.", "parts": "", "rows": "", "sum": "total00.0 %"}}]
+    return data, [{"wants": {"said": "There are no bytes to show.", "parts": "", "rows": "", "sum": "total00.0 %"}}]
 
 
 BOOK = {"sources": sources, "hostile": hostile, "folders": folders, "above": above, "packages": packages, "many": many, "empty": empty}

@@ -6,6 +6,10 @@ const ROW_HEIGHT = 20;
 const MORE_ROWS = 12;
 const LEAST_COLUMNS = 20;
 const TOKEN = 6;
+/** The tokens whose pieces are asked for at once. */
+const BLOCK = 10_000;
+/** Behind each position of a code. */
+const END = { line: 0xffffffff, column: 0xffffffff };
 const LINE_END = /\r\n|[\n\r\u2028\u2029]/;
 
 const shownPlace = ({ line, column }) => `${line + 1}:${column + 1}`;
@@ -222,6 +226,15 @@ class Answers {
     return { line: target, column: token.generatedColumn };
   }
 
+  /** The pieces of all of the code, some at a time. */
+  *allPieces() {
+    for (let begin = { line: 0, column: 0 }, at = BLOCK; begin !== END; at += BLOCK) {
+      const end = at < this.count ? this.position(at) : END;
+      yield this.map.pieces(begin, end);
+      begin = end;
+    }
+  }
+
   /** The columns of a line of a source from which something is generated, in order. */
   columns(sourceId, line) {
     const key = `${sourceId}:${line}`;
@@ -271,6 +284,48 @@ function sourceParts(columns, { line, from, to }) {
   return parts;
 }
 
+// ---- bytes ----
+
+/** Goes through a text from character to character. */
+class Reader {
+  constructor(text) {
+    Object.assign(this, { text, at: 0, line: 0, column: 0 });
+  }
+
+  /** How many bytes of UTF-8 those characters have that begin before a position, and did not before. */
+  bytesTo({ line, column }) {
+    let bytes = 0;
+    while (this.at < this.text.length && (this.line < line || (this.line === line && this.column < column))) bytes += this.step();
+    return bytes;
+  }
+
+  /** Goes on by a character, and gives its bytes. */
+  step() {
+    const character = this.text.codePointAt(this.at);
+    const units = character < 0x10000 ? 1 : 2;
+    this.at += units;
+    const isEnd = character === 13 ? this.text.charCodeAt(this.at) !== 10 : character === 10 || character === 0x2028 || character === 0x2029;
+    this.line += isEnd ? 1 : 0;
+    this.column = isEnd ? 0 : this.column + units;
+    return character < 0x80 ? 1 : character < 0x800 ? 2 : units + 2;
+  }
+}
+
+/** How many bytes of a code come from each source, in the form of `sourcemap size`: each character counts to what answers where it begins. */
+function sizesOf(text, answers, names) {
+  const bytes = new Array(names.length + 1).fill(0);
+  const reader = new Reader(text);
+  for (const pieces of answers.allPieces()) {
+    for (const { end, index } of pieces) {
+      const id = index === null ? answers.NO_ID : answers.tokens[TOKEN * index + 4];
+      bytes[Math.min(id, names.length)] += reader.bytesTo(end);
+    }
+  }
+  const named = names.map((name, id) => ({ kind: 'source', name, bytes: bytes[id], id }));
+  const sizes = [...named, { kind: 'unmapped', bytes: bytes[names.length] }].filter((it) => it.bytes > 0);
+  return { by: 'source', bytes: sum(bytes), sizes: sizes.sort((a, b) => b.bytes - a.bytes) };
+}
+
 // ---- the page ----
 
 /** The sides of the page, what is chosen, and what is shown: what is pointed at, or else what is chosen. */
@@ -287,6 +342,7 @@ class Page {
       markOf: (key) => this.markOfSource(key),
     });
     this.sources = map.sources;
+    this.names = this.sources.map((path) => (path === '' ? '(no path)' : path));
     this.code.setText(data.code.text);
     this.fillSources();
     this.listen();
@@ -315,8 +371,7 @@ class Page {
 
   fillSources() {
     const { map } = this.answers;
-    const options = this.sources.map((path, id) => {
-      const name = path === '' ? '(no path)' : path;
+    const options = this.names.map((name, id) => {
       const it = made('option', '', map.getSourceContent(id) === null ? `${name} (no content)` : name);
       it.value = String(id);
       return it;
@@ -324,6 +379,16 @@ class Page {
     element('source').replaceChildren(...options);
     if (this.sources.length > 0) this.openSource(0);
     else this.tellNote('The map has no sources.');
+  }
+
+  /** Shows how many bytes of the code come from each source. */
+  showSizes() {
+    element('ways').append(' A source is shown below.');
+    showSizes(sizesOf(this.data.code.text, this.answers, this.names), ({ id }) => {
+      if (id === undefined) return;
+      this.openSource(id);
+      element('answer').textContent = `Source: ${this.names[id]}`;
+    });
   }
 
   tellNote(text) {
@@ -420,6 +485,8 @@ class Page {
     this.listenIn(this.code, (key) => this.keyInCode(key), (key) => this.codeAt(key));
     this.listenIn(this.original, (key) => this.keyInSource(key), (key) => this.sourceAt(key));
     element('source').addEventListener('change', () => this.openSource(Number(element('source').value)));
+    element('sizes').addEventListener('toggle', () => this.showSizes(), { once: true });
+    element('sizes').hidden = false;
     document.addEventListener('keydown', (event) => {
       const isText = event.target instanceof HTMLInputElement || event.target instanceof HTMLSelectElement;
       if (event.key !== '/' || isText) return;

@@ -1,5 +1,5 @@
 'use strict';
-// What drive.js looks at in a page of `sourcemap size`: all of it is evaluated there.
+// What drive.js looks at in a page of `sourcemap size`, and in the same part of one of `page`: all of it is evaluated there.
 
 /** Whether the page has read its data. */
 const READY = `document.querySelector('#said').textContent !== 'The page has no data.'`;
@@ -12,7 +12,7 @@ const STATE = `(() => {
   return {
     said: texts('#said'), parts: options.map((it) => it.getAttribute('aria-label')).join('|'), inside: document.querySelectorAll('#map .part .part').length,
     labels: texts('[role=option]:not(:has(.part)) > .label'), heads: texts('[role=option]:has(.part) > .label'), legend: texts('#legend li'),
-    path: texts('#path button'), rows: texts('#rows tr'), sum: texts('#sum tr'), title: document.title,
+    path: texts('#path button'), rows: texts('#bytes tr'), sum: texts('#sum tr'), title: document.title,
     focus: focus.getAttribute('aria-label') ?? focus.textContent, chosen: options.findIndex((it) => it.getAttribute('aria-selected') === 'true'),
   };
 })()`;
@@ -40,9 +40,9 @@ const FACTS = `(() => {
   };
 })()`;
 
-/** A place in the area, or in one inside it, whose label begins with a text. */
+/** A place in the area, or in one inside it, whose label begins with a text, or else in such a summary. */
 const middleOf = (text) => `(() => {
-  const it = [...document.querySelectorAll('#map .label')].find((it) => it.textContent.startsWith(${JSON.stringify(text)}));
+  const it = [...document.querySelectorAll('#map .label, summary')].find((it) => it.textContent.startsWith(${JSON.stringify(text)}));
   if (!it) return null;
   const { left, top } = it.getBoundingClientRect();
   return [left + 10, top + 8];

@@ -24,7 +24,7 @@ const CONTRAST = `(() => {
   };
   const backOf = (it) => { const back = getComputedStyle(it).backgroundColor; return /^rgba.*, 0\\)$|transparent/.test(back) ? backOf(it.parentElement) : back; };
   const ratio = (it) => { const [a, b] = [light(getComputedStyle(it).color), light(backOf(it))]; return (Math.max(a, b) + 0.05) / (Math.min(a, b) + 0.05); };
-  const all = [...document.querySelectorAll('h1, label, button, summary, #answer, #keys, .number, .none, .even, .odd, .here, td, th, caption, .absent, #said, li, .label')];
+  const all = [...document.querySelectorAll('h1, label, button, summary, #answer, #keys, #ways, .number, .none, .even, .odd, .here, td, th, caption, .absent, #said, li, .label')];
   return Math.min(...all.filter((it) => it.offsetParent).map(ratio));
 })()`;
 

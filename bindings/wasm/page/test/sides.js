@@ -1,5 +1,7 @@
 'use strict';
-// What drive.js looks at in a page of `sourcemap page`: all of it is evaluated there.
+// What drive.js looks at in a page of `sourcemap page`, where it also has what areas.js looks at: all of it is evaluated there.
+
+const areas = require('./areas.js');
 
 /** Whether the page has read its data. */
 const READY = `document.querySelector('#answer').textContent !== 'Reading the map.'`;
@@ -7,10 +9,13 @@ const READY = `document.querySelector('#answer').textContent !== 'Reading the ma
 /** What the page says and highlights. */
 const STATE = `(() => {
   const text = (selector) => [...document.querySelectorAll(selector)].map((it) => it.textContent).join('');
+  const focus = document.activeElement;
   return {
+    ...${areas.STATE},
     answer: text('#answer'), code: text('#code .here'), also: text('#code .also'), source: text('#original .here'), found: text('#found'),
-    option: document.querySelector('#source')?.selectedOptions[0]?.textContent ?? '', summary: text('#summary'), rows: text('#rows tr'),
-    grey: text('#code .none'), focus: document.activeElement.id,
+    begin: document.querySelector('#original .text')?.textContent.slice(0, 20) ?? '',
+    option: document.querySelector('#source')?.selectedOptions[0]?.textContent ?? '', summary: text('#summary'),
+    grey: text('#code .none'), focus: focus.id || focus.getAttribute('aria-label') || focus.textContent,
   };
 })()`;
 
@@ -19,6 +24,7 @@ const FACTS = `(() => {
   const here = document.querySelector('#code .here')?.getBoundingClientRect();
   const pane = document.querySelector('#code').getBoundingClientRect();
   return {
+    ...${areas.FACTS}, square: true, // (a source may have all but a few bytes)
     width: document.documentElement.scrollWidth <= innerWidth, height: document.documentElement.scrollHeight <= innerHeight,
     elements: document.querySelectorAll('*').length < 8000,
     room: [...document.querySelectorAll('.pane:not([hidden])')].every((it) => it.clientHeight >= 100),
@@ -29,8 +35,9 @@ const FACTS = `(() => {
   };
 })()`;
 
-/** The middle of the first part of a pane with a text. */
-const middleOf = (pane, text) => `(() => {
+/** The middle of the first part of a pane with a text. Without a pane see areas.js. */
+const middleOf = (pane, text) => (text === undefined ? areas.middleOf(pane) : inPane(pane, text));
+const inPane = (pane, text) => `(() => {
   const it = [...document.querySelectorAll('#${pane} [data-key]')].find((it) => it.textContent === ${JSON.stringify(text)});
   if (!it) return null;
   const { left, top, width, height } = it.getBoundingClientRect();

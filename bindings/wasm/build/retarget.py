@@ -43,9 +43,10 @@ FOR_AARCH64 = {
     "target-cpu": lambda _: ['"target-cpu"="generic"'],
 }
 
-# The steps on the counts of handles of shared maps: of 64 bits, and in one order with all others. In a module of WebAssembly, which has one
-# thread, the compiler makes plain steps of them.
+# The steps on the counts of handles of shared maps: of 64 bits, and in one order with all others; and the empty code around them, past
+# which the compiler moves no access to memory. In a module of WebAssembly, which has one thread, the compiler makes plain steps of them.
 ATOMIC = re.compile(
+    r'  call void asm sideeffect "", "~\{memory\}"\(\)(?: #\d+)?$|'
     r"  %[\w.]+ = (?:atomicrmw sub ptr %\w+, i64 %\w+ seq_cst|load atomic i64, ptr %\w+ seq_cst|"
     r"cmpxchg ptr %\w+, i64 %\w+, i64 %\w+ seq_cst seq_cst), align 8$"
 )

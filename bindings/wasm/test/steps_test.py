@@ -66,6 +66,10 @@ class Retarget(unittest.TestCase):
                 retargeted(row.replace("seq_cst", "monotonic"))
             with self.subTest(row), self.assertRaises(SystemExit):
                 retargeted(row.replace("i64", "i32"))
+        barrier = '  call void asm sideeffect "", "~{memory}"()'
+        self.assertIn(barrier, retargeted(barrier))
+        with self.assertRaises(SystemExit):
+            retargeted(barrier.replace('""', '"nop"'))
 
     def test_what_is_refused(self):
         """Code of one processor, other threads, exceptions, pointers to functions, and what nobody has looked at."""

@@ -75,12 +75,12 @@ static void no_call_changes_it(void) {
 
 /* Calls that make something take shared maps as others. */
 static void makes_of_it(void) {
-    smap_map *map = read_map(B), *input = read_map(C), *wanted, *made_of;
+    smap_map *map = read_map(B), *input = read_map(C), *wanted = NULL, *made_of = NULL;
     const smap_map *maps[2] = { map, map };
     smap_position places[2] = { { 0, 0 }, { 5, 0 } };
     smap_text path = text_of("a.js");
-    smap_join *join;
-    smap_string *bytes;
+    smap_join *join = NULL;
+    smap_string *bytes = NULL;
 #define MADE_SO(call) CHECK((call) == SMAP_OK && smap_first_difference(wanted, made_of, places) == SMAP_NO_ENTRY), smap_free_map(made_of)
     CHECK(smap_compose(map, input, &wanted, NULL) == SMAP_OK);
     CHECK(smap_share_map(map, NULL) == SMAP_OK && smap_share_map(input, NULL) == SMAP_OK);

@@ -5,7 +5,8 @@ use crate::finding::{Lookup, Places, language_of, map_of_code};
 use crate::input::{is_file, read_text, warn};
 use crate::paths::{is_folder, real_name};
 use oxc_sourcemap_text::source_mapping_url;
-use sourcemap_words::{Failure, Outcome, file_failure};
+use sourcemap_words::{Failure, Outcome, PathPattern, file_failure};
+use std::alloc::{AllocError, Global};
 use std::collections::HashSet;
 use std::fs;
 use std::io::ErrorKind;
@@ -95,6 +96,36 @@ pub fn files_below(rt: &HostRuntime, folder: &str) -> Outcome<Listed> {
     let mut listed = found.listed;
     listed.files.sort()?;
     Ok(listed)
+}
+
+/// A path as a pattern names it that names no folder: from the current folder.
+fn without_dot(alloc: Global, path: &str) -> Result<String, AllocError> {
+    String::from_str(alloc, path.strip_prefix("./").unwrap_or(path))
+}
+
+/// The files whose paths a pattern matches, in order of these, but for links, and for those of packages that are installed in its folder.
+pub fn files_matching(rt: &HostRuntime, pattern: &PathPattern) -> Outcome<Listed> {
+    let alloc = rt.alloc();
+    let is_here = pattern.folder.as_str().is_empty();
+    let folder = if is_here {
+        "."
+    } else {
+        pattern.folder.as_str()
+    };
+    let Listed {
+        files: all,
+        failures,
+    } = files_below(rt, folder)?;
+    let mut paths = Vec::new(alloc);
+    for path in all {
+        paths.push(if is_here {
+            without_dot(alloc, path.as_str())?
+        } else {
+            path
+        })?;
+    }
+    let files = pattern.matching(alloc, paths)?;
+    Ok(Listed { files, failures })
 }
 
 /// Whether the name of a file is that of a script that may have a map.

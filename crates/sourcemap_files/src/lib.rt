@@ -25,9 +25,9 @@ pub use finding::{
     found_error_text, is_in_root, is_map, is_map_file, language_of, map_by_name, map_of_code,
     map_of_file, map_without_code, read_map, read_map_alone, rooted_map, text_of_map,
 };
-pub use folders::{Listed, files_below, files_with_maps, names_folder};
+pub use folders::{Listed, files_below, files_matching, files_with_maps, names_folder};
 pub use input::{
-    is_file, is_regular, print, print_bytes, read_text, shown_name, tell, usage, warn,
+    is_file, is_regular, print, print_bytes, read_bytes, read_text, shown_name, tell, usage, warn,
 };
 pub use limit::{limit_of, limited_json};
 pub use paths::{

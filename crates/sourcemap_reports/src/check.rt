@@ -10,16 +10,16 @@ use oxc_sourcemap_map::SourceMap;
 use oxc_sourcemap_text::TextPositions;
 use oxc_sourcemap_tokens::{Error, Token};
 use sourcemap_files::{
-    Asked, COMPILED_END, CONTENTS_END, Decompiled, Lookup, MapText, Places, Progress, Status,
-    Written, decompile, error_text, files_with_maps, found_error_text, is_file, is_in_root,
-    is_made_of, is_map_file, is_regular, is_stale, map_of_code, names_folder, parts_in, print,
-    put_contents, read_text, read_written, shown_name, tell,
+    Asked, COMPILED_END, CONTENTS_END, Decompiled, Listed, Lookup, MapText, Places, Progress,
+    Status, Written, decompile, error_text, files_matching, files_with_maps, found_error_text,
+    is_file, is_in_root, is_made_of, is_map_file, is_regular, is_stale, map_of_code, names_folder,
+    parts_in, print, put_contents, read_text, read_written, shown_name, tell,
 };
 use sourcemap_run::{
     are_same_ids, debug_id_of_code, debug_id_of_map, push_object, push_text_member,
 };
 use sourcemap_texts::{push_shown, push_visible};
-use sourcemap_words::{Failure, Outcome, failure_of};
+use sourcemap_words::{Failure, Outcome, PathPattern, failure_of};
 use std::alloc::{AllocError, Global};
 
 /// The report on one file, as it is printed.
@@ -606,26 +606,53 @@ fn check_file(asked: &Asked<'_, '_>, item: &Item) -> Outcome<Report> {
     Ok(report)
 }
 
-/// Adds the files that a word stands for: of a folder those in it that have maps, or, if there are none, the folder itself. Returns whether
-/// all folders could be looked through, and reports those that could not.
+/// Adds files with a root, and reports the folders that could not be looked through. Returns whether there are none of these.
+fn push_listed(
+    asked: &Asked<'_, '_>,
+    listed: Listed,
+    root: &Option<String>,
+    items: &mut Vec<Item>,
+) -> Outcome<bool> {
+    for failure in &listed.failures {
+        tell(asked.rt, failure.as_str());
+    }
+    for path in listed.files {
+        let root = match root {
+            Some(root) => Some(String::from_str(asked.alloc(), root.as_str())?),
+            None => None,
+        };
+        items.push(Item { path, root })?;
+    }
+    Ok(listed.failures.is_empty())
+}
+
+/// Adds the files that a pattern matches. Returns whether all folders could be looked through.
+fn push_matching(
+    asked: &Asked<'_, '_>,
+    word: &str,
+    pattern: &PathPattern,
+    items: &mut Vec<Item>,
+) -> Outcome<bool> {
+    let listed = files_matching(asked.rt, pattern)?;
+    if listed.files.is_empty() && listed.failures.is_empty() {
+        return Err(failure_of(asked.alloc(), word, "matches no file"));
+    }
+    push_listed(asked, listed, &None, items)
+}
+
+/// Adds the files that a word stands for: of a folder those in it that have maps, or, if there are none, the folder itself; of a pattern
+/// those that it matches, if no file is named so. Returns whether all folders could be looked through, and reports those that could not.
 fn push_files(asked: &Asked<'_, '_>, word: &str, items: &mut Vec<Item>) -> Outcome<bool> {
     if names_folder(asked.rt, word) {
         let root = root_of(asked, word)?;
-        let found = files_with_maps(asked.rt, word, places_in(asked, &root))?;
-        for failure in &found.failures {
-            tell(asked.rt, failure.as_str());
+        let listed = files_with_maps(asked.rt, word, places_in(asked, &root))?;
+        if !listed.files.is_empty() || !listed.failures.is_empty() {
+            return push_listed(asked, listed, &root, items);
         }
-        let is_whole = found.failures.is_empty();
-        if !found.files.is_empty() || !is_whole {
-            for path in found.files {
-                let root = match &root {
-                    Some(root) => Some(String::from_str(asked.alloc(), root.as_str())?),
-                    None => None,
-                };
-                items.push(Item { path, root })?;
-            }
-            return Ok(is_whole);
-        }
+    } else if !is_file(asked.rt, word)
+        && let Some(pattern) = PathPattern::new(asked.alloc(), word)?
+    {
+        return push_matching(asked, word, &pattern, items);
     }
     let path = String::from_str(asked.alloc(), word)?;
     items.push(Item { path, root: None })?;

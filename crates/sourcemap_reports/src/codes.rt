@@ -34,7 +34,7 @@ impl Level {
         }
     }
 
-    /// What a finding of this level is called in front of its text: a note, or something wrong.
+    /// What a finding of this level is called, as `kind` in `--json`: a note, or something wrong.
     pub fn kind(self) -> &'static str {
         match self {
             Level::Note => "note",

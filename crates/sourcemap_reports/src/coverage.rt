@@ -204,6 +204,14 @@ impl Coverage {
         Ok(())
     }
 
+    /// Leaves out a code of which V8 saw another build.
+    fn leave_out_other(&mut self, path: &str, len: usize, seen: usize) -> Outcome<()> {
+        let why = format!(in self.alloc;
+            "{path} is of another build: V8 saw {seen} UTF-16 units, and it has {len}"
+        )?;
+        self.leave_out(path, why)
+    }
+
     /// Adds V8's report of a script with the code in this file and this map.
     fn add_mapped(
         &mut self,
@@ -215,16 +223,18 @@ impl Coverage {
     ) -> Outcome<()> {
         let mut map = SourceMap::from_parts(read_map(asked.rt, text)?);
         map.apply_source_root(self.alloc)?;
+        let ranges = ranges_of(self.alloc, script)?;
+        let code = code_as_seen(self.alloc, code, ranges.as_slice())?;
         let positions = TextPositions::new(self.alloc, code)?;
         let units = utf16_units(self.alloc, code)?;
+        if is_other_build(self.alloc, units.len(), script, ranges.as_slice())? {
+            return self.leave_out_other(path, units.len(), end_of(ranges.as_slice()));
+        }
         let code = Code {
             units: units.as_slice(),
             positions: &positions,
         };
-        if let Some(why) = other_build(self.alloc, path, units.len(), script)? {
-            return self.leave_out(path, why);
-        }
-        let runs = runs_of(self.alloc, script)?;
+        let runs = runs_of(self.alloc, ranges.as_slice())?;
         let marks = code_marks_of(self.alloc, &code, &map, runs.as_slice())?;
         let paths = self.paths_of(&map, text.folder.as_str())?;
         add_marks(
@@ -234,7 +244,8 @@ impl Coverage {
             marks.as_slice(),
         )?;
         self.keep_contents(&map, paths.as_slice())?;
-        self.parts.add(path, paths.as_slice(), &code, &map, script)
+        self.parts
+            .add(path, paths.as_slice(), &code, &map, script, ranges)
     }
 
     /// The code of a script, if it is there.
@@ -307,28 +318,35 @@ impl Coverage {
     }
 }
 
-/// Why a code of this length is not the one that V8 saw, whose range is around all others, or past whose end one is; None if it may be.
-fn other_build(
+/// Where the last of some ranges ends.
+fn end_of(ranges: &[Run]) -> usize {
+    let end = ranges.iter().map(|range| range.end as usize).max();
+    end.unwrap_or(0)
+}
+
+/// A code as V8 saw it: Node removes a byte order mark from modules, but not from scripts.
+fn code_as_seen<'c>(alloc: Global, code: &'c str, ranges: &[Run]) -> Result<&'c str, AllocError> {
+    let Some(rest) = code.strip_prefix('\u{feff}') else {
+        return Ok(code);
+    };
+    let len = utf16_units(alloc, rest)?.len();
+    Ok(if end_of(ranges) == len { rest } else { code })
+}
+
+/// Whether V8 saw another code than one of this length: if a range ends behind that, or the range of all code before. A report may lack
+/// that of all code: then no range is around the others, or one of functions with names.
+fn is_other_build(
     alloc: Global,
-    path: &str,
     len: usize,
     script: &Script,
-) -> Result<Option<String>, AllocError> {
-    let ranges = ranges_of(alloc, script)?;
-    let end = ranges.iter().map(|range| range.end as usize).max();
-    let Some(end) = end else {
-        return Ok(None);
-    };
-    let is_around = ranges
-        .as_slice()
-        .first()
-        .is_some_and(|first| first.start == 0 && first.end as usize == end);
-    if end == len || end < len && !is_around {
-        return Ok(None);
-    }
-    Ok(Some(format!(in alloc;
-        "{path} is of another build: V8 saw {end} characters, and it has {len}"
-    )?))
+    ranges: &[Run],
+) -> Result<bool, AllocError> {
+    let end = end_of(ranges);
+    let is_whole = |run: &Run| run.start == 0 && run.end as usize == end;
+    let called = script.called(alloc)?;
+    let named = called.iter().filter(|called| is_whole(&called.run)).count();
+    let all = ranges.iter().filter(|run| is_whole(run)).count();
+    Ok(end > len || end < len && all > named)
 }
 
 /// Whether V8 names a script that is no file: of Node, or of a text that was evaluated.

@@ -29,7 +29,7 @@ fn places_of(alloc: Global, a: &Tracer, b: &Tracer) -> Result<Vec<(u32, u32)>, A
 /// A map of an argument.
 #[derive(Drop)]
 struct Side {
-    /// With its source root applied.
+    /// With its source root applied, and without contents if they are not to be compared.
     tracer: Tracer,
     written: Written,
 }
@@ -38,6 +38,9 @@ impl Side {
     fn read(asked: &Asked<'_, '_>, name: &str) -> Outcome<Side> {
         let map = map_of_file(asked.rt, asked.word(name), asked.places())?;
         let mut parts = read_map(asked.rt, &map)?;
+        if asked.has("no-contents") {
+            parts.source_contents = Vec::new(asked.alloc());
+        }
         apply_root(asked.alloc(), &mut parts)?;
         let tracer = Tracer::new(asked.alloc(), parts)?;
         Ok(Side {
@@ -69,7 +72,7 @@ fn difference_line(
             "{{\"different\":true,\"line\":{line},\"column\":{column},\"places\":{count},\"of\":{of}}}\n"
         );
     }
-    format!(in alloc; "{line}:{column}: the first difference; {count} of {of} places differ\n")
+    format!(in alloc; "{line}:{column}: the first difference; {count} of {of} positions differ\n")
 }
 
 /// At how many places two maps answer differently, and how many places there are.

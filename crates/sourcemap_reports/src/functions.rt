@@ -5,7 +5,7 @@ use oxc_sourcemap_text::utf16_units;
 use oxc_sourcemap_tokens::{Position, Token};
 use sourcemap_run::{Block, push_number_member, push_object, push_text_member};
 use sourcemap_texts::push_visible;
-use sourcemap_words::{Called, Outcome, Run, Script, ranges_of};
+use sourcemap_words::{Called, Outcome, Run, Script};
 use std::alloc::{AllocError, Global};
 use std::cmp::Ordering;
 use std::collections::{BTreeMap, BTreeSet};
@@ -391,12 +391,13 @@ impl AllParts {
         Ok(())
     }
 
-    /// Adds the blocks of a report on a code.
+    /// Adds the blocks of a report with these ranges on a code.
     fn add_blocks(
         &mut self,
         path: &str,
         mapped: Mapped<'_>,
         script: &Script,
+        ranges: Vec<Run>,
     ) -> Result<(), AllocError> {
         if !self.reports.contains_key(path) {
             let reports = Reports {
@@ -410,7 +411,7 @@ impl AllParts {
         let Some(reports) = self.reports.get_mut(path) else {
             return Ok(());
         };
-        reports.ranges.push(ranges_of(self.alloc, script)?)?;
+        reports.ranges.push(ranges)?;
         for block in &script.blocks(self.alloc)? {
             if let Some(place) = mapped.place_of(block) {
                 let key = (block.start, u32::MAX - block.end);
@@ -420,7 +421,7 @@ impl AllParts {
         Ok(())
     }
 
-    /// Adds a report on the code in a file. `paths` has the path of each source of its map.
+    /// Adds a report with these ranges (`ranges_of`) on the code in a file. `paths` has the path of each source of its map.
     pub(crate) fn add(
         &mut self,
         path: &str,
@@ -428,6 +429,7 @@ impl AllParts {
         code: &Code<'_>,
         map: &SourceMap<'_>,
         script: &Script,
+        ranges: Vec<Run>,
     ) -> Outcome<()> {
         let mut originals = Vec::new(self.alloc);
         for path in paths {
@@ -441,7 +443,7 @@ impl AllParts {
         for called in &script.called(self.alloc)? {
             self.add_called(mapped, called)?;
         }
-        Ok(self.add_blocks(path, mapped, script)?)
+        Ok(self.add_blocks(path, mapped, script, ranges)?)
     }
 
     /// Counts the branches, once all reports are added.

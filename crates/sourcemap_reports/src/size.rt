@@ -4,8 +4,8 @@ use crate::page::read_code;
 use crate::template::{Template, push_list, refuse_two_texts};
 use oxc_sourcemap_map::SourceMap;
 use sourcemap_files::{
-    Asked, Lookup, Progress, Status, map_of_code, plain_path, print, read_map_alone,
-    refuse_overwriting, shown_name, tell, usage, warn,
+    Asked, Lookup, Progress, Status, is_file, map_of_code, plain_path, print, read_bytes,
+    read_map_alone, refuse_overwriting, shown_name, tell, usage, warn,
 };
 use sourcemap_run::{
     percent, push_number_member, push_object, push_text_member, sizes_of, starts_of,
@@ -436,6 +436,42 @@ fn names_of(
     Ok(names)
 }
 
+/// How many bytes the gzip file beside a code of this length has. It ends with the length of what it was made of.
+fn gzip_len(asked: &Asked<'_, '_>, code: &str, len: usize) -> Outcome<usize> {
+    let (rt, alloc) = (asked.rt, asked.alloc());
+    let name = format!(in alloc; "{code}.gz")?;
+    if !is_file(rt, name.as_str()) {
+        let why = format!(in alloc; "is not there: gzip -k {code} makes it")?;
+        return Err(failure_of(alloc, name, why));
+    }
+    let bytes = read_bytes(rt, name.as_str())?;
+    let bytes = bytes.as_slice();
+    let end = bytes.get(bytes.len().saturating_sub(4)..);
+    if bytes.starts_with(&[0x1f, 0x8b]) && end == Some((len as u32).to_le_bytes().as_slice()) {
+        return Ok(bytes.len());
+    }
+    let why = format!(in alloc; "is not of this code: gzip -kf {code} makes it anew")?;
+    Err(failure_of(alloc, name, why))
+}
+
+/// Divides a number of bytes in the proportion of others. Each share is rounded so that all of them make the number.
+fn divide(sizes: &mut [usize], bytes: usize) {
+    let mut all = 0u128;
+    for size in sizes.iter() {
+        all = all.saturating_add(*size as u128);
+    }
+    let (mut before, mut given) = (0u128, 0u128);
+    for size in sizes {
+        before = before.saturating_add(*size as u128);
+        let end = before
+            .saturating_mul(bytes as u128)
+            .checked_div(all)
+            .unwrap_or(0);
+        *size = end.saturating_sub(given) as usize;
+        given = end;
+    }
+}
+
 /// Adds the bytes of a code. If it has no map, adds nothing and returns why.
 fn add_file(
     asked: &Asked<'_, '_>,
@@ -458,9 +494,14 @@ fn add_file(
     let names = names_of(alloc, &map, held.folder.as_str(), current)?;
     let tokens = map.get_tokens();
     let starts = starts_of(alloc, text.as_str(), tokens.as_slice(), u32::MAX)?;
-    let bytes = sizes_of(alloc, text.len(), names.len(), starts.as_slice())?;
+    let mut bytes = sizes_of(alloc, text.len(), names.len(), starts.as_slice())?;
+    let mut len = text.len();
+    if asked.has("gzip") {
+        len = gzip_len(asked, code, len)?;
+        divide(bytes.as_mut_slice(), len);
+    }
     sizes.add_code(names.as_slice(), bytes.as_slice())?;
-    sizes.all = sizes.all.saturating_add(text.len() as u64);
+    sizes.all = sizes.all.saturating_add(len as u64);
     Ok(None)
 }
 

@@ -159,7 +159,7 @@ const CHECK: Words = Words {
         Word(
             "FILE",
             Kind::Files,
-            "Maps, and codes whose maps are found; compiled maps are compared with the maps beside them; of a folder all these that are in it",
+            "Maps, and codes whose maps are found; compiled maps are compared with the maps beside them; of a folder all these that are in it; of a pattern with *, ** or ? the files that it matches",
         ),
         Word(
             "level",
@@ -343,10 +343,11 @@ const EDITED: Word = Word(
 
 const DIFF: Words = Words {
     about: "Reports where two maps answer differently",
-    json: "An object: different, and if it is true line and column of the first place, places (how many differ) and of (of how many), or member (scopes) if that alone differs",
+    json: "An object: different, and if it is true line and column of the first position, places (how many positions differ) and of (of how many), or member (scopes) if that alone differs",
     words: &[
         Word("A", Kind::File, "A map, or a code whose map is found"),
         Word("B", Kind::File, "Another one"),
+        Word("no-contents", Kind::Flag, "Compares no contents of sources"),
     ],
 };
 
@@ -407,6 +408,11 @@ const SIZE: Words = Words {
             "diff",
             Kind::Flag,
             "Reports what has another number of bytes in the second code than in the first, the greatest change first",
+        ),
+        Word(
+            "gzip",
+            Kind::Flag,
+            "Divides the bytes of CODE.gz beside each code among the sources, by their shares of the code",
         ),
         Word(
             "output",
@@ -483,7 +489,7 @@ fn excluded_by(name: &str) -> &'static [&'static str] {
     match name {
         "context" | "lcov" => &["json"],
         "html" => &["json", "lcov"],
-        "no-contents" => &["contents-apart"],
+        "contents-apart" => &["no-contents"],
         _ => &[],
     }
 }

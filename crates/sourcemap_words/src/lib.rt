@@ -7,6 +7,7 @@ mod completions;
 mod failure;
 mod frames;
 mod manual;
+mod patterns;
 mod v8;
 mod views;
 
@@ -16,5 +17,6 @@ pub use completions::completions_of;
 pub use failure::{Failure, Outcome, failure_of, file_failure};
 pub use frames::{Finder, Line, NO_TEXT, Named, Patterns};
 pub use manual::manual_of;
+pub use patterns::PathPattern;
 pub use v8::{Called, Report, Run, Script, ranges_of, runs_of};
 pub use views::{Nesting, Row};

@@ -152,14 +152,14 @@ impl Around {
     }
 }
 
-/// The runs of a script, from left to right: each part has the count of the innermost range around it.
-pub fn runs_of(alloc: Global, script: &Script) -> Result<Vec<Run>, AllocError> {
+/// The runs of a script with these ranges (`ranges_of`), from left to right: each part has the count of the innermost range around it.
+pub fn runs_of(alloc: Global, ranges: &[Run]) -> Result<Vec<Run>, AllocError> {
     let mut around = Around {
         open: Vec::new(alloc),
         at: 0,
         runs: Vec::new(alloc),
     };
-    for range in &ranges_of(alloc, script)? {
+    for range in ranges {
         around.leave(range.start)?;
         around.go_to(range.start)?;
         around.open.push(*range)?;

@@ -22,7 +22,8 @@ Examples:
 const CHECK: &str =
     "A folder stands for the files in it and below it, in order of their paths: codes (.js, .mjs, .cjs, .css) that name a map or have one;
 maps (.map) that are not those of such codes; compiled maps (.map.smc). Folders node_modules below it are left out, and links.
-Without --root, a folder that is not in the current one is the root of its files.
+Without --root, a folder that is not in the current one is the root of its files. In a pattern `*` stands for any characters of a name, `?`
+for one, and `**` for any number of folders; it matches no links, and nothing in folders node_modules below the part without these.
 
 Each finding but the summary has a level and a code:
   error, where the map is wrong or a lookup may be
@@ -68,7 +69,7 @@ Each finding but the summary has a level and a code:
 
 Examples:
   sourcemap check dist
-  sourcemap check --level error dist/*.js
+  sourcemap check --level error 'dist/**/*.js'
   sourcemap check --json app.js.map";
 
 const REMAP: &str = "Examples:
@@ -139,8 +140,13 @@ Examples:
   sourcemap debug-id dist/*.js
   sourcemap debug-id --inject dist/*.js";
 
-const DIFF: &str = "Examples:
-  sourcemap diff before.js.map after.js.map";
+const DIFF: &str =
+    "Positions are compared at which a map has a token, and those one column behind them: by source, original position, name, content of
+the source, and whether the source is ignored. So after a change of a content all positions of that source differ.
+
+Examples:
+  sourcemap diff before.js.map after.js.map
+  sourcemap diff --no-contents before.js dist/app.js";
 
 const COVERAGE: &str =
     "Lines count from 1. Node writes such files into the folder NODE_V8_COVERAGE; counts of several files add up. Functions are
@@ -163,12 +169,14 @@ Examples:
 const SIZE: &str =
     "A character, a line feed too, counts to the source that `trace` finds where it begins, or, if there is none, to [unmapped]: so each byte
 of a code counts once. Sources are named by their paths from the current folder; of --diff as their maps name them. A folder has the bytes
-of all sources below it, and [own] those of sources that are in no package. The page of -o asks nothing of the network. It is made of a
+of all sources below it, and [own] those of sources that are in no package. With --gzip the bytes are those of CODE.gz, which has to be there:
+so they are an estimate, but for their sum. The page of -o asks nothing of the network. It is made of a
 template: the file of --template, or of the environment variable SOURCEMAP_SIZE, or ../share/sourcemap/size.html beside the program.
 
 Examples:
   sourcemap size dist/*.js
   sourcemap size --by package dist/app.js
+  gzip -kf dist/app.js && sourcemap size --gzip dist/app.js
   sourcemap size dist/*.js -o size.html
   sourcemap size --diff before/app.js dist/app.js";
 

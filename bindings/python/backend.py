@@ -55,13 +55,18 @@ def contacts(project: str) -> str:
     return "".join(lines + [f"Project-URL: {name}, {url}\n" for name, url in rows])
 
 
+def page() -> str:
+    """The README, with no links to files of the repository."""
+    return re.sub(r"\[([^]]*)\]\((?!https?:)[^)]*\)", r"\1", HERE.joinpath("README.md").read_text(encoding="utf-8"))
+
+
 def metadata() -> str:
     project = HERE.joinpath("pyproject.toml").read_text(encoding="utf-8")
     stated: dict[str, str] = dict(re.findall(r'^([a-z-]+) = "(.*)"$', project, flags=re.M))
     return (
         f"Metadata-Version: 2.1\nName: {stated['name']}\nVersion: {version()}\nSummary: {stated['description']}\n"
         f"License: {stated['license']}\nRequires-Python: {stated['requires-python']}\n{contacts(project)}Description-Content-Type: text/markdown\n\n"
-        f"{HERE.joinpath('README.md').read_text(encoding='utf-8')}"
+        f"{page()}"
     )
 
 

@@ -18,7 +18,7 @@ from pathlib import Path
 
 TOP = Path(__file__).resolve().parents[2]
 # How long the first run takes.
-TIMES = {"smap": "a minute", "sourcemap": "two or three minutes"}
+TIMES = {"smap": "a minute", "sourcemap": "a minute or two"}
 
 
 def tell(name, text):

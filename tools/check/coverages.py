@@ -219,19 +219,45 @@ def of_runs(run, write, check):
         write(folder, {"out/1.json": v8("http://h/v.js", taken), "out/2.json": v8("http://h/v.js", not_taken)})
         told = objects(run, ["out"], folder)[1]["s.ts"]["branches"]
         check([it["count"] for it in told] == [2, 2, 1], f"a branch that one of two processes took: {told}")
-        for end, why in ((45, "V8 saw 45 characters, and it has 46"), (47, "V8 saw 47 characters, and it has 46")):
-            other = {**whole, "ranges": [{"startOffset": 0, "endOffset": end, "count": 1}]}
-            write(folder, {"other.json": v8("http://h/v.js", [other, f])})
-            found = run(["coverage", "other.json"], folder)
-            check(found[0] == 1 and f"left out: v.js is of another build: {why}" in found[2], f"a code of another build: {found}")
         late = {"offset": {"line": 4294967295, "column": 0}, "map": {**held, "mappings": "AAAA"}}
         write(folder, {"v.js.map": json.dumps({"version": 3, "sections": [late]})})
         status, out, err = run(["coverage", "out"], folder)
         check(status == 1 and out == "no lines\n", f"a map whose tokens are on the last line that there may be: {status}, {out}, {err}")
 
 
+def of_builds(run, write, check):
+    """Codes of other builds are left out; of a module V8 sees no byte order mark, and of a script it does; and a report may lack the whole script."""
+    code, held = "function f(x){if(x){g()}}\nf(1)\n", {"version": 3, "sources": ["s.ts"], "names": [], "mappings": "AAAA;AACA"}
+    f = {"functionName": "f", "isBlockCoverage": True, "ranges": [{"startOffset": 0, "endOffset": 25, "count": 1}]}
+
+    def whole(end):
+        return {"functionName": "", "isBlockCoverage": True, "ranges": [{"startOffset": 0, "endOffset": end, "count": 1}]}
+
+    with tempfile.TemporaryDirectory() as folder:
+        write(folder, {"v.js": code, "v.js.map": json.dumps(held)})
+        write(folder, {"v8.json": v8("http://h/v.js", [whole(31), f])})
+        told = objects(run, ["v8.json"], folder)[1]
+        for name, functions in (("a longer code", [whole(30), f]), ("a shorter code", [whole(32), f]), ("one without functions", [whole(25)])):
+            write(folder, {"v8.json": v8("http://h/v.js", functions)})
+            status, out, err = run(["coverage", "v8.json"], folder)
+            end = functions[0]["ranges"][0]["endOffset"]
+            why = f"left out: v.js is of another build: V8 saw {end} UTF-16 units, and it has 31"
+            check((status, out) == (1, "no lines\n") and why in err, f"{name} than V8 saw: {status}, {out}, {err}")
+        write(folder, {"v8.json": v8("http://h/v.js", [f])})
+        status, lines, err = objects(run, ["v8.json"], folder)
+        check(status == 0 and lines["s.ts"]["functions"] == told["s.ts"]["functions"], f"a report of a function alone: {status}, {lines}, {err}")
+        write(folder, {"v.js": f"\ufeff{code}", "v8.json": v8("http://h/v.js", [whole(31), f])})
+        found = objects(run, ["v8.json"], folder)[1]
+        check(found == told, f"a module with a byte order mark: {found}, not {told}")
+        moved = [{**it, "ranges": [{**its, "startOffset": its["startOffset"] + (it is f), "endOffset": its["endOffset"] + 1} for its in it["ranges"]]} for it in (whole(31), f)]
+        write(folder, {"v8.json": v8("http://h/v.js", moved), "v.js.map": json.dumps({**held, "mappings": "CAAA;AACA"})})
+        found = objects(run, ["v8.json"], folder)[1]
+        check(found == told, f"a script with a byte order mark: {found}, not {told}")
+
+
 def tried(run, write, check, ref, vlq):
     of_runs(run, write, check)
+    of_builds(run, write, check)
     of_bundles(run, write, check, ref)
     of_random(run, write, check, ref, vlq)
     of_paths(run, write, check)

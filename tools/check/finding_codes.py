@@ -1,4 +1,4 @@
-"""The codes of findings of `sourcemap check`: those of its code are those that its help lists."""
+"""The codes of findings of `sourcemap check`: its help lists those that its code has."""
 
 import re
 import subprocess

@@ -1,5 +1,7 @@
 """What `sourcemap size` tells of real and of random codes, beside a count of each character by itself. For tools/check/sourcemap."""
 
+import gzip
+import itertools
 import json
 import os
 import random
@@ -83,8 +85,24 @@ def random_mappings(chance, vlq):
     return ";".join(lines)
 
 
+def of_gzip(run, check, folder, sizes):
+    """The bytes of the gzip file of c.js, each source's by where its part ends if they lie side by side; and files that are none of it."""
+    packed, ends = Path(folder, "c.js.gz"), [0, *itertools.accumulate(sizes.get(it, 0) for it in [*SOURCES, "none"])]
+    data = gzip.compress(Path(folder, "c.js").read_bytes())
+    packed.write_bytes(data)
+    ends = [it * len(data) // ends[-1] for it in ends] if ends[-1] else [0, 0, 0, 0, len(data)]
+    wanted = {name: b - a for name, a, b in zip([*SOURCES, "none"], ends, ends[1:]) if b > a}
+    found = told(run, check, ["--gzip", "c.js"], folder)
+    check(found == wanted and sum(found.values()) == len(data), f"sizes of {len(data)} bytes by gzip of {sizes}: {found}, not {wanted}")
+    for wrong in (data[:-4] + bytes(4) if ends[-1] and sizes else gzip.compress(b"x"), b"\x1f\x8c" + data[2:], b""):
+        packed.write_bytes(wrong)
+        status, out, err = run(["size", "--gzip", "c.js"], folder)
+        refused = (status, out) == (2, "") and "c.js.gz: is not of this code: gzip -kf c.js makes it anew" in err
+        check(refused, f"another gzip file: {status}, {out}, {err}")
+
+
 def tried(run, check, ref, vlq):
-    """Real codes, and random ones, also by folder and by package."""
+    """Real codes, and random ones, also by folder and by package, and by gzip."""
     of_real(run, check, ref)
     chance = random.Random(49)
     for _ in range(100):
@@ -97,3 +115,4 @@ def tried(run, check, ref, vlq):
             for by, groups in (("source", {it: [it] for it in SOURCES}), ("folder", FOLDERS), ("package", PACKAGES)):
                 found, wanted = told(run, check, ["--by", by, "c.js"], folder), grouped(sizes, groups)
                 check(found == wanted, f"sizes by {by} of {text!r} with {mappings}: {found}, not {wanted}")
+            of_gzip(run, check, folder, sizes)

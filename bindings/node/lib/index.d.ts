@@ -522,8 +522,8 @@ export class SourceMap {
    * token answers (by BEFORE) at each position. A range that ends at or before its beginning has none.
    */
   pieces(begin: Position, end: Position): Piece[];
-  /** The first generated position that two maps trace differently, by texts and not by ids; null if there is none. For unsorted maps only
-   *  this is promised: there is an answer. */
+  /** The first generated position that two maps trace differently, by texts (those of contents too) and not by ids; null if there is none.
+   *  For unsorted maps only this is promised: there is an answer. */
   firstDifference(other: SourceMap): Position | null;
 
   /** Makes the index by original positions, which takes 4 bytes a token. The next two calls make it if the map has none. A call that

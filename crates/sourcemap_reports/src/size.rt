@@ -442,7 +442,7 @@ fn gzip_len(asked: &Asked<'_, '_>, code: &str, len: usize) -> Outcome<usize> {
     let name = format!(in alloc; "{code}.gz")?;
     if !is_file(rt, name.as_str()) {
         let why = format!(in alloc; "is not there: gzip -k {code} makes it")?;
-        return Err(failure_of(alloc, name, why));
+        return Err(failure_of(alloc, name.as_str(), why.as_str()));
     }
     let bytes = read_bytes(rt, name.as_str())?;
     let bytes = bytes.as_slice();
@@ -451,17 +451,18 @@ fn gzip_len(asked: &Asked<'_, '_>, code: &str, len: usize) -> Outcome<usize> {
         return Ok(bytes.len());
     }
     let why = format!(in alloc; "is not of this code: gzip -kf {code} makes it anew")?;
-    Err(failure_of(alloc, name, why))
+    Err(failure_of(alloc, name.as_str(), why.as_str()))
 }
 
-/// Divides a number of bytes in the proportion of others. Each share is rounded so that all of them make the number.
+/// Divides a number of bytes in the proportion of others. Each share is rounded so that all of them make the number; if the others are 0, the
+/// last share is the number.
 fn divide(sizes: &mut [usize], bytes: usize) {
     let mut all = 0u128;
     for size in sizes.iter() {
         all = all.saturating_add(*size as u128);
     }
     let (mut before, mut given) = (0u128, 0u128);
-    for size in sizes {
+    for size in sizes.iter_mut() {
         before = before.saturating_add(*size as u128);
         let end = before
             .saturating_mul(bytes as u128)
@@ -469,6 +470,11 @@ fn divide(sizes: &mut [usize], bytes: usize) {
             .unwrap_or(0);
         *size = end.saturating_sub(given) as usize;
         given = end;
+    }
+    if let Some(last) = sizes.last_mut()
+        && all == 0
+    {
+        *last = bytes;
     }
 }
 

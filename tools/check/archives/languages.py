@@ -1,6 +1,7 @@
 """Wheels, crates and packages of npm."""
 
 import json
+import re
 import shutil
 import struct
 import subprocess
@@ -51,7 +52,9 @@ def has_tag(wheel, room):
         told = {line.split(",")[0] for line in packed.read(record).decode().splitlines()}
         holds(told == {*packed.namelist()}, "its record")
         about = packed.read(record.replace("RECORD", "WHEEL")).decode()
-        holds(f"\nVersion: {VERSION}" in packed.read(record.replace("RECORD", "METADATA")).decode(), "its version")
+        page = packed.read(record.replace("RECORD", "METADATA")).decode()
+        holds(f"\nVersion: {VERSION}" in page, "its version")
+        holds("# oxc_sourcemap" in page and not re.findall(r"\]\((?!https?:)", page), "links in its page to files that it has not")
     loaded = [*(room / wheel.name).rglob("*.so"), *(room / wheel.name).glob("oxc_sourcemap/sourcemap")]
     processor = "aarch64" if "aarch64" in wheel.name else "x86_64"
     major, minor = max(glibc_of(*loaded), (2, 17) if processor == "aarch64" else (2, 5))

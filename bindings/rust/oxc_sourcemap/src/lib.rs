@@ -37,6 +37,9 @@ mod found;
 mod json;
 #[cfg(doctest)]
 mod lifetimes;
+#[cfg(doctest)]
+#[doc = include_str!("../README.md")]
+mod readme {}
 mod lookup;
 mod maps;
 mod owned_sourcemap;

@@ -1,6 +1,7 @@
 """Pages of `sourcemap size -o`: what each is to show of data that is made here, and what the program puts into them. For tools/check/page."""
 
 import base64
+import gzip
 import json
 import os
 import shutil
@@ -164,10 +165,10 @@ def above():
 
 
 def packages():
-    data = data_of("package", {"x": 6, "@s/y": 3}, own=11)
+    data = {**data_of("package", {"x": 6, "@s/y": 3}, own=11), "gzip": True}
     labels = "[own]|11 bytes|55.0 %|x|6 bytes|30.0 %|@s/y|3 bytes|15.0 %"
     parts = "|".join([part("[own]", 11, 20), part("x", 6, 20), part("@s/y", 3, 20)])
-    return data, [{"wants": {"parts": parts, "labels": labels, "rows": rows_of(data), "title": "Bytes by package"}}]
+    return data, [{"wants": {"parts": parts, "labels": labels, "rows": rows_of(data), "title": "Gzipped bytes by package"}}]
 
 
 def many():
@@ -230,6 +231,12 @@ def tried(program, sourcemap, tally):
             status, page, err = sourcemap.run(program, [*words, "-o", "-"], folder, env=environment(str(Path(folder, "t.html"))))
             found = json.loads(base64.b64decode(page[1:-1])) if status == 0 else err
             tally.check(found == {"by": by, "bytes": sizes[0]["of"], "sizes": sizes}, f"the page of sizes by {by}: {status}, {str(found)[:300]}")
+        files = {"c.js": "ab", "c.js.gz": gzip.compress(b"ab"), "c.js.map": '{"version":3,"sources":["s"],"names":[],"mappings":"AAAA"}'}
+        sourcemap.write(folder, files)
+        _, page, err = sourcemap.run(program, ["size", "--gzip", "c.js", "--template", "t.html", "-o", "-"], folder)
+        found, of = json.loads(base64.b64decode(page[1:-1]) or b"{}"), len(files["c.js.gz"])
+        wanted = {"by": "source", "bytes": of, "gzip": True, "sizes": [{"kind": "source", "name": "s", "bytes": of, "of": of}]}
+        tally.check(found == wanted, f"the page of a gzip file: {found}, {err}")
         status, _, err = sourcemap.run(program, [*words, "-o", "o.html"], folder, env=environment())
         wanted = "share/sourcemap/size.html: the template of pages is not there: name it by --template or SOURCEMAP_SIZE"
         tally.check(status == 2 and wanted in err and not Path(folder, "o.html").exists(), f"no template of sizes: {status}, {err}")

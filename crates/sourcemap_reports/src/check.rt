@@ -610,7 +610,7 @@ fn check_file(asked: &Asked<'_, '_>, item: &Item) -> Outcome<Report> {
 fn push_listed(
     asked: &Asked<'_, '_>,
     listed: Listed,
-    root: &Option<String>,
+    root: Option<&str>,
     items: &mut Vec<Item>,
 ) -> Outcome<bool> {
     for failure in &listed.failures {
@@ -618,7 +618,7 @@ fn push_listed(
     }
     for path in listed.files {
         let root = match root {
-            Some(root) => Some(String::from_str(asked.alloc(), root.as_str())?),
+            Some(root) => Some(String::from_str(asked.alloc(), root)?),
             None => None,
         };
         items.push(Item { path, root })?;
@@ -637,19 +637,27 @@ fn push_matching(
     if listed.files.is_empty() && listed.failures.is_empty() {
         return Err(failure_of(asked.alloc(), word, "matches no file"));
     }
-    push_listed(asked, listed, &None, items)
+    push_listed(asked, listed, None, items)
 }
 
-/// Adds the files that a word stands for: of a folder those in it that have maps, or, if there are none, the folder itself; of a pattern
-/// those that it matches, if no file is named so. Returns whether all folders could be looked through, and reports those that could not.
+/// Adds the files in a folder that have maps, or, if there are none, the folder itself. Returns whether all folders could be looked through.
+fn push_folder(asked: &Asked<'_, '_>, folder: &str, items: &mut Vec<Item>) -> Outcome<bool> {
+    let root = root_of(asked, folder)?;
+    let listed = files_with_maps(asked.rt, folder, places_in(asked, &root))?;
+    if listed.files.is_empty() && listed.failures.is_empty() {
+        let path = String::from_str(asked.alloc(), folder)?;
+        items.push(Item { path, root: None })?;
+    }
+    push_listed(asked, listed, root.as_deref(), items)
+}
+
+/// Adds the files that a word stands for: a folder, a pattern, if no file is named so, or a file. Returns whether all folders could be
+/// looked through, and reports those that could not.
 fn push_files(asked: &Asked<'_, '_>, word: &str, items: &mut Vec<Item>) -> Outcome<bool> {
     if names_folder(asked.rt, word) {
-        let root = root_of(asked, word)?;
-        let listed = files_with_maps(asked.rt, word, places_in(asked, &root))?;
-        if !listed.files.is_empty() || !listed.failures.is_empty() {
-            return push_listed(asked, listed, &root, items);
-        }
-    } else if !is_file(asked.rt, word)
+        return push_folder(asked, word, items);
+    }
+    if !is_file(asked.rt, word)
         && let Some(pattern) = PathPattern::new(asked.alloc(), word)?
     {
         return push_matching(asked, word, &pattern, items);

@@ -538,11 +538,14 @@ fn add_files<'c>(
     Ok(trouble)
 }
 
-/// The data of a page.
-fn data_of(sizes: &Sizes, rows: &[Row<'_>]) -> Outcome<String> {
+/// The data of a page, which may be of gzip files.
+fn data_of(sizes: &Sizes, rows: &[Row<'_>], is_gzip: bool) -> Outcome<String> {
     let mut members = String::new(sizes.alloc);
     push_text_member("by", sizes.kind.word(), &mut members)?;
     push_number_member(sizes.alloc, "bytes", sizes.all, &mut members)?;
+    if is_gzip {
+        members.push_str(",\"gzip\":true")?;
+    }
     members.push_str(",\"sizes\":")?;
     push_list(objects(None, sizes, rows)?.as_str(), &mut members)?;
     let mut data = String::new(sizes.alloc);
@@ -564,7 +567,7 @@ fn check_output(asked: &Asked<'_, '_>, output: &str, files: &[String]) -> Outcom
 fn show(asked: &Asked<'_, '_>, sizes: &Sizes, rows: &[Row<'_>]) -> Outcome<()> {
     if let Some(output) = asked.matches.get_str("output") {
         check_output(asked, output, sizes.files.as_slice())?;
-        let _ = PAGE.write(asked, data_of(sizes, rows)?.as_str())?;
+        let _ = PAGE.write(asked, data_of(sizes, rows, asked.has("gzip"))?.as_str())?;
         if !asked.has("json") {
             return Ok(());
         }

@@ -87,7 +87,7 @@ def random_mappings(chance, vlq):
 
 def of_gzip(run, check, folder, sizes):
     """The bytes of the gzip file of c.js, each source's by where its part ends if they lie side by side; and files that are none of it."""
-    packed, ends = Path(folder, "c.js.gz"), [0, *itertools.accumulate(sizes.get(it, 0) for it in [*SOURCES, "none"])]
+    packed, ends = Path(folder, "c.js.gz"), [0, *itertools.accumulate(sizes.get(it, 0) for it in [*SOURCES, None])]
     data = gzip.compress(Path(folder, "c.js").read_bytes())
     packed.write_bytes(data)
     ends = [it * len(data) // ends[-1] for it in ends] if ends[-1] else [0, 0, 0, 0, len(data)]

@@ -98,36 +98,6 @@ pub fn files_below(rt: &HostRuntime, folder: &str) -> Outcome<Listed> {
     Ok(listed)
 }
 
-/// A path as a pattern names it that names no folder: from the current folder.
-fn without_dot(alloc: Global, path: &str) -> Result<String, AllocError> {
-    String::from_str(alloc, path.strip_prefix("./").unwrap_or(path))
-}
-
-/// The files whose paths a pattern matches, in order of these, but for links, and for those of packages that are installed in its folder.
-pub fn files_matching(rt: &HostRuntime, pattern: &PathPattern) -> Outcome<Listed> {
-    let alloc = rt.alloc();
-    let is_here = pattern.folder.as_str().is_empty();
-    let folder = if is_here {
-        "."
-    } else {
-        pattern.folder.as_str()
-    };
-    let Listed {
-        files: all,
-        failures,
-    } = files_below(rt, folder)?;
-    let mut paths = Vec::new(alloc);
-    for path in all {
-        paths.push(if is_here {
-            without_dot(alloc, path.as_str())?
-        } else {
-            path
-        })?;
-    }
-    let files = pattern.matching(alloc, paths)?;
-    Ok(Listed { files, failures })
-}
-
 /// Whether the name of a file is that of a script that may have a map.
 fn is_script(path: &str) -> bool {
     path.ends_with(".js")
@@ -218,6 +188,53 @@ pub fn files_with_maps(rt: &HostRuntime, folder: &str, places: Places<'_>) -> Ou
     let mut files = Vec::new(alloc);
     push_scripts(rt, all.as_slice(), places, &mut taken, &mut files)?;
     push_maps(rt, all.as_slice(), &taken, &mut files)?;
+    files.sort()?;
+    Ok(Listed { files, failures })
+}
+
+/// A path as a pattern names it that names no folder: from the current folder.
+fn without_dot(alloc: Global, path: &str) -> Result<String, AllocError> {
+    String::from_str(alloc, path.strip_prefix("./").unwrap_or(path))
+}
+
+/// The files below the folder of a pattern, by their paths as that names them.
+fn files_named(rt: &HostRuntime, folder: &str) -> Outcome<Listed> {
+    if !folder.is_empty() {
+        return files_below(rt, folder);
+    }
+    let Listed {
+        files: all,
+        failures,
+    } = files_below(rt, ".")?;
+    let mut files = Vec::new(rt.alloc());
+    for path in all {
+        files.push(without_dot(rt.alloc(), path.as_str())?)?;
+    }
+    Ok(Listed { files, failures })
+}
+
+/// The scripts, maps and compiled maps whose paths a pattern matches, in order of these, but for maps of such scripts. Links are left out, and
+/// folders `node_modules` below that of the pattern.
+pub fn files_matching(
+    rt: &HostRuntime,
+    pattern: &PathPattern,
+    places: Places<'_>,
+) -> Outcome<Listed> {
+    let alloc = rt.alloc();
+    let Listed {
+        files: all,
+        failures,
+    } = files_named(rt, pattern.folder.as_str())?;
+    let matching = pattern.matching(alloc, all)?;
+    let mut taken = HashSet::new(alloc);
+    let mut files = Vec::new(alloc);
+    for path in &matching {
+        if is_script(path.as_str()) {
+            let _ = may_have_map(rt, path.as_str(), places, &mut taken)?;
+            files.push(String::from_str(alloc, path.as_str())?)?;
+        }
+    }
+    push_maps(rt, matching.as_slice(), &taken, &mut files)?;
     files.sort()?;
     Ok(Listed { files, failures })
 }

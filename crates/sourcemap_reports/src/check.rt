@@ -633,9 +633,9 @@ fn push_matching(
     pattern: &PathPattern,
     items: &mut Vec<Item>,
 ) -> Outcome<bool> {
-    let listed = files_matching(asked.rt, pattern)?;
+    let listed = files_matching(asked.rt, pattern, asked.places())?;
     if listed.files.is_empty() && listed.failures.is_empty() {
-        return Err(failure_of(asked.alloc(), word, "matches no file"));
+        return Err(failure_of(asked.alloc(), word, "matches no code and no map"));
     }
     push_listed(asked, listed, None, items)
 }

@@ -159,7 +159,7 @@ const CHECK: Words = Words {
         Word(
             "FILE",
             Kind::Files,
-            "Maps, and codes whose maps are found; compiled maps are compared with the maps beside them; of a folder all these that are in it; of a pattern with *, ** or ? the files that it matches",
+            "Maps, and codes whose maps are found; compiled maps are compared with the maps beside them; of a folder all these that are in it; of a pattern with *, ** or ? those that it matches",
         ),
         Word(
             "level",
@@ -347,7 +347,11 @@ const DIFF: Words = Words {
     words: &[
         Word("A", Kind::File, "A map, or a code whose map is found"),
         Word("B", Kind::File, "Another one"),
-        Word("no-contents", Kind::Flag, "Compares no contents of sources"),
+        Word(
+            "no-contents",
+            Kind::Flag,
+            "Does not compare contents of sources",
+        ),
     ],
 };
 

@@ -22,8 +22,10 @@ Examples:
 const CHECK: &str =
     "A folder stands for the files in it and below it, in order of their paths: codes (.js, .mjs, .cjs, .css) that name a map or have one;
 maps (.map) that are not those of such codes; compiled maps (.map.smc). Folders node_modules below it are left out, and links.
-Without --root, a folder that is not in the current one is the root of its files. In a pattern `*` stands for any characters of a name, `?`
-for one, and `**` for any number of folders; it matches no links, and nothing in folders node_modules below the part without these.
+Without --root, a folder that is not in the current one is the root of its files. A pattern stands for the codes, maps and compiled
+maps that it matches; a map of such a code counts once. In it `*` stands for any characters of a name, `?` for one, `**` for any number of
+folders, and all else for itself. Links and folders node_modules are left out, but for those in front of the first of these. It is an error
+if no file matches.
 
 Each finding but the summary has a level and a code:
   error, where the map is wrong or a lookup may be
@@ -141,8 +143,9 @@ Examples:
   sourcemap debug-id --inject dist/*.js";
 
 const DIFF: &str =
-    "Positions are compared at which a map has a token, and those one column behind them: by source, original position, name, content of
-the source, and whether the source is ignored. So after a change of a content all positions of that source differ.
+    "The positions are compared at which a map has a token, and those one column after: the source and its content, the original position,
+the name. So after a change of a content all positions of that source differ. Where none differs, scopes are compared. Nothing is printed
+of maps that agree.
 
 Examples:
   sourcemap diff before.js.map after.js.map
@@ -150,7 +153,8 @@ Examples:
 
 const COVERAGE: &str =
     "Lines count from 1. Node writes such files into the folder NODE_V8_COVERAGE; counts of several files add up. Functions are
-those that have a name; branches are the blocks that V8 counts by themselves, each whole function that ran among them.
+those that have a name; branches are the blocks that V8 counts by themselves, each whole function that ran among them. A code of another
+length than V8 saw is left out.
 
 Examples:
   NODE_V8_COVERAGE=out node app.js && sourcemap coverage out
@@ -169,8 +173,8 @@ Examples:
 const SIZE: &str =
     "A character, a line feed too, counts to the source that `trace` finds where it begins, or, if there is none, to [unmapped]: so each byte
 of a code counts once. Sources are named by their paths from the current folder; of --diff as their maps name them. A folder has the bytes
-of all sources below it, and [own] those of sources that are in no package. With --gzip the bytes are those of CODE.gz, which has to be there:
-so they are an estimate, but for their sum. The page of -o asks nothing of the network. It is made of a
+of all sources below it, and [own] those of sources that are in no package. With --gzip the bytes are those of CODE.gz, which has to be there.
+Only their sum is exact, as each source is taken to compress equally well; of --diff, changes of a byte may come from rounding. The page of -o asks nothing of the network. It is made of a
 template: the file of --template, or of the environment variable SOURCEMAP_SIZE, or ../share/sourcemap/size.html beside the program.
 
 Examples:

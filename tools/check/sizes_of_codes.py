@@ -19,9 +19,11 @@ PACKAGES = {"s.ts": [None], "d/t.ts": [None], SOURCES[2]: ["@p/u"]}
 
 
 def counted(ref, text, mappings, names):
-    """How many bytes of a code come from each of its sources, None for none, by what the exact lookup finds at each character."""
+    """How many bytes of a code come from each of its sources, None for none, by what the exact lookup finds at each character, but for a byte
+    order mark."""
+    mark, text = text[: text.startswith("\ufeff")], text.removeprefix("\ufeff")
     tokens, places = ref.tokens_by_line(mappings), iter(ref.positions(ref.units_of(text)))
-    sizes = {}
+    sizes = {None: 3} if mark else {}
     for character in text:
         line, column = [next(places) for _ in ref.units_of(character)][0]
         original = ref.lookup(tokens[line], column) if line < len(tokens) else None
@@ -94,10 +96,10 @@ def of_gzip(run, check, folder, sizes):
     wanted = {name: b - a for name, a, b in zip([*SOURCES, "none"], ends, ends[1:]) if b > a}
     found = told(run, check, ["--gzip", "c.js"], folder)
     check(found == wanted and sum(found.values()) == len(data), f"sizes of {len(data)} bytes by gzip of {sizes}: {found}, not {wanted}")
-    for wrong in (data[:-4] + bytes(4) if ends[-1] and sizes else gzip.compress(b"x"), b"\x1f\x8c" + data[2:], b""):
+    for wrong in (gzip.compress(b"x" * (sum(sizes.values()) or 1)), data[:-8] + bytes([data[-8] ^ 1]) + data[-7:], b"\x1f\x8c" + data[2:], b""):
         packed.write_bytes(wrong)
         status, out, err = run(["size", "--gzip", "c.js"], folder)
-        refused = (status, out) == (2, "") and "c.js.gz: is not of this code: gzip -kf c.js makes it anew" in err
+        refused = (status, out) == (2, "") and "c.js.gz: is not of this code: gzip -kf makes it anew" in err
         check(refused, f"another gzip file: {status}, {out}, {err}")
 
 

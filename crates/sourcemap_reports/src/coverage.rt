@@ -40,11 +40,20 @@ struct Coverage {
     left_out: BTreeMap<String, String>,
 }
 
-/// The code of a script, and its positions.
+/// The code of a script, without a byte order mark, and its positions.
 #[derive(Clone, Copy)]
 pub(crate) struct Code<'c> {
     pub(crate) units: &'c [u16],
     pub(crate) positions: &'c TextPositions<'c>,
+    /// How many units V8 saw before it.
+    pub(crate) before: u32,
+}
+
+impl Code<'_> {
+    /// What is at an offset of V8.
+    pub(crate) fn at(&self, offset: u32) -> u32 {
+        offset.saturating_sub(self.before)
+    }
 }
 
 /// Whether a unit is white space.
@@ -77,9 +86,9 @@ fn has_code(code: &Code<'_>, mark: &Mark) -> bool {
 }
 
 /// The positions of a run; None if V8's report is of another code.
-pub(crate) fn block_of(positions: &TextPositions<'_>, run: &Run) -> Option<Block> {
-    let (line, column) = positions.position(run.start).ok()?;
-    let (end_line, end_column) = positions.position(run.end).ok()?;
+pub(crate) fn block_of(code: &Code<'_>, run: &Run) -> Option<Block> {
+    let (line, column) = code.positions.position(code.at(run.start)).ok()?;
+    let (end_line, end_column) = code.positions.position(code.at(run.end)).ok()?;
     Some(Block {
         start: Position { line, column },
         end: Position {
@@ -94,12 +103,12 @@ pub(crate) fn block_of(positions: &TextPositions<'_>, run: &Run) -> Option<Block
 fn marks_of(
     alloc: Global,
     map: &SourceMap<'_>,
-    positions: &TextPositions<'_>,
+    code: &Code<'_>,
     runs: &[Run],
 ) -> Result<Vec<Mark>, AllocError> {
     let mut marks = Vec::new(alloc);
     for run in runs {
-        if let Some(block) = block_of(positions, run) {
+        if let Some(block) = block_of(code, run) {
             let tokens = tokens_around(map.get_tokens().as_slice(), &block);
             push_marks(tokens, block, &mut marks)?;
         }
@@ -114,7 +123,7 @@ fn code_marks_of(
     map: &SourceMap<'_>,
     runs: &[Run],
 ) -> Outcome<Vec<Mark>> {
-    let mut marks = marks_of(alloc, map, code.positions, runs)?;
+    let mut marks = marks_of(alloc, map, code, runs)?;
     marks.retain(|mark| has_code(code, mark));
     // Of pieces that follow one another and say the same one counts as much as all.
     marks.dedup_by_key(|mark| (mark.source_id, mark.line, mark.count));
@@ -224,15 +233,21 @@ impl Coverage {
         let mut map = SourceMap::from_parts(read_map(asked.rt, text)?);
         map.apply_source_root(self.alloc)?;
         let ranges = ranges_of(self.alloc, script)?;
-        let code = code_as_seen(self.alloc, code, ranges.as_slice())?;
+        let rest = code.strip_prefix('\u{feff}');
+        let code = rest.unwrap_or(code);
         let positions = TextPositions::new(self.alloc, code)?;
         let units = utf16_units(self.alloc, code)?;
-        if is_other_build(self.alloc, units.len(), script, ranges.as_slice())? {
-            return self.leave_out_other(path, units.len(), end_of(ranges.as_slice()));
+        // Node removes a byte order mark from modules, but not from scripts.
+        let end = end_of(ranges.as_slice());
+        let before = u32::from(rest.is_some() && end > units.len());
+        let len = units.len().saturating_add(before as usize);
+        if is_other_build(self.alloc, len, script, ranges.as_slice())? {
+            return self.leave_out_other(path, len, end);
         }
         let code = Code {
             units: units.as_slice(),
             positions: &positions,
+            before,
         };
         let runs = runs_of(self.alloc, ranges.as_slice())?;
         let marks = code_marks_of(self.alloc, &code, &map, runs.as_slice())?;
@@ -322,15 +337,6 @@ impl Coverage {
 fn end_of(ranges: &[Run]) -> usize {
     let end = ranges.iter().map(|range| range.end as usize).max();
     end.unwrap_or(0)
-}
-
-/// A code as V8 saw it: Node removes a byte order mark from modules, but not from scripts.
-fn code_as_seen<'c>(alloc: Global, code: &'c str, ranges: &[Run]) -> Result<&'c str, AllocError> {
-    let Some(rest) = code.strip_prefix('\u{feff}') else {
-        return Ok(code);
-    };
-    let len = utf16_units(alloc, rest)?.len();
-    Ok(if end_of(ranges) == len { rest } else { code })
 }
 
 /// Whether V8 saw another code than one of this length: if a range ends behind that, or the range of all code before. A report may lack

@@ -190,9 +190,9 @@ impl<'c> Mapped<'c> {
         None
     }
 
-    /// The position of the last character before an offset.
+    /// The position of the last character before an offset of V8.
     fn last_position(&self, offset: u32) -> Option<(u32, u32)> {
-        let positions = self.code.positions;
+        let (positions, offset) = (self.code.positions, self.code.at(offset));
         match positions.position(offset.saturating_sub(1)) {
             Ok(position) => Some(position),
             Err(_) => positions.position(offset.saturating_sub(2)).ok(),
@@ -201,7 +201,8 @@ impl<'c> Mapped<'c> {
 
     /// A range without the white space at its beginning, at which V8's blocks behind a `return` begin.
     fn without_space(&self, run: &Run) -> Run {
-        let units = self.code.units.get(run.start as usize..run.end as usize);
+        let (start, end) = (self.code.at(run.start), self.code.at(run.end));
+        let units = self.code.units.get(start as usize..end as usize);
         let skipped = units
             .and_then(|units| units.iter().position(|unit| !is_space(*unit)))
             .unwrap_or(0);
@@ -217,7 +218,7 @@ impl<'c> Mapped<'c> {
             return None;
         }
         let tokens = self.tokens();
-        let block = block_of(self.code.positions, &self.without_space(run))?;
+        let block = block_of(self.code, &self.without_space(run))?;
         let first = tokens.get(first_in(tokens, &block)?)?;
         let original = self.original(first)?;
         let (line, column) = self.last_position(run.end)?;
@@ -372,7 +373,7 @@ impl AllParts {
     /// Adds a function that was called, if an original has it.
     fn add_called(&mut self, mapped: Mapped<'_>, called: &Called<'_>) -> Result<(), AllocError> {
         let tokens = mapped.tokens();
-        let block = block_of(mapped.code.positions, &called.run);
+        let block = block_of(mapped.code, &called.run);
         let Some(first) = block.and_then(|block| first_in(tokens, &block)) else {
             return Ok(());
         };

@@ -4,7 +4,7 @@ use crate::page::read_code;
 use crate::template::{Template, push_list, refuse_two_texts};
 use oxc_sourcemap_map::SourceMap;
 use sourcemap_files::{
-    Asked, Lookup, Progress, Status, is_file, map_of_code, plain_path, print, read_bytes,
+    Asked, Lookup, Progress, Status, is_regular, map_of_code, plain_path, print, read_bytes,
     read_map_alone, refuse_overwriting, shown_name, tell, usage, warn,
 };
 use sourcemap_run::{
@@ -436,22 +436,51 @@ fn names_of(
     Ok(names)
 }
 
-/// How many bytes the gzip file beside a code of this length has. It ends with the length of what it was made of.
-fn gzip_len(asked: &Asked<'_, '_>, code: &str, len: usize) -> Outcome<usize> {
+/// A CRC-32, further by the eight bits of a byte.
+fn next_crc(crc: u32, byte: u8) -> u32 {
+    let mut crc = crc ^ u32::from(byte);
+    for _ in 0..8 {
+        let carry = if crc & 1 == 1 { 0xedb8_8320 } else { 0 };
+        crc = crc >> 1 ^ carry;
+    }
+    crc
+}
+
+/// The end of the gzip file of a text: the text's CRC-32 and its length.
+fn gzip_end(text: &str) -> [u8; 8] {
+    let mut crc = u32::MAX;
+    for byte in text.bytes() {
+        crc = next_crc(crc, byte);
+    }
+    let [a, b, c, d] = (!crc).to_le_bytes();
+    let [e, f, g, h] = (text.len() as u32).to_le_bytes();
+    [a, b, c, d, e, f, g, h]
+}
+
+/// How many bytes the gzip file beside a code with this text has.
+fn gzip_len(asked: &Asked<'_, '_>, code: &str, text: &str) -> Outcome<usize> {
     let (rt, alloc) = (asked.rt, asked.alloc());
+    if code == "-" {
+        return Err(usage(rt, "--gzip reads the file beside a code: name the code"));
+    }
     let name = format!(in alloc; "{code}.gz")?;
-    if !is_file(rt, name.as_str()) {
-        let why = format!(in alloc; "is not there: gzip -k {code} makes it")?;
-        return Err(failure_of(alloc, name.as_str(), why.as_str()));
+    if !is_regular(rt, name.as_str()) {
+        return Err(failure_of(
+            alloc,
+            name.as_str(),
+            "is not there: gzip -k makes it of the code",
+        ));
     }
     let bytes = read_bytes(rt, name.as_str())?;
-    let bytes = bytes.as_slice();
-    let end = bytes.get(bytes.len().saturating_sub(4)..);
-    if bytes.starts_with(&[0x1f, 0x8b]) && end == Some((len as u32).to_le_bytes().as_slice()) {
+    let end = gzip_end(text);
+    if bytes.as_slice().starts_with(&[0x1f, 0x8b]) && bytes.as_slice().ends_with(end.as_slice()) {
         return Ok(bytes.len());
     }
-    let why = format!(in alloc; "is not of this code: gzip -kf {code} makes it anew")?;
-    Err(failure_of(alloc, name.as_str(), why.as_str()))
+    Err(failure_of(
+        alloc,
+        name.as_str(),
+        "is not of this code: gzip -kf makes it anew",
+    ))
 }
 
 /// Divides a number of bytes in the proportion of others. Each share is rounded so that all of them make the number; if the others are 0, the
@@ -499,11 +528,18 @@ fn add_file(
     map.apply_source_root(alloc)?;
     let names = names_of(alloc, &map, held.folder.as_str(), current)?;
     let tokens = map.get_tokens();
-    let starts = starts_of(alloc, text.as_str(), tokens.as_slice(), u32::MAX)?;
-    let mut bytes = sizes_of(alloc, text.len(), names.len(), starts.as_slice())?;
+    let body = text
+        .as_str()
+        .strip_prefix('\u{feff}')
+        .unwrap_or(text.as_str());
+    let starts = starts_of(alloc, body, tokens.as_slice(), u32::MAX)?;
+    let mut bytes = sizes_of(alloc, body.len(), names.len(), starts.as_slice())?;
+    if let Some(unmapped) = bytes.last_mut() {
+        *unmapped = unmapped.saturating_add(text.len().saturating_sub(body.len()));
+    }
     let mut len = text.len();
     if asked.has("gzip") {
-        len = gzip_len(asked, code, len)?;
+        len = gzip_len(asked, code, text.as_str())?;
         divide(bytes.as_mut_slice(), len);
     }
     sizes.add_code(names.as_slice(), bytes.as_slice())?;

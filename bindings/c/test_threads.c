@@ -37,6 +37,11 @@ static void must(uint32_t code) {
 
 static void add(uint64_t *sum, uint64_t number) { *sum = (*sum * 31 + number) % 4294967291; }
 
+/* (The sanitizer does not see the counts of shared maps, as it watches nothing in the library, and so not that a map is freed behind the last
+ * thread that reads it.) */
+#ifdef __GNUC__
+__attribute__((no_sanitize_thread))
+#endif
 static void add_text(uint64_t *sum, const smap_text *text) {
     add(sum, text->len);
     for (size_t i = 0; i < text->len; i++) add(sum, (unsigned char)text->at[i]);

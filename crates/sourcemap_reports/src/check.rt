@@ -610,15 +610,15 @@ fn check_file(asked: &Asked<'_, '_>, item: &Item) -> Outcome<Report> {
 fn push_listed(
     asked: &Asked<'_, '_>,
     listed: Listed,
-    root: Option<&str>,
+    root: Option<String>,
     items: &mut Vec<Item>,
 ) -> Outcome<bool> {
     for failure in &listed.failures {
         tell(asked.rt, failure.as_str());
     }
     for path in listed.files {
-        let root = match root {
-            Some(root) => Some(String::from_str(asked.alloc(), root)?),
+        let root = match &root {
+            Some(root) => Some(String::from_str(asked.alloc(), root.as_str())?),
             None => None,
         };
         items.push(Item { path, root })?;
@@ -648,7 +648,7 @@ fn push_folder(asked: &Asked<'_, '_>, folder: &str, items: &mut Vec<Item>) -> Ou
         let path = String::from_str(asked.alloc(), folder)?;
         items.push(Item { path, root: None })?;
     }
-    push_listed(asked, listed, root.as_deref(), items)
+    push_listed(asked, listed, root, items)
 }
 
 /// Adds the files that a word stands for: a folder, a pattern, if no file is named so, or a file. Returns whether all folders could be

@@ -446,14 +446,14 @@ fn next_crc(crc: u32, byte: u8) -> u32 {
     crc
 }
 
-/// The end of the gzip file of a text: the text's CRC-32 and its length.
+/// The end of the gzip file of a text: the text's CRC-32, and the lowest 32 bits of its length.
 fn gzip_end(text: &str) -> [u8; 8] {
     let mut crc = u32::MAX;
     for byte in text.bytes() {
         crc = next_crc(crc, byte);
     }
     let [a, b, c, d] = (!crc).to_le_bytes();
-    let [e, f, g, h] = (text.len() as u32).to_le_bytes();
+    let [e, f, g, h, ..] = (text.len() as u64).to_le_bytes();
     [a, b, c, d, e, f, g, h]
 }
 
@@ -497,7 +497,7 @@ fn divide(sizes: &mut [usize], bytes: usize) {
             .saturating_mul(bytes as u128)
             .checked_div(all)
             .unwrap_or(0);
-        *size = end.saturating_sub(given) as usize;
+        *size = usize::try_from(end.saturating_sub(given)).unwrap_or(usize::MAX);
         given = end;
     }
     if let Some(last) = sizes.last_mut()

@@ -640,10 +640,15 @@ fn push_matching(
     push_listed(asked, listed, None, items)
 }
 
+/// The files in a folder that have maps, with this root.
+fn listed_in(asked: &Asked<'_, '_>, folder: &str, root: &Option<String>) -> Outcome<Listed> {
+    files_with_maps(asked.rt, folder, places_in(asked, root))
+}
+
 /// Adds the files in a folder that have maps, or, if there are none, the folder itself. Returns whether all folders could be looked through.
 fn push_folder(asked: &Asked<'_, '_>, folder: &str, items: &mut Vec<Item>) -> Outcome<bool> {
     let root = root_of(asked, folder)?;
-    let listed = files_with_maps(asked.rt, folder, places_in(asked, &root))?;
+    let listed = listed_in(asked, folder, &root)?;
     if listed.files.is_empty() && listed.failures.is_empty() {
         let path = String::from_str(asked.alloc(), folder)?;
         items.push(Item { path, root: None })?;

@@ -56,8 +56,9 @@ def contacts(project: str) -> str:
 
 
 def page() -> str:
-    """The README, with no links to files of the repository."""
-    return re.sub(r"\[([^]]*)\]\((?!https?:)[^)]*\)", r"\1", HERE.joinpath("README.md").read_text(encoding="utf-8"))
+    """The README without what is of the repository alone: how the package is built and tested there, and links to its files."""
+    text = re.sub(r"^- \*\*(?:Build|Tests)\*\*.*\n", "", HERE.joinpath("README.md").read_text(encoding="utf-8"), flags=re.M)
+    return re.sub(r"\[([^]]*)\]\((?!https?:)[^)]*\)", r"\1", text)
 
 
 def metadata() -> str:

@@ -43,12 +43,12 @@ def proved(products, passed):
             f"Junketscarp {products.semver}\n\ncommit: {products.commit}, or what was changed since\ntoolchain: {toolchain()}\n\n{UNPROVED}"
         )
     head = TRIAL if passed == "trial" else f"./check passed on this commit, with the last line: {passed}\n"
-    programs = " and ".join(PROGRAMS)
+    programs = " and so is smap;\nsourcemap is proved in part" if len(PROGRAMS) > 1 else " and so is smap"
     parts = {
         "": f"Junketscarp {products.semver}\n\ncommit: {products.commit}\ntoolchain: {toolchain()}\n"
         + "".join(f"{it}\n" for it in tools()),
         "What passed": head,
-        "What is proved": "The library for x86-64 is compiled from exports each of which is proved to meet its contract, for every input, and so is\n"
+        "What is proved": "The library for x86-64 is compiled from exports each of which is proved to meet its contract, for every input,"
         f"{programs}. docs/BINDINGS.md and docs/PROOFS.md of the repository say what the contracts promise.\n",
         "What is tested": "The layer for C over the exports; the bindings for Rust, Python and JavaScript; the module for WebAssembly and the library for\n"
         "aarch64, which are compiled from the module of LLVM of the proved library by steps that tests cover; and the archives, by\n"

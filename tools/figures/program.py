@@ -48,7 +48,7 @@ def made(folder):
             (folder / "small").mkdir(exist_ok=True)
             parts = (f"export function f{j}(a: number, b: number): number {{\n  if (a > b) throw new Error('{k}');\n  return a + b;\n}}\n" for j in range(20))
             (folder / f"small/{k}.ts").write_text("".join(parts))
-        small.append(f"    at f (/{name}:2:20)")
+        small.append(f"    at f (/{name}:2:7)")
     if not (folder / "small/999.js").exists():
         subprocess.run(["esbuild", "--sourcemap", "--log-level=error", *(f"{folder}/small/{k}.ts" for k in range(1000)), f"--outdir={folder}/small"], check=True)
     (folder / "maps.txt").write_text("\n".join(small) + "\n")

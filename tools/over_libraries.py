@@ -18,8 +18,7 @@ from pathlib import Path
 TEXT = Path(__file__).parents[1].joinpath("crates.txt").read_text()
 LINES = [line.partition(":") for line in TEXT.splitlines() if line.strip() and not line.startswith("#")]
 # The libraries that each crate uses, the lowest crate first: those of this repository and those of the toolchain.
-USES = {head.split()[0]: uses.split() for head, _, uses in LINES}
-STATIC = {head.split()[0] for head, _, _ in LINES if head.endswith(" staticlib")}
+USES = {name: uses.split() for name, _, uses in LINES}
 
 
 @functools.cache
@@ -40,7 +39,6 @@ def command(libraries, crate, verb, is_program=False):
     for name in ("std", *USES[crate]):
         found += ["--extern", f"{name}={libraries if name in USES else f'{kit()}/rlibs'}/{name}.rlib"]
     found += ["-L", f"dependency={libraries}", "-L", f"dependency={kit()}/rlibs"]
-    found += ["--crate-type", "staticlib"] if crate in STATIC else []
     return [*found, "--antt-project", f"{kit()}/rattle/logic/antt-project.json", "--logic-built", f"{kit()}/logic_built"]
 
 

@@ -3,11 +3,12 @@
  *     auto map = oxc_sourcemap::SourceMap::from_json(json);
  *     if (auto found = map.trace(0, 3); found && found->source) std::cout << *found->source << ':' << found->token.src_line + 1 << '\n';
  *
- * oxc_sourcemap.h describes what each call does and when it fails. Here an error is thrown as an Error, and what has no entry is nullopt.
- * Each object owns one handle, is moved and not copied, and frees it. A text that a call returns (std::string_view) is borrowed from the
- * object: it is valid until the map that the object owns is changed or freed, and stays in place if the object is moved. Any number of
- * threads may call const members of one object. An object that was moved from has no handle, as one that is constructed without one: its
- * calls throw SMAP_NULL_HANDLE. Lines, columns, ids and indices count from 0; columns are in UTF-16 code units. */
+ * oxc_sourcemap.h describes what each call does and when it fails. Here an error is thrown as an Error, no memory as std::bad_alloc, and
+ * what has no entry is nullopt. Each object owns one handle, is moved and not copied, and frees it. A text that a call returns
+ * (std::string_view) is borrowed from the object: it is valid until the map that the object owns is changed or freed, and stays in place
+ * if the object is moved. Any number of threads may call const members of one object. A moved-from object has no handle, nor has an object
+ * constructed without one: its calls throw SMAP_NULL_HANDLE. Lines, columns, ids and indices count from 0; columns are in UTF-16 code
+ * units. */
 #ifndef OXC_SOURCEMAP_HPP
 #define OXC_SOURCEMAP_HPP
 
@@ -245,7 +246,7 @@ inline std::vector<std::optional<Original>> originals(const std::vector<smap_ori
 
 class SourceMap;
 
-/* A map in a join, which has to live until then, and where its code begins there. */
+/* A map to join, which must live until `join`, and where its code begins there. */
 struct JoinPart {
     JoinPart(const SourceMap &part, Position begin) noexcept : map(&part), at(begin) {}
     JoinPart(const SourceMap &&, Position) = delete;
@@ -425,7 +426,7 @@ class SourceMap {
     void set_ignore_list(const std::vector<std::uint32_t> &ids) {
         change([&](smap_fault *fault) { return smap_set_ignore_list(get(), ids.data(), ids.size(), fault); });
     }
-    /* Take any list with a size of std::string_view or std::string; contents also of those that may be unknown. */
+    /* Take any sized list of std::string_view or std::string; contents may also be std::optional. */
     template <class Texts = std::vector<std::string_view>> void set_sources(const Texts &sources) {
         auto lent = detail::all_lent(sources);
         change([&](smap_fault *fault) { return smap_set_sources(get(), lent.data(), lent.size(), fault); });
@@ -625,7 +626,7 @@ class CompiledMap {
         return *detail::entry<std::uint32_t>([&](std::uint32_t *out) { return smap_compiled_is_ignored(get(), id, out); }) != 0;
     }
 
-    /* The map that was compiled; nullopt if a text is not UTF-8, or in bytes that no `compile` made. */
+    /* The original map; nullopt if a text is not UTF-8, or perhaps in bytes that no `compile` made. */
     std::optional<SourceMap> decompile() const {
         smap_map *map = nullptr;
         if (!detail::has_entry([&](smap_fault *fault) { return smap_decompile(get(), &map, fault); })) return std::nullopt;
@@ -674,7 +675,7 @@ class CompiledFile {
     CompiledMap map_;
 };
 
-/* The frames of the source that a position of the generated code stands for, from the inside out, and whether the source has none such. */
+/* The frames of the source that a position of the generated code stands for, from the inside out, and whether the source lacks them. */
 struct Frames {
     std::vector<Frame> frames;
     bool is_hidden;
@@ -697,7 +698,7 @@ class Scopes {
             [&](smap_scopes **out, smap_fault *fault) { return smap_read_scopes(json.data(), json.size(), out, fault); });
     }
 
-    /* By its member `scopes` alone, where it has so many names. */
+    /* From its member `scopes` alone, and its number of names. */
     static Scopes decode(std::string_view text, std::size_t names) {
         return detail::made<Scopes, smap_scopes>(
             [&](smap_scopes **out, smap_fault *fault) { return smap_decode_scopes(text.data(), text.size(), names, out, fault); });

@@ -37,8 +37,8 @@ static void must(uint32_t code) {
 
 static void add(uint64_t *sum, uint64_t number) { *sum = (*sum * 31 + number) % 4294967291; }
 
-/* (The sanitizer does not see the counts of shared maps, as it watches nothing in the library, and so not that a map is freed behind the last
- * thread that reads it.) */
+/* (The sanitizer watches nothing in the library. So it does not see the counts of shared maps, by which a map is freed only after the last
+ * thread has read it.) */
 #ifdef __GNUC__
 __attribute__((no_sanitize_thread))
 #endif

@@ -14,6 +14,7 @@ import shutil
 import subprocess
 import sys
 import tempfile
+from concurrent.futures import ThreadPoolExecutor
 from pathlib import Path
 
 TOP = Path(__file__).resolve().parents[2]
@@ -88,14 +89,16 @@ def compile_module(room, archive, sanitizer=None):
     if sanitizer:
         text = re.sub(r"\bsanitize_address\b", f"sanitize_{sanitizer}", text)
         flags = ["-O1", f"-fsanitize={sanitizer}"]
-    (room / "this.ll").write_text(text)
+    own = room / f"for_{sanitizer}"
+    own.mkdir()
+    (own / "this.ll").write_text(text)
     words = [*CLANG, *flags, "-fPIC", "-ffunction-sections", "-fdata-sections", "-c", "this.ll", "-o", "exports.o"]
-    subprocess.run(words, cwd=room, check=True)
+    subprocess.run(words, cwd=own, check=True)
     # (a runtime of another compiler may not have these, and watches those)
     watched = [f"--redefine-sym=__tsan_{it}={it}" for it in ("memcpy", "memmove", "memset")]
-    subprocess.run(["objcopy", *watched, "exports.o"], cwd=room, check=True)
+    subprocess.run(["objcopy", *watched, "exports.o"], cwd=own, check=True)
     Path(archive).unlink(missing_ok=True)
-    subprocess.run(["ar", "rcs", archive, "exports.o"], cwd=room, check=True)
+    subprocess.run(["ar", "rcs", archive, "exports.o"], cwd=own, check=True)
 
 
 def keep_module(room, crate):
@@ -119,13 +122,13 @@ def make(room, archive, *others):
     write_program(room)
     keep_module(room, CRATE)
     (room / "module.ll").write_text(exported(text_of_module(room)))
-    compile_module(room, os.path.abspath(archive))
-    for it in others:
-        kind, other = it.split("=", 1)
-        if kind == "module":
-            shutil.copy(room / "module.ll", other)
-        else:
-            compile_module(room, os.path.abspath(other), kind)
+    kinds = dict(it.split("=", 1) for it in others)
+    if module := kinds.pop("module", None):
+        shutil.copy(room / "module.ll", module)
+    archives = {None: archive, **kinds}
+    with ThreadPoolExecutor() as pool:
+        for it in [pool.submit(compile_module, room, os.path.abspath(to), kind) for kind, to in archives.items()]:
+            it.result()
 
 
 if __name__ == "__main__":

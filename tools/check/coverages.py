@@ -226,7 +226,7 @@ def of_runs(run, write, check):
 
 
 def of_builds(run, write, check):
-    """Codes of other builds are left out; of a module V8 sees no byte order mark, and of a script it does; and a report may lack the whole script."""
+    """Codes of other builds are left out; V8 sees no byte order mark of a module, but of a script; a report may lack the whole script."""
     code, held = "function f(x){if(x){g()}}\nf(1)\n", {"version": 3, "sources": ["s.ts"], "names": [], "mappings": "AAAA;AACA"}
     f = {"functionName": "f", "isBlockCoverage": True, "ranges": [{"startOffset": 0, "endOffset": 25, "count": 1}]}
 

@@ -1,10 +1,15 @@
 // Refuses requests for memory of the tests, which are linked with it (./check tests): it stands between them and the allocator
 // of C. tests/refusals/memory.rs describes these functions.
 //
-// The tests are watched by AddressSanitizer, whose allocator is there under names of its own.
-#include <errno.h>
-#include <stddef.h>
-#include <stdint.h>
+// The tests are watched by AddressSanitizer, whose allocator is there under names of its own. The toolchain's compiler, which compiles this,
+// has no headers.
+typedef __SIZE_TYPE__ size_t;
+typedef __UINT64_TYPE__ uint64_t;
+#define NULL ((void *)0)
+#define ENOMEM 12
+
+// (the address of errno in glibc)
+int *__errno_location(void);
 
 void *__interceptor_malloc(size_t size);
 void *__interceptor_calloc(size_t count, size_t size);
@@ -48,7 +53,7 @@ static int is_refused(void) {
     if (requests < first || requests > last)
         return 0;
     refused++;
-    errno = ENOMEM;
+    *__errno_location() = ENOMEM;
     return 1;
 }
 

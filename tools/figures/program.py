@@ -20,6 +20,7 @@ HERE = Path(__file__).resolve().parent
 TYPESCRIPT = "/usr/share/nodejs/typescript/lib/typescript.js"
 os.environ.setdefault("NODE_PATH", "/usr/share/nodejs")
 ROUNDS = 3
+FUNCTION = "export function f{}(a: number, b: number): number {{\n  if (a > b) throw new Error('{}');\n  return a + b;\n}}\n"
 
 
 def positions(text, count):
@@ -46,15 +47,16 @@ def made(folder):
         name = f"small/{k}.js"
         if not (folder / name).exists():
             (folder / "small").mkdir(exist_ok=True)
-            parts = (f"export function f{j}(a: number, b: number): number {{\n  if (a > b) throw new Error('{k}');\n  return a + b;\n}}\n" for j in range(20))
-            (folder / f"small/{k}.ts").write_text("".join(parts))
+            (folder / f"small/{k}.ts").write_text("".join(FUNCTION.format(j, k) for j in range(20)))
         small.append(f"    at f (/{name}:2:7)")
     if not (folder / "small/999.js").exists():
-        subprocess.run(["esbuild", "--sourcemap", "--log-level=error", *(f"{folder}/small/{k}.ts" for k in range(1000)), f"--outdir={folder}/small"], check=True)
+        files = [f"{folder}/small/{k}.ts" for k in range(1000)]
+        subprocess.run(["esbuild", "--sourcemap", "--log-level=error", *files, f"--outdir={folder}/small"], check=True)
     (folder / "maps.txt").write_text("\n".join(small) + "\n")
     if not (folder / "coverage.json").exists():
         reports = folder / "reports"
-        subprocess.run(["node", "-e", f"require({str(code.resolve())!r})"], check=True, env={**os.environ, "NODE_V8_COVERAGE": str(reports)})
+        environment = {**os.environ, "NODE_V8_COVERAGE": str(reports)}
+        subprocess.run(["node", "-e", f"require({str(code.resolve())!r})"], check=True, env=environment)
         next(reports.glob("*.json")).rename(folder / "coverage.json")
 
 
@@ -79,17 +81,20 @@ def main():
     made(folder)
     os.chdir(folder)
     peer = ["node", HERE / "program_peers.js"]
+    traces = {"3,000 frames": "3000.txt", "1,000 maps": "maps.txt", "1,000,000 frames": "1000000.txt"}
+    resolving = ((name, [program, "resolve"], [*peer, "resolve", "."], Path(file).read_bytes()) for name, file in traces.items())
+    covering = [program, "coverage", "--json", "coverage.json"], [*peer, "coverage", "typescript.js", "coverage.json"]
     jobs = [
         ("start", [program, "--version"], ["node", "-e", "0"], b""),
-        *((name, [program, "resolve"], [*peer, "resolve", "."], Path(file).read_bytes()) for name, file in (("3,000 frames", "3000.txt"), ("1,000 maps", "maps.txt"), ("1,000,000 frames", "1000000.txt"))),
+        *resolving,
         ("sizes of typescript.js", [program, "size", "--json", "typescript.js"], [*peer, "size", "typescript.js"], b""),
-        ("coverage of typescript.js", [program, "coverage", "--json", "coverage.json"], [*peer, "coverage", "typescript.js", "coverage.json"], b""),
+        ("coverage of typescript.js", *covering, b""),
     ]
     print(f"{'':28}{'seconds':>9}{'peer':>9}{'ratio':>7}{'MB':>7}{'peer':>7}")
     for name, ours, theirs, given in jobs:
         (seconds, peak, out), (peer_seconds, peer_peak, peer_out) = least(ours, given), least(theirs, given)
         print(f"{name:28}{seconds:9.3f}{peer_seconds:9.3f}{seconds / peer_seconds:7.2f}{peak / 1e6:7.0f}{peer_peak / 1e6:7.0f}", flush=True)
-        if "frames" in name or "maps" in name:
+        if name in traces:
             print(f"  {lines_equal(out, peer_out)} of {len(given.splitlines())} frames are the same", flush=True)
         elif name.startswith("sizes"):
             sizes = {it["name"]: it["bytes"] for it in map(json.loads, out.splitlines()) if "name" in it}

@@ -68,6 +68,8 @@ def placed(files, package, products, proved):
     }
     if package == DEVELOPMENT:
         found[f"usr/share/doc-base/{package}.reference"] = File(DOC_BASE.encode())
+    if package != LIBRARY:
+        papers |= tree.documents(without="CHANGELOG.md")
     return found | {f"usr/share/doc/{package}/{name}": File(content) for name, content in papers.items()}
 
 

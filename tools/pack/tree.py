@@ -1,6 +1,7 @@
 """The files of an installed Junketscarp, for the tarball, for `install` and for the packages of Debian."""
 
 import os
+import re
 import tempfile
 from pathlib import Path
 
@@ -148,10 +149,21 @@ def third_party():
     )
 
 
+def documents(without=""):
+    """The documents of docs/ by their names, without this one. Of a link to a file that is not among them only the words stay."""
+    texts = {it.name: it.read_text() for it in sorted((TOP / "docs").glob("*.md")) if it.name != without}
+
+    def kept(link):
+        file = link[2].partition("#")[0]
+        return link[0] if not file or file in texts or ":" in file else link[1]
+
+    return {name: re.sub(r"\[([^\]]+)\]\(([^)]*)\)", kept, it).encode() for name, it in texts.items()}
+
+
 def papers(products, proved):
     """What says what it is."""
-    names = {"LICENSE": "LICENSE", "CHANGELOG.md": "docs/CHANGELOG.md"}
-    files = {f"share/doc/junketscarp/{name}": File((TOP / it).read_bytes()) for name, it in names.items()}
+    files = {f"share/doc/junketscarp/{name}": File(it) for name, it in documents().items()}
+    files["share/doc/junketscarp/LICENSE"] = File((TOP / "LICENSE").read_bytes())
     files["share/doc/junketscarp/LICENSES-OF-LIBRARIES"] = text(third_party())
     return files | {"share/doc/junketscarp/PROVED.txt": text(proved)}
 

@@ -1,5 +1,5 @@
 /**
- * Source maps of version 3 (ECMA-426): read, written, looked up both ways, built, joined and composed.
+ * Reads, writes, traces both ways, builds, joins and composes source maps of version 3 (ECMA-426).
  *
  * Lines, columns, ids and indices count from 0; columns are in UTF-16 code units. Each is an integer from 0 to 4294967295: another number,
  * such as -1, 1.5, NaN or Infinity, is a RangeError, and any other value a TypeError.
@@ -28,11 +28,11 @@ export const NO_ID: 0xffffffff;
 
 /** Which token answers for a generated position. */
 export const Bias: {
-  /** The last one on its line at or before its column; of several at the column itself the first. */
+  /** The last one on its line at or before its column; the first of several at the column itself. */
   readonly BEFORE: 0;
   /** The same, or else the first one on its line. */
   readonly CLAMPED: 1;
-  /** The first one on its line at or after its column; of several at the column itself the last. */
+  /** The first one on its line at or after its column; the last of several at the column itself. */
   readonly AFTER: 2;
 };
 export type Bias = 0 | 1 | 2;
@@ -41,9 +41,9 @@ export type Bias = 0 | 1 | 2;
 export const Direction: {
   /** Those at this line and column of the source. */
   readonly AT: 0;
-  /** Those at the last column of the line, at or before this one, that has any. */
+  /** Those at the last column with tokens at or before this one on the line. */
   readonly FOR: 1;
-  /** Those at the first column of the line, at or after this one, that has any. */
+  /** Those at the first column with tokens at or after this one on the line. */
   readonly FROM: 2;
   /** Those on this line; the column is not read. */
   readonly ON_LINE: 3;
@@ -240,7 +240,7 @@ export type Field =
   | "offset"
   | "map";
 
-/** Where in what was read a fault is. What does not belong to its kind is null. */
+/** The place of a fault in the input. Members of other kinds of place are null. */
 export interface FaultPlace {
   /** A segment of the mappings, where a text is not JSON, a member of a map, or an entry of one. */
   kind: "segment" | "reading" | "member" | "entry";
@@ -331,7 +331,7 @@ export class SourceMapError extends Error {
   readonly field: Field | null;
   /** What is wrong with an item of a text of scopes, of SMAP_BAD_SCOPES; else null. */
   readonly reason: ScopesFault | null;
-  /** Where in what was read the fault is, if that is known. */
+  /** The place of the fault in the input, if it is known. */
   readonly place: FaultPlace | null;
   /**
    * The place in one line, or "". Where a text was read and `message` names another cause, the actual cause follows: "line 0, segment 1
@@ -409,7 +409,7 @@ export class SourceMap {
   static fromMappings(mappings: Text | Mappings, limits?: { names?: number; sources?: number }): SourceMap;
 
   /**
-   * Joins maps, each where its code begins in the joined code. Source roots are dropped: `applySourceRoot` before keeps them. Throws
+   * Joins maps, each where its code begins in the joined code. Source roots are dropped unless `applySourceRoot` ran before. Throws
    * SourceMapError of SMAP_TOO_LARGE.
    *
    * @example
@@ -458,8 +458,8 @@ export class SourceMap {
   readonly sources: readonly string[];
   /** All contents, null for one that is not known. Each call makes a new array: for one content use `getSourceContent`. */
   readonly sourcesContent: (string | null)[];
-  /** The name, the source or the content of a source with this id; null if there is none, or it is not known. A source may be given by its
-   *  name, too, as `sources` has it; of equal ones the first counts. */
+  /** The name, the source or the content of a source with this id; null if there is none, or it is unknown. `getSourceContent` also takes
+   *  a name from `sources`; of equal ones the first counts. */
   getName(id: number): string | null;
   getSource(id: number): string | null;
   getSourceContent(source: number | string): string | null;
@@ -496,7 +496,7 @@ export class SourceMap {
    * The original position of a generated one; null if there is none.
    *
    * Throws SourceMapError of SMAP_BAD_OPTION, or of SMAP_LINE_ORDER if the tokens are not in order of lines, as can happen after a join.
-   * For other unsorted maps only this is promised: there is an answer.
+   * For other unsorted maps, it succeeds with some answer.
    *
    * @example
    * map.trace(0, 1041); // { source: "a.ts", line: 7, column: 2, name: null, index: 91 }
@@ -518,12 +518,12 @@ export class SourceMap {
   /** The same, but the index of each token alone, where NO_ID stands for none. */
   findAll<Out extends Uint32Array = Uint32Array>(positions: Uint32Array, bias?: Bias, out?: Out): Out;
   /**
-   * The pieces of a range of generated code, from a position up to but not including another, in order: each is as long as the same
+   * The pieces of a range of generated code, from `begin` up to but not including `end`, in order. Each extends as far as the same
    * token answers (by BEFORE) at each position. A range that ends at or before its beginning has none.
    */
   pieces(begin: Position, end: Position): Piece[];
   /** The first generated position that two maps trace differently, by texts (those of contents too) and not by ids; null if there is none.
-   *  For unsorted maps only this is promised: there is an answer. */
+   *  For unsorted maps it returns some answer. */
   firstDifference(other: SourceMap): Position | null;
 
   /** Makes the index by original positions, which takes 4 bytes a token. The next two calls make it if the map has none. A call that
@@ -586,7 +586,7 @@ export class SourceMap {
 
   /**
    * The JSON text. Throws SourceMapError of SMAP_LINE_ORDER or SMAP_TOO_LARGE, the latter also if it has more than `limit` bytes of
-   * UTF-8: a map of a hundred bytes that others send may have gigabytes of lines, which are not written before.
+   * UTF-8. A 100-byte map from others may have gigabytes of lines: with a limit, it throws before writing them.
    */
   toString(options?: { readonly limit?: number | undefined }): string;
   /** The same as UTF-8; in Node a Buffer. */
@@ -708,7 +708,7 @@ export class SourceMapBuilder {
   /** Adds a name, or finds the equal one that was added before, and returns its id. Ids count from 0 in the order in which names come.
    *  Throws SourceMapError of SMAP_TOO_LARGE if no id is left. */
   addName(name: Text): number;
-  /** The same for a source by its path, with its content if it is known. A path that was added before keeps its id and its first
+  /** The same for a source by its path, with its content if known. A path added before keeps its id, and its content or lack of
    *  content. */
   addSource(path: Text, content?: Text | null): number;
   /** Appends a token. Add tokens in the order of their generated positions: otherwise the map is unsorted, and writing it may fail. Ids are
@@ -743,7 +743,7 @@ export class SourceMapBuilder {
 export class ConcatSourceMapBuilder {
   constructor();
   /** Adds a map, whose code begins at this line and column of the joined code. The map may be changed or freed then. Source roots are
-   *  dropped: `applySourceRoot` before keeps them. Throws SourceMapError of SMAP_TOO_LARGE. */
+   *  dropped unless `applySourceRoot` ran before. Throws SourceMapError of SMAP_TOO_LARGE. */
   addSourceMap(map: SourceMap, line: number, column?: number): void;
   /** Makes the joined map. The builder is then empty, like a new one. */
   finish(): SourceMap;
@@ -777,7 +777,7 @@ export function encodeMappings(
 export function decodeMappings(mappings: Text | Mappings, limits?: { names?: number; sources?: number }): Uint32Array;
 
 /**
- * The URL that a code names for its map, by its last such comment; null if it names none. Throws SourceMapError of SMAP_BAD_OPTION.
+ * The URL of the map in the code's last sourceMappingURL comment; null if there is none. Throws SourceMapError of SMAP_BAD_OPTION.
  *
  * @example
  * sourceMappingURL("let a;\n//# sourceMappingURL=a.js.map\n"); // "a.js.map"

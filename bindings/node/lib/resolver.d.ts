@@ -1,5 +1,5 @@
 /**
- * A resolver of stack traces for servers: codes and maps of a store, compiled and held within bounds.
+ * Resolves stack traces on servers: it compiles the maps of a store, and holds them within bounds.
  *
  * A frame's own line and column count from 1, as traces print them. All else counts from 0, and columns are in UTF-16 code units. The
  * answers of lookups are those of the library, which are proved; the resolver itself is tested.
@@ -160,7 +160,7 @@ export class TooLargeError extends Error {
   readonly limit: number;
 }
 
-/** The frames of a trace or a log, in order, which lie apart.
+/** The disjoint frames of a trace or a log, in order.
  *
  * @example
  * [...framesIn("g@https://h/b.js:2:1")]; // [{ url: "https://h/b.js", line: 2, column: 1, start: 2, end: 20 }]
@@ -178,9 +178,9 @@ export function replaceFrames(text: string, frames: Iterable<Resolved>): string;
 export type Stats = Record<string, number>;
 
 export interface ResolverOptions {
-  /** Where compiled maps are kept that are made when they are first needed: BESIDE their maps, for which the store is a folder that can be
-   *  written; the path of a folder, which is made; null, as without it, for nowhere. X.map.smc beside X.map is taken if it was made of as
-   *  many bytes as X.map has, and its file is no older or, with `alwaysHashes` in any case, its SHA-256 is that of X.map. */
+  /** Where compiled maps are kept, which are made when first needed: BESIDE their maps, for which the store is a folder that can be
+   *  written; the path of a folder, which is made; null, the default, for nowhere. X.map.smc beside X.map is used if it was made from as
+   *  many bytes as X.map has, and its file is no older (unless `alwaysHashes` is set) or its SHA-256 is that of X.map. */
   readonly cache?: typeof BESIDE | string | null | undefined;
   readonly limits?: Partial<Limits> | undefined;
   /** If the map with the code's name and `.map` exists, it is taken, and the code is not read. */
@@ -198,12 +198,12 @@ export type DebugIds = Readonly<Record<string, string>>;
 /**
  * A resolver over a store: the path of a folder, or a `Store`.
  *
- * `base` is the URL or path below which frames name what the store has, or such with folders of the store; of several the longest counts. A
+ * `base` is the URL or path that stands for the store, or several, each with its folder of the store; the longest match counts. A
  * query or fragment of a URL does not count, and neither does the case of its host; `file:` URLs are paths. Nothing is asked for over a
  * network.
  *
  * A code's map is the one that its last comment `sourceMappingURL` names, in the store or as a data URL, else the one with its name and
- * `.map`. With a debug id it is the one of the name `debugIdName`, else that of the URL, if its debug id is not another one.
+ * `.map`. With a debug id it is the map named by `debugIdName`, else that of the URL, but no map with another debug id.
  *
  * Calls whose names end in `Async` ask for one map once, however many traces need it. A map is read and compiled on the thread that calls,
  * which takes some 10 ms for each MB the first time.
@@ -230,7 +230,7 @@ export class Resolver {
   resolveAsync(text: string | Uint8Array, debugIds?: DebugIds): Promise<Resolved[]>;
 
   /** A trace with the place of each frame that is resolved replaced by the original one, SOURCE:LINE:COLUMN, which count from 1; all else
-   *  stays to the byte. Throws TooLargeError, as `resolve`. A trace in a JSON text has to be taken out of it before.
+   *  stays to the byte. Throws TooLargeError, as `resolve`. Extract a trace from a JSON text first.
    *
    * @example
    * resolver.resolveText(Buffer.from("f@app.js:1:14\n")).toString(); // "f@src/a.ts:2:3\n"
@@ -246,6 +246,6 @@ export class Resolver {
   contextAsync(found: Resolved, lines?: number): Promise<Context | null>;
 
   stats(): Stats;
-  /** Lets go of all that is held: what is asked for next is looked for again. */
+  /** Releases all that is held: later requests search again. */
   clear(): void;
 }

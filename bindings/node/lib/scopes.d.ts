@@ -14,7 +14,7 @@ export type ScopesFault =
   | "MISSING_NUMBER"
   /** An index refers to no name, scope or value. */
   | "BAD_INDEX"
-  /** It is an end, variables, values or a call site, and nothing that it could belong to is open. */
+  /** It is an end, variables, values, sub-ranges or a call site, but what it needs is not open. */
   | "NOTHING_OPEN"
   /** A source without scopes comes within the scopes of another. */
   | "NOT_CLOSED"
@@ -164,7 +164,7 @@ export type ScopesValue = { readonly names?: readonly string[] | null | undefine
 /**
  * The scopes of a map, its member `scopes`: for each source a tree of its functions and blocks, and for the generated code a tree of
  * ranges, each with the scope that it is the code of. They have the names of functions in the source, the frames of calls that were
- * inlined, and the values of variables. What its calls answer is frozen. Those of scopes that were freed throw SourceMapError of
+ * inlined, and the values of variables. Its calls return frozen values. Calls on freed scopes throw SourceMapError of
  * SMAP_NULL_HANDLE.
  *
  * @example
@@ -180,7 +180,7 @@ export class Scopes {
    * SMAP_BAD_SCOPES. Of an indexed map read the map of each section, whose ranges count from the section's offset. A byte order mark is not
    * mended.
    *
-   * Of a value the text of the scopes alone is looked at. Over WebAssembly the scopes of a large JSON text take as much memory as that,
+   * Of a value, `scopes`, `names`, `sections` are read. Over WebAssembly the scopes of a large JSON text take as much memory as that,
    * until they are freed.
    */
   static read(json: MapInput | ScopesValue): Scopes;
@@ -220,7 +220,7 @@ export class Scopes {
   valueAt(range: number, variable: number, position: Position): VariableValue | null;
   /** The scopes that a generated position is in, from the inside out, with their variables and the values there: the scope that the
    *  innermost range is the code of, and those around it. Empty where no range contains the position (there `scopeChain` answers null, as
-   *  there is no frame), or that one is the code of none. */
+   *  there is no frame), or that range has no scope. */
   scopeChainAt(line: number, column: number): readonly ScopeChainEntry[];
   scopeChainAt(position: Position): readonly ScopeChainEntry[];
   /** The scopes that a frame of the source is in, by its index in `framesAt`: for frame 0 those of `scopeChainAt`, for an inlined call

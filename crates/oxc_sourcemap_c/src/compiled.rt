@@ -1,4 +1,4 @@
 //! Compiled maps: made of maps, opened in bytes of the caller, and asked.
 
-mod asking;
-mod making;
+pub mod asking;
+pub mod making;

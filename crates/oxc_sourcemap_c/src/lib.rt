@@ -5,11 +5,11 @@
 #![tactic(auto)]
 
 mod answers;
-mod compiled;
-mod freeing;
-mod holding;
-mod making;
-mod numbers;
-mod reading;
-mod scopes;
-mod texts;
+pub mod compiled;
+pub mod freeing;
+pub mod holding;
+pub mod making;
+pub mod numbers;
+pub mod reading;
+pub mod scopes;
+pub mod texts;

@@ -1,11 +1,11 @@
 //! The calls for C that make maps, and that change what handles hold.
 
-mod builders;
-mod changing;
+pub mod builders;
+pub mod changing;
 mod failure;
-mod joins;
-mod maps_of_maps;
-mod plans;
-mod reading_texts;
-mod sharing;
-mod whole_lists;
+pub mod joins;
+pub mod maps_of_maps;
+pub mod plans;
+pub mod reading_texts;
+pub mod sharing;
+pub mod whole_lists;

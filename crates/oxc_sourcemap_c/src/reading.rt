@@ -1,11 +1,11 @@
 //! The calls for C that read what handles hold, and the messages of errors.
 
 pub(crate) mod asked;
-pub(crate) mod getters;
-pub(crate) mod lookups;
-mod mends;
-mod messages;
-mod reverse;
-mod urls;
-mod within;
-mod writing;
+pub mod getters;
+pub mod lookups;
+pub mod mends;
+pub mod messages;
+pub mod reverse;
+pub mod urls;
+pub mod within;
+pub mod writing;

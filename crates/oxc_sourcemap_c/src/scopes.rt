@@ -1,6 +1,6 @@
 //! The scopes of maps: read, and asked for frames and for values of variables.
 
-mod asking;
-mod chains;
-mod making;
-mod values;
+pub mod asking;
+pub mod chains;
+pub mod making;
+pub mod values;

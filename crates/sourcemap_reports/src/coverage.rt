@@ -339,8 +339,8 @@ fn end_of(ranges: &[Run]) -> usize {
     end.unwrap_or(0)
 }
 
-/// Whether V8 saw another code than one of this length: if a range ends behind that, or the range of all code before. A report may lack
-/// that of all code: then no range is around the others, or one of functions with names.
+/// Whether V8 saw a code of another length than this: if a range ends behind it, or the range of the whole code ends before it. A report may
+/// lack the range of the whole code: then each range from 0 to the last end is that of a function with a name.
 fn is_other_build(
     alloc: Global,
     len: usize,

@@ -207,7 +207,9 @@ impl<'c> Mapped<'c> {
             .and_then(|units| units.iter().position(|unit| !is_space(*unit)))
             .unwrap_or(0);
         Run {
-            start: run.start.saturating_add(skipped as u32),
+            start: start
+                .saturating_add(skipped as u32)
+                .saturating_add(self.code.before),
             ..*run
         }
     }

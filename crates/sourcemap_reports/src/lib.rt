@@ -7,6 +7,7 @@ mod codes;
 pub mod coverage;
 pub mod diff;
 mod functions;
+mod gzip;
 mod html;
 pub mod page;
 mod scopes;

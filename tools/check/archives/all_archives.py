@@ -17,7 +17,7 @@ from tools.check.archives.trying import TOP, VERSION, Empty, holds
 from tools.over_libraries import kit
 from tools.pack.products import commit
 
-# What the paths of machines begin with, behind the first slash.
+# What the paths of machines begin with, behind the first slash, which stands behind no name (as in tools/build/c).
 FOLDERS = (r"root\b", r"home/\w", r"tmp/[\w.-]", r"builds?/\w", r"var/(?:tmp|folders)")
 
 
@@ -51,7 +51,7 @@ def members_of_ar(content):
 def has_no_path(archives):
     """No byte of any archive is one of a path of this machine, and no section has debug information."""
     places = {TOP, *Empty.hidden, Path.home(), Path(tempfile.gettempdir()), Path(os.environ.get("CARGO_HOME", Path.home() / ".cargo"))}
-    words = [re.escape(str(it)) for it in places if len(it.parts) > 1] + [f"/{it}" for it in FOLDERS] + [r"file:///\w"]
+    words = [re.escape(str(it)) for it in places if len(it.parts) > 1] + [rf"(?<![\w.])/{it}" for it in FOLDERS] + [r"file:///\w"]
     known = re.compile("|".join(words).encode())
     faults = []
     for archive in archives:

@@ -55,6 +55,8 @@ def install_debs(root, debs):
         holds(re.fullmatch(r"libc6 \(>= [\d.]+\)|liboxc-sourcemap1 \(= \S+\)", depends), f"{it.name} depends on {depends}")
     missing = [it for it in calls_of_header() if not (root / f"usr/share/man/man3/{it}.3.gz").exists()]
     holds(not missing and (root / "usr/share/doc/liboxc-sourcemap-dev/reference.html").is_file(), f"there are no pages of {missing}")
+    pages = [root / f"usr/share/doc/{it}" for it in ("junketscarp/cli.md", "liboxc-sourcemap-dev/FORMAT.md")]
+    holds(all(it.is_file() for it in pages), f"there is none of {pages}")
     said = ran(["dpkg", f"--root={root}", "--verify"], env=environment, check=False)
     holds(not said, said)
 

@@ -33,6 +33,9 @@ def has_files(tree, processor):
     for it in programs:
         wanted += f" share/man/man1/{it}.1 share/bash-completion/completions/{it} share/zsh/site-functions/_{it} share/fish/vendor_completions.d/{it}.fish"
         holds(os.access(tree / "bin" / it, os.X_OK), f"bin/{it} cannot be run")
+    pages = {it.name: it.read_text() for it in (tree / "share/doc/junketscarp").glob("*.md")}
+    links = [it for page in pages.values() for it in re.findall(r"\]\(([^)#:]+)[)#]", page) if it not in pages]
+    holds("cli.md" in pages and not links, f"documents have links to {links}")
     missing = [it for it in wanted.split() if not (tree / it).is_file() or not (tree / it).stat().st_size]
     holds(not missing, f"there is no {missing}")
     holds(os.readlink(tree / "lib/liboxc_sourcemap.so") == "liboxc_sourcemap.so.1", "where liboxc_sourcemap.so leads")

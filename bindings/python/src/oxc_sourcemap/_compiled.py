@@ -75,7 +75,7 @@ class CompiledMap(Handle):
     Until it is closed (by `close`, a `with` or the collector) the buffer cannot be resized or closed; its bytes must not be changed.
 
     Any bytes may be opened. In bytes that `SourceMap.compile` did not make, a lookup finds some token of the line, or none, and a text that
-    is not UTF-8 counts as None: a token whose source is none has no source. `names`, `sources` and `source_contents` raise ValueError if
+    is not UTF-8 counts as None: a token with such a source has no source. `names`, `sources` and `source_contents` raise ValueError if
     texts overlap so far that all are longer than the bytes.
 
     Raises SourceMapError of NOT_COMPILED, COMPILED_VERSION, COMPILED_LENGTH or COMPILED_SIZES, and ValueError if the buffer is not

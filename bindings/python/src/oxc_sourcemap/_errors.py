@@ -29,9 +29,9 @@ class SourceMapError(ValueError):
     field: Union[Field, ScopesFault, int, None]
     """The member that is missing or has the wrong type, of Code.JSON_SHAPE; what is wrong, of Code.BAD_SCOPES."""
     detail: int
-    """The number that belongs to the code: an id, an index, a size, a version; else 0."""
+    """The number that belongs to the code: an id, an index, a byte, a size, a version; else 0."""
     place: Optional[FaultPlace]
-    """Where in what was read the fault is, if that is known."""
+    """The place of the fault in the input, if it is known."""
 
     def __init__(
         self,

@@ -38,7 +38,7 @@ class Lookups(Handle):
         """Traces a generated position: the token that answers for it by this bias, and where it points; None if there is none.
 
         Raises SourceMapError of BAD_OPTION, or of LINE_ORDER if the tokens are not in order of lines, as can happen after a join. For other
-        unsorted maps (`is_sorted`) only this is promised: there is an answer.
+        unsorted maps (`is_sorted`), it succeeds with some answer.
 
         >>> map = SourceMap.from_tokens([Token(0, 4, 2, 1, 0, None)], sources=["a.ts"])
         >>> found = map.trace(0, 9)
@@ -110,7 +110,7 @@ class Lookups(Handle):
         check(self._read(lambda at: lib.smap_find_all(at, rows, count, bias, *out, byref(fault))), fault)
 
     def pieces(self, begin: tuple[int, int], end: tuple[int, int]) -> list[Piece]:
-        """The pieces of a range of generated code, from a position up to but not including another, in order: each is as long as
+        """The pieces of a range of generated code, from `begin` up to but not including `end`, in order. Each extends as far as
         the same token answers (by Bias.BEFORE) at each position. A range that ends at or before its beginning has none.
 
         >>> map = SourceMap.from_tokens([Token(0, 4, 2, 1, None, None)])

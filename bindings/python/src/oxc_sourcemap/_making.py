@@ -143,7 +143,7 @@ class SourceMapBuilder(_Maker):
         return self._added(lib.smap_builder_add_source, path=path)
 
     def add_source_and_content(self, path: Text, content: Text) -> int:
-        """The same with a content. A path that was added before keeps its id and its first content.
+        """The same with a content. A path added before keeps its id, and its content or lack of it.
 
         >>> SourceMapBuilder().add_source_and_content("a.ts", "let a;")
         0
@@ -201,7 +201,7 @@ class SourceMapJoin(_Maker):
 
     def add(self, map: SourceMap, line: int, column: int = 0) -> None:
         """Adds a map, whose code begins at this line and column of the joined code. The map may be changed or closed then. Source
-        roots are dropped: `apply_source_root` before keeps them. Raises SourceMapError of TOO_LARGE.
+        roots are dropped unless `apply_source_root` ran before. Raises SourceMapError of TOO_LARGE.
 
         >>> SourceMapJoin().add(SourceMap.from_tokens([]), 7)
         """

@@ -130,8 +130,8 @@ class SourceMap(Contents, Lookups):
 
     @staticmethod
     def join(parts: Iterable[tuple[SourceMap, int, int]]) -> SourceMap:
-        """Joins maps, each at the line and column where its code begins in the joined code. Source roots are dropped:
-        `apply_source_root` before keeps them. Raises SourceMapError of TOO_LARGE.
+        """Joins maps, each at the line and column where its code begins in the joined code. Source roots are dropped
+        unless `apply_source_root` ran before. Raises SourceMapError of TOO_LARGE.
 
         >>> map = SourceMap.from_tokens([Token(0, 4, 2, 0, 0, None)], sources=["a.ts"])
         >>> SourceMap.join([(map, 0, 0), (map, 7, 2)]).trace(7, 6).token.source_id
@@ -287,7 +287,7 @@ class SourceMap(Contents, Lookups):
 
     def first_difference(self, other: SourceMap) -> Optional[Position]:
         """The first generated position that two maps trace differently, by texts and not by ids; None if there is none. For unsorted maps
-        only this is promised: there is an answer.
+        it returns some answer.
 
         >>> map = SourceMap.from_tokens([Token(0, 4, 2, 1, None, None)])
         >>> map.first_difference(SourceMap.from_tokens([]))
@@ -314,7 +314,7 @@ class SourceMap(Contents, Lookups):
 
     def remap(self, inputs: Union[Mapping[str, SourceMap], Iterable[tuple[Text, SourceMap]]]) -> SourceMap:
         """Traces this map through the maps of its sources: inputs pairs the path of a source with its map; of equal paths the first counts.
-        Source roots are dropped: `apply_source_root`, called before, keeps them. Raises SourceMapError of INPUT_LINE_ORDER or TOO_LARGE.
+        Source roots are dropped unless `apply_source_root` ran before. Raises SourceMapError of INPUT_LINE_ORDER or TOO_LARGE.
 
         >>> bundle = SourceMap.from_tokens([Token(0, 4, 2, 0, 0, None)], sources=["a.js", "b.js"])
         >>> compiled = SourceMap.from_tokens([Token(2, 0, 7, 1, 0, None)], sources=["a.ts"])
@@ -342,7 +342,7 @@ class SourceMap(Contents, Lookups):
 
     def to_json(self, *, limit: Optional[int] = None) -> str:
         """The JSON text. Raises SourceMapError of LINE_ORDER or TOO_LARGE, the latter also if it has more than `limit` bytes: a
-        map of a hundred bytes that others send may have gigabytes of lines, which are not written before.
+        100-byte map from others may have gigabytes of lines: with a limit, it raises before writing.
 
         >>> SourceMap.from_tokens([], sources=["a.ts"]).to_json(limit=1_000_000)
         '{"version":3,"names":[],"sources":["a.ts"],"mappings":""}'
@@ -366,8 +366,8 @@ class SourceMap(Contents, Lookups):
         return self._written_within(lib.smap_get_mappings, lib.smap_get_mappings_within, limit)
 
     def compile(self, text_length: int = 0, stamp: Buffer = bytes(32)) -> bytes:
-        """The bytes of the compiled map, which `CompiledMap` opens. They represent the map, with a content for each source, known or not,
-        and none past the last. `text_length` is the number of bytes of the map's text, and the stamp 32 bytes that are stored, such as the
+        """The bytes of the compiled map, which `CompiledMap` opens. They represent the map, with exactly one content for each source,
+        known or not. `text_length` is the number of bytes of the map's text, and the stamp 32 bytes that are stored, such as the
         SHA-256 of that text: with both, a file X.map.smc beside X.map is as `sourcemap compile` writes it, and `sourcemap resolve` reads
         it.
 

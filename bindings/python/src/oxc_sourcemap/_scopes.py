@@ -253,7 +253,7 @@ class Scopes(Handle):
     ) -> list[ScopeChainEntry]:
         """The scopes that a position of the generated code is in, from the inside out, with their variables, whose texts are those of the
         map: the scope that the innermost range is the code of, and those around it. An empty list where no range contains the position
-        (there `scope_chain` returns None, as there is no frame), or that one is the code of no scope. A `map` of another type raises
+        (there `scope_chain` returns None, as there is no frame), or that range has no scope. A `map` of another type raises
         TypeError.
 
         >>> json = '{"version":3,"sources":["a.js"],"names":["f","a","x"],"mappings":"AAAA","scopes":"BFAAA,DC,CJA,EGAA,GD,FU"}'

@@ -71,7 +71,7 @@ def decode_data_url(url: Text) -> Optional[str]:
 
 
 def source_mapping_url(code: Text, language: int = Language.JAVASCRIPT) -> Optional[str]:
-    """The URL that a code names for its map, by its last such comment; None if it names none.
+    """The URL of the map in the code's last sourceMappingURL comment; None if there is none.
 
     Raises SourceMapError of BAD_OPTION.
 

@@ -135,7 +135,7 @@ class _Line:
 
 
 def frames_in(text: str) -> Iterator[Frame]:
-    """The frames of a trace or a log, in order, which lie apart.
+    """The disjoint frames of a trace or a log, in order.
 
     >>> [frame[:3] for frame in frames_in("Error: x\\n    at f (https://h/app.js:1:14)\\ng@https://h/b.js:2:1")]
     [('https://h/app.js', 1, 14), ('https://h/b.js', 2, 1)]

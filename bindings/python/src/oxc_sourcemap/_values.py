@@ -22,8 +22,8 @@ Text = Union[str, "Buffer"]
 class Code(IntEnum):
     """What is wrong, as `SourceMapError.code`. The names are those of oxc_sourcemap.h, without `SMAP_`.
 
-    OUT_OF_MEMORY is raised as MemoryError, and NULL_HANDLE as ValueError; no call raises NO_ENTRY, which is None, NO_FILE, which is
-    OSError, SHARED and NOT_SHARED.
+    OUT_OF_MEMORY is raised as MemoryError, and NULL_HANDLE as ValueError; no call raises NO_ENTRY (None), NO_FILE (OSError), SHARED
+    or NOT_SHARED.
 
     >>> Code.LINE_ORDER.value
     12
@@ -129,9 +129,9 @@ class PlaceKind(IntEnum):
 class Bias(IntEnum):
     """Which token answers for a generated position.
 
-    BEFORE: the last one on its line at or before its column; of several at the column itself the first.
+    BEFORE: the last one on its line at or before its column; the first of several at the column itself.
     CLAMPED: the same, or else the first one on its line.
-    AFTER: the first one on its line at or after its column; of several at the column itself the last.
+    AFTER: the first one on its line at or after its column; the last of several at the column itself.
     """
 
     BEFORE = 0
@@ -143,8 +143,8 @@ class Direction(IntEnum):
     """Which tokens answer for an original position.
 
     AT: those at this line and column of the source.
-    FOR: those at the last column of the line, at or before this one, that has any.
-    FROM: those at the first column of the line, at or after this one, that has any.
+    FOR: those at the last column with tokens at or before this one on the line.
+    FROM: those at the first column with tokens at or after this one on the line.
     ON_LINE: those on this line; the column is not read.
     """
 
@@ -263,8 +263,8 @@ class Piece(NamedTuple):
 
 
 class Counts(NamedTuple):
-    """The number of entries of each list of a map, and of its lines; and the bytes of its texts, tokens and indices, to which
-    some 50 for each text come."""
+    """The number of entries of each list of a map, and of its lines; and the bytes of its texts, tokens and indices, plus
+    some 50 for each text."""
 
     tokens: int
     names: int
@@ -294,7 +294,7 @@ class ScopesCounts(NamedTuple):
 
 class Scope(NamedTuple):
     """A scope of a source, from `start` up to but not including `end`: a function, a block, a class or the like. The ids are those of
-    the source, of its name, and of the name that is its kind. A call of a stack frame, which is a function, makes a frame. `parent` is
+    the source, of its name, and of the name that is its kind. A stack frame is a function: its call makes a frame. `parent` is
     the index of the innermost scope around it."""
 
     source_id: int
@@ -422,7 +422,7 @@ class Found(NamedTuple):
 
 
 class FaultPlace(NamedTuple):
-    """Where in what was read a fault is. What does not belong to its kind is None.
+    """The place of a fault in the input. Members of other kinds of place are None.
 
     A segment of the mappings has its generated line, its number on the line (`column`), and the byte of the mappings where it
     begins. A text that is not JSON has a line, the bytes of the line before (`column`), and the byte of the text. A member of a

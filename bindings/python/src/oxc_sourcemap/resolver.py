@@ -1,4 +1,4 @@
-"""A resolver of stack traces for servers: codes and maps of a store, compiled and held within bounds, for any number of threads.
+"""Resolves stack traces on servers, in any number of threads: it compiles the maps of a store, and holds them within bounds.
 
 >>> import json
 >>> map = {"version": 3, "sources": ["a.ts"], "names": ["run"], "mappings": "AAAA,aACEA"}
@@ -111,7 +111,7 @@ class Limits:
     held_bytes: int = 256 << 20
     """Bytes of compiled maps that are held. Those in files are mapped into memory, of which the system takes pages away if need be."""
     held_maps: int = 256
-    """Compiled maps that are held, each in a file with a descriptor of it; up to 64 more are in use for each trace that is resolved."""
+    """Compiled maps that are held, those in files with a descriptor each. Each trace in progress uses up to 64 more."""
     held_missing: int = 4096
     """Codes that are known to have no map."""
     held_seconds: float = 60.0
@@ -183,17 +183,17 @@ def replace_frames(text: str, frames: Iterable[Resolved]) -> str:
 class Resolver:
     """A resolver over a store: the path of a folder, or an object with `get` (`Store`).
 
-    `base` is the URL or path below which frames name what the store has, or pairs of such and a folder of the store; of several the
+    `base` is the URL or path that stands for the store, or pairs of a URL or path and a folder of the store; of several the
     longest counts. A query or fragment of a URL does not count, and neither does the case of its host; `file:` URLs are paths. The resolver
     never uses a network.
 
     A code's map is the one that its last comment `sourceMappingURL` names, in the store or as a data URL, else the one with its name
-    and `.map`; with `beside_first` the latter, if it is there, and the code is not read. With a debug id it is the one of the name
-    `debug_id_name`, in which `{}` stands for the id in lower case, else that of the URL, if its debug id is not another one.
+    and `.map`; with `beside_first` the latter, if it is there, and the code is not read. With a debug id it is the map named by
+    `debug_id_name`, in which `{}` stands for the id in lower case, else that of the URL, but no map with another debug id.
 
     Maps are compiled when they are first needed. `cache` is where these are kept: BESIDE their maps, for which the store is a folder
     that can be written; the path of a folder; None for nowhere. X.map.smc beside X.map is taken if it was made of as many bytes as
-    X.map has, and its file is no older or, with `always_hashes` in any case, its SHA-256 is that of X.map.
+    X.map has, and its file is no older (unless `always_hashes` is set) or its SHA-256 is that of X.map.
 
     Threads may share a resolver. Two that ask for one map read it once.
 

@@ -41,9 +41,9 @@ pub fn compile(parts: &SourceMapParts<'_>, text_length: u64, stamp: &[u8; 32]) -
 }
 
 impl SourceMap<'_> {
-    /// Compiles this map: makes the bytes that [`CompiledMap::open`] opens. They represent the map, with a content for each source, known
-    /// or not, and none past the last. `text_length` is the number of bytes of the map's text, 0 if there is none; the stamp is kept as it
-    /// is, as the SHA-256 of that text.
+    /// Compiles this map: makes the bytes that [`CompiledMap::open`] opens. They represent the map, with one content per source, known
+    /// or not, and no others. `text_length` is the number of bytes of the map's text, 0 if there is none. It stores the stamp unchanged,
+    /// e.g. the SHA-256 of that text.
     ///
     /// Fails with `Unsorted`, `TooLarge` or `OutOfMemory`.
     ///
@@ -72,7 +72,7 @@ impl SourceMap<'_> {
 
 /// A compiled map, searched in its bytes. What it returns is borrowed from the bytes.
 ///
-/// Any bytes may be opened. Of such that [`SourceMap::compile`] did not make, a lookup finds some token of the line, or none, and a text
+/// Any bytes may be opened. If [`SourceMap::compile`] did not make them, a lookup finds some token of the line, or none, and a text
 /// that is not UTF-8 counts as none.
 ///
 /// ```
@@ -130,7 +130,7 @@ impl<'a> CompiledMap<'a> {
         self.token_for(line, col, Bias::Clamped)
     }
 
-    /// The first token on its line at or after a column; of several at the column itself the last.
+    /// The first token on its line at or after a column; the last of several at the column itself.
     pub fn lookup_token_after(&self, line: u32, col: u32) -> Option<Token> {
         self.token_for(line, col, Bias::After)
     }

@@ -37,7 +37,7 @@ pub enum Error {
     BadNameReference(u32),
     /// There is no memory left.
     OutOfMemory,
-    /// A line, a column, an id or a count is above its limit.
+    /// A line, column, id, count or text is above its limit.
     TooLarge,
     /// The first token that lies on a line before that of the token before.
     LineOrder(usize),
@@ -130,7 +130,7 @@ pub enum ScopesFaultKind {
     MissingNumber,
     /// An index refers to no name, scope or value.
     BadIndex,
-    /// It is an end, variables, values or a call site, and nothing that it could belong to is open.
+    /// It is an end, variables, values, sub-ranges or a call site, but what it needs is not open.
     NothingOpen,
     /// A source without scopes comes within the scopes of another.
     NotClosed,

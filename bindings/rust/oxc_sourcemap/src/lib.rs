@@ -1,6 +1,6 @@
 //! Source maps of version 3 (ECMA-426), by the proved library `oxc_sourcemap`.
 //!
-//! This crate has the names and signatures of the crate `oxc_sourcemap` 9.0.0, so that it can replace it (README.md says how), and beside them
+//! This crate has the names and signatures of the crate `oxc_sourcemap` 9.0.0, which it can replace (see README.md), and besides them
 //! the other calls of the library. Reading, writing, lookups, joins and compositions are the library's, which is proved to
 //! meet its contracts; the code here holds handles and converts, and is tested. `docs/DIFFERENCES.md` of the repository lists where the two
 //! crates differ.

@@ -10,12 +10,12 @@ use crate::token::{Position, SourceViewToken, Token, id};
 /// Which token answers for a generated position.
 #[derive(Clone, Copy, Debug, Default, PartialEq, Eq, Hash)]
 pub enum Bias {
-    /// The last one on its line at or before its column; of several at the column itself the first.
+    /// The last one on its line at or before its column; the first of several at the column itself.
     #[default]
     Before,
     /// The same, or else the first one on its line.
     Clamped,
-    /// The first one on its line at or after its column; of several at the column itself the last.
+    /// The first one on its line at or after its column; the last of several at the column itself.
     After,
 }
 
@@ -35,9 +35,9 @@ pub enum Direction {
     /// Those at this line and column of the source.
     #[default]
     At,
-    /// Those at the last column of the line, at or before this one, that has any.
+    /// Those at the last column with tokens at or before this one on the line.
     For,
-    /// Those at the first column of the line, at or after this one, that has any.
+    /// Those at the first column with tokens at or after this one on the line.
     From,
     /// Those on this line; the column is not read.
     OnLine,
@@ -240,7 +240,7 @@ impl<'a> SourceMap<'a> {
     /// Traces a generated position.
     ///
     /// Fails with `LineOrder` if the tokens go back in lines, as can happen after a join. For other maps that are not
-    /// [sorted](Self::is_sorted) only this is promised: there is an answer.
+    /// [sorted](Self::is_sorted), it succeeds with some answer.
     ///
     /// ```
     /// use oxc_sourcemap::{Bias, SourceMap, Traced};
@@ -312,7 +312,7 @@ impl<'a> SourceMap<'a> {
         Ok(())
     }
 
-    /// The pieces of a range of generated code, in order: each is as long as the same token answers, by [`Bias::Before`]. A range
+    /// The pieces of a range of generated code, in order: each reaches as far as one token answers, by [`Bias::Before`]. A range
     /// that ends at or before its beginning has none.
     ///
     /// ```

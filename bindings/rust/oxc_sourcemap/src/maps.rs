@@ -11,8 +11,8 @@ impl SourceMap<'_> {
     /// Composes this map, from generated to intermediate code, with `input`, from intermediate to original code.
     ///
     /// Generated positions, file and debug id are those of this map; original positions, source root, sources, contents and ignore
-    /// list those of `input`. A name of `input` comes before one of this map. What this map has before the first token of its line
-    /// in `input` counts as that token.
+    /// list those of `input`. A name of `input` comes before one of this map. A position before the first token of its line
+    /// in `input` traces to that token.
     ///
     /// ```
     /// use oxc_sourcemap::SourceMap;
@@ -39,8 +39,8 @@ impl SourceMap<'_> {
     }
 
     /// Traces this map through the maps of its sources: each input is a path, byte for byte as this map has it, and the map of that source;
-    /// of equal paths the first counts. Sources without an input stay. Source roots, of inputs too, are dropped: `apply_source_root`,
-    /// called before, keeps them.
+    /// of equal paths the first counts. Sources without an input stay. All source roots are dropped, unless `apply_source_root`
+    /// was called before.
     ///
     /// Fails with `InputLineOrder`, `TooLarge` or `OutOfMemory`.
     ///

@@ -296,9 +296,9 @@ impl Scopes {
         if code == sys::SMAP_OK { id(name) } else { None }
     }
 
-    /// The scopes that a position of the generated code is in, from the inside out: that which the innermost range is the code of, and
+    /// The scopes that a position of the generated code is in, from the inside out: the scope whose code the innermost range is, and
     /// those around it. The list is empty where no range contains the position (there [`scope_chain`](Scopes::scope_chain) is None, as
-    /// there is no frame), or that one is the code of none. Fails with `OutOfMemory`.
+    /// there is no frame), or that range has no scope. Fails with `OutOfMemory`.
     ///
     /// ```
     /// use oxc_sourcemap::Scopes;

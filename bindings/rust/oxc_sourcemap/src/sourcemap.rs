@@ -59,8 +59,8 @@ pub struct SourceMapParts<'a> {
     pub debug_id: Option<Cow<'a, str>>,
 }
 
-/// The lengths of the lists of a map, the number of its generated lines, and the bytes of its texts, tokens and indices (to which some
-/// 50 for each text come).
+/// The lengths of the lists of a map, the number of its generated lines, and the bytes of its texts, tokens and indices (plus some
+/// 50 for each text).
 #[derive(Clone, Copy, Debug, PartialEq, Eq)]
 #[non_exhaustive]
 #[allow(missing_docs)]

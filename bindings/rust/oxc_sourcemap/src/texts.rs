@@ -70,7 +70,7 @@ pub enum Language {
     Css,
 }
 
-/// The URL that a code names for its map, by its last such comment.
+/// The URL of the map in the code's last sourceMappingURL comment.
 ///
 /// ```
 /// use oxc_sourcemap::{source_mapping_url, Language};

@@ -60,13 +60,23 @@ async function act(browser, probe, { hover, click, key, shift, find, pick }) {
   if (pick !== undefined) await browser.evaluate(`(document.querySelector('#source').selectedIndex = ${pick}, document.querySelector('#source').dispatchEvent(new Event('change')), 0)`);
 }
 
+/** What the page shows as soon as that is what is wanted, or else after some seconds: a click may take effect late on a busy machine. */
+async function shownState(browser, probe, wants) {
+  const last = Date.now() + 1000 * SECONDS;
+  for (;;) {
+    await sleep(30);
+    const state = await browser.evaluate(probe.STATE);
+    if (Date.now() > last || Object.entries(wants).every(([part, wanted]) => state[part] === wanted)) return state;
+  }
+}
+
 /** Does the steps of a page, and compares what each leaves. */
 async function steps(browser, tally, name, probe, list) {
   for (const step of list) {
+    const wants = step.wants ?? {};
     await act(browser, probe, step);
-    await sleep(30);
-    const state = await browser.evaluate(probe.STATE);
-    for (const [part, wanted] of Object.entries(step.wants ?? {})) {
+    const state = await shownState(browser, probe, wants);
+    for (const [part, wanted] of Object.entries(wants)) {
       tally.check(state[part] === wanted, `${name}: ${JSON.stringify(step)}: ${part} is ${JSON.stringify(state[part])}`);
     }
   }

@@ -1,5 +1,6 @@
-"""The codes of findings of `sourcemap check`: its help lists those that its code has."""
+"""The codes of findings of `sourcemap check`: its help lists those that its code has. And what it finds out about originals."""
 
+import json
 import re
 import subprocess
 import tempfile
@@ -40,3 +41,49 @@ def roots(program, tally):
             wrong = sorted(Path(it.partition(": error: ")[0]).name for it in lines if ": error: " in it)
             hoped = ["gone.js"] if "--root" in words else ["out.js"]
             tally.check(wrong == hoped and ran.returncode == 1, f"check of {words}: {wrong}, not {hoped}: {ran}")
+
+
+def originals(program, tally):
+    """Names that are elsewhere in a content, or nowhere; and contents that are not those of files."""
+    # Three names, each at the beginning of a line in the code and in the source.
+    plain = {"version": 3, "sources": ["a.ts"], "names": ["one", "two", "three"], "mappings": "AAAAA;AACAC;AACAC"}
+    source = "one\n#two\n\"three\"\n"
+    apart = "not in the contents at the original positions"
+    cases = {
+        source: [],
+        "/*\n*/\n" + source: [f"warning: 3 of 3 names are {apart}, but 2 lines further down: was a banner added or removed? [shifted]"],
+        source[4:]: [f"warning: 3 of 3 names are {apart}, but 1 line further up: was a banner added or removed? [shifted]"],
+        "\n" * 65 + source: [f"note: 3 of 3 names are {apart}, the first at line 0, column 0 of the code [name-differs]"],
+        source.replace("two", "tvo"): [f"note: 1 of 3 names is {apart}, the first at line 1, column 0 of the code [name-differs]"],
+        source.replace("one", "on"): [f"note: 1 of 3 names is {apart}, the first at line 0, column 0 of the code [name-differs]"],
+    }
+    with tempfile.TemporaryDirectory() as folder:
+
+        def found(content):
+            Path(folder, "m.map").write_text(json.dumps({**plain, "sourcesContent": [content]}))
+            ran = subprocess.run([program, "check", "m.map"], capture_output=True, text=True, cwd=folder, check=False)
+            lines = [it.removeprefix("m.map: ") for it in ran.stdout.splitlines()[1:]]
+            # (past the end of a content shortened by a line there is no position)
+            return ran.returncode, [it for it in lines if "past-content" not in it]
+
+        Path(folder, "m").write_text("one\ntwo\nthree\n")
+        for content, wanted in cases.items():
+            status, lines = found(content)
+            tally.check(lines == wanted and (status == 1) == ("shifted" in "".join(wanted) or content == source[4:]), f"{content}: {status}, {lines}")
+        differs = ["note: 1 content not as in its file: a.ts [content-differs]"]
+        for text, wanted in ((source.encode(), []), (b"\xef\xbb\xbf" + source.encode(), []), (source.encode() + b" ", differs), (b"", differs)):
+            Path(folder, "a.ts").write_bytes(text)
+            tally.check(found(source) == (0, wanted), f"a file with {text}: {found(source)}")
+        Path(folder, "a.ts").unlink()
+        # The tokens of the map are in the middle of words of another code.
+        inside = "in the middle of words of the code, the first at line"
+        for code, told in (("one\n-two\n$\n", []), ("\ufeffone\ntwo\n{}\n", []), ("\u00e9one\ntwo\n\n", [])):
+            Path(folder, "m").write_text(code)
+            tally.check(found(source) == (0, told), f"{code}: {found(source)}")
+        plain["mappings"] = "CAAAA;CACAC;CACAC"
+        Path(folder, "m").write_text("one\ntwo\nthree\n")
+        wanted = [f"warning: 3 of 3 tokens are {inside} 0, column 1: is it the map of this code? [inside-words]"]
+        tally.check(found(source) == (1, wanted), f"another code: {found(source)}")
+        Path(folder, "m").write_text("(one\n(two\n_three\n")
+        wanted = [f"warning: 1 of 3 tokens is {inside} 2, column 1: is it the map of this code? [inside-words]"]
+        tally.check(found(source) == (1, wanted), f"one of three: {found(source)}")

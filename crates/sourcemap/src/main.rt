@@ -10,7 +10,7 @@ mod commands;
 use clap::{ArgMatches, Error};
 use sourcemap_files::{Asked, Status, print, tell};
 use sourcemap_texts::push_visible;
-use sourcemap_words::{Failure, Outcome, VERSION, program};
+use sourcemap_words::{Failure, Outcome, VERSION, program, wrapped};
 use std::alloc::{AllocError, Global};
 use std::env;
 use std::process::ExitCode;
@@ -46,10 +46,25 @@ fn visible_lines(alloc: Global, text: &str) -> Outcome<String> {
     Ok(visible)
 }
 
+/// The width of help, where the terminal's is not known.
+const WIDTH: usize = 80;
+/// The least width of help.
+const LEAST_WIDTH: usize = 40;
+
+/// The width of help: that of the environment variable COLUMNS, if it is a number.
+fn width_of_help(rt: &HostRuntime) -> usize {
+    let width = match env::var(rt, "COLUMNS") {
+        Ok(columns) => columns.as_str().parse().unwrap_or(WIDTH),
+        Err(_) => WIDTH,
+    };
+    width.max(LEAST_WIDTH)
+}
+
 /// Prints help or the version; or reports what is wrong with the words of the command line, which is a failure.
 fn show(rt: &HostRuntime, error: &Error) -> Outcome<ExitCode> {
     let text = format!(in rt.alloc(); "{error}")?;
     if !error.use_stderr() {
+        let text = wrapped(rt.alloc(), text.as_str(), width_of_help(rt))?;
         print(rt, text.as_str())?;
         return Ok(ExitCode::SUCCESS);
     }
@@ -79,13 +94,16 @@ fn parse_and_run(rt: &HostRuntime, words: &[String]) -> Result<ExitCode, AllocEr
     })
 }
 
-/// The words of the command line.
+/// The words of the command line; alone, the program prints its help.
 fn words_of(rt: &HostRuntime) -> Result<Vec<String>, AllocError> {
     let mut words = Vec::new(rt.alloc());
     if let Ok(arguments) = env::args(rt) {
         for word in arguments {
             words.push(word)?;
         }
+    }
+    if words.len() < 2 {
+        words.push(String::from_str(rt.alloc(), "--help")?)?;
     }
     Ok(words)
 }

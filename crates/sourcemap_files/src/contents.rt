@@ -6,7 +6,8 @@ ghost use Rattle.sourcemap_files.specs.Contents.{contents_alone, without_content
 use crate::compiled::{
     COMPILE_AGAIN, COMPILED_END, Decompiled, compiled_of, decompile, is_of_same_text,
 };
-use crate::input::{is_regular, read_bytes, tell, warn};
+use crate::finding::{Places, is_in_root};
+use crate::input::{is_regular, read_bytes, read_text, tell, warn};
 use crate::paths::{folder_of, is_inside};
 use crate::sections::are_same;
 use oxc_sourcemap_parts::{SourceMapParts, owned_text};
@@ -144,4 +145,23 @@ pub fn put_contents(
         parts.source_contents = apart.source_contents;
     }
     Ok(())
+}
+
+/// The content of a source in its file, if that is in the root and can be read.
+pub fn content_on_disk(
+    rt: &HostRuntime,
+    path: &str,
+    places: Places<'_>,
+) -> Outcome<Option<String>> {
+    if !is_regular(rt, path) || !is_in_root(rt, path, places) {
+        return Ok(None);
+    }
+    match read_text(rt, path) {
+        Ok(content) => Ok(Some(content)),
+        Err(Failure::Told(why)) => {
+            tell(rt, why.as_str());
+            Ok(None)
+        }
+        Err(failure) => Err(failure),
+    }
 }

@@ -2,15 +2,14 @@
 use crate::codes::{hashbang_of, run_together, without_map_comments};
 use crate::own::{mapped_to_itself, stop, with_stop};
 use crate::rebasing::rebase;
-use crate::scopes::read_without_scopes;
 use oxc_sourcemap_map::{SourceMap, parts_of};
 use oxc_sourcemap_parts::SourceMapParts;
 use oxc_sourcemap_text::Language;
 use percent_encoding::utf8_percent_encode;
 use sourcemap_files::{
     Asked, Lookup, Progress, Status, bytes_to_escape, file_name, folder_of, language_of, limit_of,
-    limited_json, map_of_code, print, read_text, refuse_overwriting, relative_to, shown_name,
-    usage, warn, write_files, written_name,
+    limited_json, map_of_code, print, read_text, read_without_scopes, refuse_overwriting,
+    relative_to, shown_name, usage, warn, write_files, written_name,
 };
 use sourcemap_run::{Bundle, push_number_member, push_object, push_text_member};
 use sourcemap_words::{Outcome, failure_of};

@@ -1,10 +1,9 @@
 //! `compile`: maps as bytes in which positions are looked up in place.
-use crate::scopes::read_without_scopes;
 use oxc_sourcemap_parts::SourceMapParts;
 use sourcemap_files::{
     Asked, COMPILED_END, CONTENTS_END, MapText, Progress, Status, Written, compiled_of, file_name,
-    folder_of, is_inside, is_regular, map_of_file, place_of, print, refuse_overwriting,
-    take_contents, tell, usage, warn, with_slash, write_files,
+    folder_of, is_inside, is_regular, map_of_file, place_of, print, read_without_scopes,
+    refuse_overwriting, take_contents, tell, usage, warn, with_slash, write_files,
 };
 use sourcemap_run::{push_number_member, push_object, push_text_member};
 use sourcemap_words::{Failure, Outcome, failure_of};

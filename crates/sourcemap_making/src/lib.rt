@@ -7,4 +7,3 @@ pub mod compile;
 mod own;
 mod rebasing;
 pub mod remap;
-mod scopes;

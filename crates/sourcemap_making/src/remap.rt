@@ -1,123 +1,13 @@
 //! `remap`: a map traced through the maps of its sources.
 use crate::rebasing::rebase;
-use crate::scopes::read_without_scopes;
 use oxc_sourcemap_map::{SourceMap, parts_of};
 use sourcemap_files::{
-    Asked, Lookup, MapText, Status, folder_of, is_file, is_inside, limit_of, limited_json,
-    map_of_code, map_of_file, plain_path, print, read_text, real_name, usage, warn, write_text,
+    Asked, MapText, Status, first_sources, folder_of, followed, limit_of, limited_json,
+    map_of_file, print, read_without_scopes, usage, warn, write_text,
 };
 use sourcemap_run::{push_number_member, push_object, push_text_member};
-use sourcemap_texts::is_url;
 use sourcemap_words::{Outcome, failure_of};
 use std::alloc::Global;
-
-/// The greatest number of maps one above the other.
-const DEEPEST: u32 = 256;
-
-/// The maps on the way from the one that is remapped, by their real paths: a map that is met again would be its own source.
-#[derive(Clone, Copy)]
-struct Way<'a> {
-    name: &'a str,
-    before: Option<&'a Way<'a>>,
-}
-
-fn has_been(way: &Way<'_>, name: &str) -> bool {
-    let mut at = Some(way);
-    for _ in 0..DEEPEST {
-        let Some(here) = at else {
-            return false;
-        };
-        if here.name == name {
-            return true;
-        }
-        at = here.before;
-    }
-    false
-}
-
-/// The map of a source, found beside it; None if the source is not there, or has no map.
-fn map_of_source(asked: &Asked<'_, '_>, folder: &str, source: &str) -> Outcome<Option<MapText>> {
-    if source.is_empty() || is_url(source) {
-        return Ok(None);
-    }
-    let (rt, places) = (asked.rt, asked.places());
-    let path = plain_path(asked.alloc(), folder, source)?;
-    let path = path.as_str();
-    if !is_file(rt, path) {
-        return Ok(None);
-    }
-    if !places.outside && !is_inside(rt, path, places.root) && !is_inside(rt, path, folder) {
-        warn(
-            rt,
-            path,
-            "is outside of the root, and is not followed: allow it by --outside",
-        );
-        return Ok(None);
-    }
-    let text = read_text(rt, path)?;
-    match map_of_code(rt, path, text.as_str(), places)? {
-        Lookup::Map(map) => Ok(Some(map)),
-        Lookup::None(_) => Ok(None),
-    }
-}
-
-/// The map of a source, traced to its own originals, its sources relative to the folder of the outer map. `count` counts the maps
-/// that are traced through, as in all functions here.
-#[cycle(follow)]
-fn followed_source(
-    asked: &Asked<'_, '_>,
-    text: &MapText,
-    folder: &str,
-    way: &Way<'_>,
-    depth: u32,
-    count: &mut u64,
-) -> Outcome<SourceMap<'static>> {
-    let alloc = asked.alloc();
-    let name = real_name(asked.rt, text.name.as_str())?;
-    if has_been(way, name.as_str()) {
-        return Err(failure_of(
-            alloc,
-            text.name.as_str(),
-            "is the map of one of its own sources, a cycle: mend the map, or do without --follow",
-        ));
-    }
-    let Some(depth) = depth.checked_sub(1) else {
-        return Err(failure_of(
-            alloc,
-            text.name.as_str(),
-            "lies above too many maps: do without --follow",
-        ));
-    };
-    *count = count.saturating_add(1);
-    let way = Way {
-        name: name.as_str(),
-        before: Some(way),
-    };
-    let mut parts = follow_sources(asked, text, &way, depth, count)?.into_parts();
-    rebase(asked.rt, &mut parts, text.folder.as_str(), folder)?;
-    Ok(SourceMap::from_parts(parts))
-}
-
-/// The inputs for the sources of a map.
-#[cycle(follow)]
-fn inputs_of(
-    asked: &Asked<'_, '_>,
-    map: &SourceMap<'_>,
-    folder: &str,
-    way: &Way<'_>,
-    depth: u32,
-    count: &mut u64,
-) -> Outcome<Vec<(String, SourceMap<'static>)>> {
-    let alloc = asked.alloc();
-    let mut inputs = Vec::new(alloc);
-    for source in map.get_sources() {
-        if let Some(text) = map_of_source(asked, folder, source)? {
-            let input = followed_source(asked, &text, folder, way, depth, count)?;
-            inputs.push((String::from_str(alloc, source)?, input))?;
-        }
-    }
-    Ok(inputs)
-}
 
 /// A map traced through inputs. It owns its strings.
 fn remap_by(
@@ -131,25 +21,6 @@ fn remap_by(
     }
     let led = map.remap(alloc, lent.as_slice())?;
     Ok(led.into_owned(alloc)?)
-}
-
-/// A map that was read, traced through the maps of its sources, at any depth.
-#[cycle(follow)]
-fn follow_sources(
-    asked: &Asked<'_, '_>,
-    text: &MapText,
-    way: &Way<'_>,
-    depth: u32,
-    count: &mut u64,
-) -> Outcome<SourceMap<'static>> {
-    let alloc = asked.alloc();
-    let mut map = SourceMap::from_parts(read_without_scopes(asked.rt, text)?);
-    map.apply_source_root(alloc)?;
-    let inputs = inputs_of(asked, &map, text.folder.as_str(), way, depth, count)?;
-    if inputs.is_empty() {
-        return Ok(map);
-    }
-    remap_by(alloc, &map, inputs.as_slice())
 }
 
 /// The maps of the arguments `PATH=MAP`, their sources relative to the folder of the outer map.
@@ -178,16 +49,18 @@ fn warn_unused(
     asked: &Asked<'_, '_>,
     map: &SourceMap<'_>,
     inputs: &[(String, SourceMap<'static>)],
-) {
+) -> Outcome<()> {
+    let alloc = asked.alloc();
     for (path, _) in inputs {
         if !map.get_sources().any(|source| source == path.as_str()) {
-            warn(
-                asked.rt,
-                path.as_str(),
-                "is no source of the map, so its map is not used: see `sourcemap check`",
-            );
+            let sources = first_sources(alloc, parts_of(map).sources.as_slice())?;
+            let why = format!(in alloc;
+                "is no source of the map, so its map is not used; the sources are {sources}"
+            )?;
+            warn(asked.rt, path.as_str(), why.as_str());
         }
     }
+    Ok(())
 }
 
 fn summary(
@@ -249,25 +122,9 @@ fn led_by_given(
     let mut map = SourceMap::from_parts(read_without_scopes(asked.rt, text)?);
     map.apply_source_root(asked.alloc())?;
     let given = given_inputs(asked, text.folder.as_str())?;
-    warn_unused(asked, &map, given.as_slice());
+    warn_unused(asked, &map, given.as_slice())?;
     *count = given.len() as u64;
     remap_by(asked.alloc(), &map, given.as_slice())
-}
-
-/// A map, traced through the maps of its sources, at any depth.
-fn led_on(
-    asked: &Asked<'_, '_>,
-    text: &MapText,
-    map: &SourceMap<'_>,
-    count: &mut u64,
-) -> Outcome<SourceMap<'static>> {
-    let name = real_name(asked.rt, text.name.as_str())?;
-    let way = Way {
-        name: name.as_str(),
-        before: None,
-    };
-    let inputs = inputs_of(asked, map, text.folder.as_str(), &way, DEEPEST, count)?;
-    remap_by(asked.alloc(), map, inputs.as_slice())
 }
 
 fn remap_text(
@@ -276,11 +133,19 @@ fn remap_text(
     count: &mut u64,
 ) -> Outcome<SourceMap<'static>> {
     let map = led_by_given(asked, text, count)?;
-    if asked.has("follow") {
-        led_on(asked, text, &map, count)
-    } else {
-        Ok(map)
+    if !asked.has("follow") {
+        return Ok(map);
     }
+    let (parts, followed) = followed(asked.rt, asked.places(), text, map.into_parts())?;
+    if followed == 0 {
+        warn(
+            asked.rt,
+            text.name.as_str(),
+            "no source of it is there with a map, so none is followed",
+        );
+    }
+    *count = count.saturating_add(followed);
+    Ok(SourceMap::from_parts(parts))
 }
 
 /// Makes the sources relative to the folder of the output, and leaves out what is asked to be.

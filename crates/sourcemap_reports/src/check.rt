@@ -1,98 +1,28 @@
 //! `check`: what is wrong in maps, and what they hold.
 use crate::codes::{
-    BAD_COMPILED, Code, DEBUG_IDS, DIFFERENT_COMPILED, Level, MISSING_CONTENT, NO_MAP, PAST_CODE,
-    PAST_CONTENT, SCOPES_SOURCE, STALE_BESIDE, STALE_COMPILED, UNCOMPARED, UNNEEDED, UNREADABLE,
-    UNREADABLE_BESIDE, UNSORTED, code_of_error, code_of_mend, code_of_refused, code_of_scopes,
+    BAD_COMPILED, CONTENT_DIFFERS, Code, DEBUG_IDS, DIFFERENT_COMPILED, INSIDE_WORDS, Level,
+    MISSING_CONTENT, NAME_DIFFERS, NO_MAP, PAST_CODE, PAST_CONTENT, SCOPES_SOURCE, SHIFTED,
+    STALE_BESIDE, STALE_COMPILED, UNCOMPARED, UNNEEDED, UNREADABLE, UNREADABLE_BESIDE, UNSORTED,
+    code_of_error, code_of_mend, code_of_refused, code_of_scopes,
 };
+use crate::originals::{Moved, contents_apart, names_apart, tokens_inside_words};
+use crate::report::{Report, count_of};
 use crate::scopes::{MapScopes, Needed, PastSources, calls_past, scopes_in, trees_past};
 use oxc_sourcemap_found::{FoundParts, Mend, read_found_parts};
 use oxc_sourcemap_map::SourceMap;
 use oxc_sourcemap_text::TextPositions;
-use oxc_sourcemap_tokens::{Error, Token};
+use oxc_sourcemap_tokens::{Error, Position, Token};
 use sourcemap_files::{
     Asked, COMPILED_END, CONTENTS_END, Decompiled, Listed, Lookup, MapText, Places, Progress,
-    Status, Written, decompile, error_text, files_matching, files_with_maps, found_error_text,
-    is_file, is_in_root, is_made_of, is_map_file, is_regular, is_stale, map_of_code, names_folder,
-    parts_in, print, put_contents, read_text, read_written, shown_name, tell,
+    Status, Written, decompile, error_text, files_matching, files_with_maps, folder_of,
+    found_error_text, is_file, is_in_root, is_made_of, is_map_file, is_regular, is_stale,
+    map_of_code, names_folder, parts_in, print, put_contents, read_text, read_written, shown_name,
+    tell,
 };
-use sourcemap_run::{
-    are_same_ids, debug_id_of_code, debug_id_of_map, push_object, push_text_member,
-};
-use sourcemap_texts::{push_shown, push_visible};
+use sourcemap_run::{are_same_ids, debug_id_of_code, debug_id_of_map};
+use sourcemap_texts::push_shown;
 use sourcemap_words::{Failure, Outcome, PathPattern, failure_of};
 use std::alloc::{AllocError, Global};
-
-/// The report on one file, as it is printed.
-#[derive(Drop)]
-struct Report {
-    alloc: Global,
-    file: String,
-    json: bool,
-    out: String,
-    /// The least level of a finding at which something is wrong.
-    least: Level,
-    is_wrong: bool,
-}
-
-impl Report {
-    /// Tells of a finding.
-    fn tell(&mut self, code: Code, text: &str) -> Outcome<()> {
-        let Code(_, level) = code;
-        self.is_wrong |= level.is_from(self.least);
-        if self.json {
-            self.push_object(Some(code), text)
-        } else {
-            self.push_finding(code, text)
-        }
-    }
-
-    /// Tells what the map has.
-    fn tell_summary(&mut self, text: &str) -> Outcome<()> {
-        if self.json {
-            self.push_object(None, text)
-        } else {
-            let line = format!(in self.alloc; "{}: {text}", self.file)?;
-            self.push_line(line.as_str())
-        }
-    }
-
-    /// Appends a line: the file, the level of a finding, the text, and the code in brackets.
-    fn push_finding(&mut self, code: Code, text: &str) -> Outcome<()> {
-        let (file, Code(code, level)) = (&self.file, code);
-        let level = level.name();
-        let line = format!(in self.alloc; "{file}: {level}: {text} [{code}]")?;
-        self.push_line(line.as_str())
-    }
-
-    fn push_line(&mut self, line: &str) -> Outcome<()> {
-        push_visible(line, &mut self.out)?;
-        Ok(self.out.push('\n')?)
-    }
-
-    /// Appends a line with an object, of a finding with its code.
-    fn push_object(&mut self, code: Option<Code>, text: &str) -> Outcome<()> {
-        let kind = match code {
-            Some(Code(_, level)) => level.kind(),
-            None => "summary",
-        };
-        let mut members = String::new(self.alloc);
-        push_text_member("file", self.file.as_str(), &mut members)?;
-        push_text_member("kind", kind, &mut members)?;
-        push_text_member("text", text, &mut members)?;
-        if let Some(Code(name, level)) = code {
-            push_text_member("code", name, &mut members)?;
-            push_text_member("level", level.name(), &mut members)?;
-        }
-        push_object(members.as_str(), &mut self.out)?;
-        Ok(self.out.push('\n')?)
-    }
-}
-
-/// A number of things, as `1 line` and `2 lines`.
-fn count_of(alloc: Global, count: u64, what: &str) -> Result<String, AllocError> {
-    let end = if count == 1 { "" } else { "s" };
-    format!(in alloc; "{count} {what}{end}")
-}
 
 /// How many bytes of contents a map has.
 fn content_bytes(map: &SourceMap<'_>) -> usize {
@@ -326,12 +256,17 @@ fn tell_unneeded(report: &mut Report, map: SourceMap<'static>, held: &MapScopes)
     if tokens == 0 && names == 0 && sources == 0 {
         return Ok(());
     }
-    let tokens = count_of(alloc, tokens as u64, "token")?;
-    let names = count_of(alloc, names as u64, "name")?;
-    let sources = count_of(alloc, sources as u64, "source")?;
-    let text = format!(in alloc;
-        "nothing needs {tokens}, {names} and {sources}: see `sourcemap remap --simplify`"
-    )?;
+    let mut counts = String::new(alloc);
+    for (count, noun) in [(tokens, "token"), (names, "name"), (sources, "source")] {
+        if count == 0 {
+            continue;
+        }
+        if !counts.is_empty() {
+            counts.push_str(" and ")?;
+        }
+        counts.push_str(count_of(alloc, count as u64, noun)?.as_str())?;
+    }
+    let text = format!(in alloc; "nothing needs {counts}: see `sourcemap remap --simplify`")?;
     report.tell(UNNEEDED, text.as_str())
 }
 
@@ -349,8 +284,83 @@ fn tell_debug_ids(report: &mut Report, map: Option<&str>, code: Option<&str>) ->
     report.tell(DEBUG_IDS, text.as_str())
 }
 
+/// Reports tokens in the middle of words of the code, if they are many: then the map is of another code.
+fn tell_inside_words(report: &mut Report, code: &str, tokens: &[Token]) -> Outcome<()> {
+    let alloc = report.alloc;
+    let Some((count, first)) = tokens_inside_words(alloc, code, tokens)? else {
+        return Ok(());
+    };
+    let all = count_of(alloc, tokens.len() as u64, "token")?;
+    let are = if count == 1 { "is" } else { "are" };
+    let Position { line, column } = first;
+    let text = format!(in alloc;
+        "{count} of {all} {are} in the middle of words of the code, the first at line {line}, column {column}: is it the map of this code?"
+    )?;
+    report.tell(INSIDE_WORDS, text.as_str())
+}
+
+/// Reports names that are not in contents where the map says, and whether the lines of contents have moved.
+fn tell_names(report: &mut Report, map: &SourceMap<'_>) -> Outcome<()> {
+    let alloc = report.alloc;
+    let Some(apart) = names_apart(alloc, map)? else {
+        return Ok(());
+    };
+    let are = if apart.count == 1 { "is" } else { "are" };
+    let names = count_of(alloc, apart.named, "name")?;
+    let text = format!(in alloc;
+        "{} of {names} {are} not in the contents at the original positions",
+        apart.count
+    )?;
+    let (lines, way) = match apart.moved {
+        Some(Moved::Down(lines)) => (lines, "down"),
+        Some(Moved::Up(lines)) => (lines, "up"),
+        None => {
+            let (line, column) = (apart.first.line, apart.first.column);
+            let text = format!(in alloc;
+                "{text}, the first at line {line}, column {column} of the code"
+            )?;
+            return report.tell(NAME_DIFFERS, text.as_str());
+        }
+    };
+    let lines = count_of(alloc, u64::from(lines), "line")?;
+    let text = format!(in alloc;
+        "{text}, but {lines} further {way}: was a banner added or removed?"
+    )?;
+    report.tell(SHIFTED, text.as_str())
+}
+
+/// Reports contents that are not those of the files of their sources.
+fn tell_changed(report: &mut Report, map: &SourceMap<'_>, around: Around<'_>) -> Outcome<()> {
+    let Around { rt, folder, places } = around;
+    let Some((count, first)) = contents_apart(rt, map, folder, places)? else {
+        return Ok(());
+    };
+    let contents = count_of(report.alloc, count, "content")?;
+    let files = if count == 1 {
+        "its file"
+    } else {
+        "their files"
+    };
+    let mut text = format!(in report.alloc; "{contents} not as in {files}: ")?;
+    push_shown(first.as_str(), &mut text)?;
+    if count > 1 {
+        text.push_str(" and others")?;
+    }
+    report.tell(CONTENT_DIFFERS, text.as_str())
+}
+
+/// Where a map lies, and where files are that it names.
+#[derive(Clone, Copy)]
+struct Around<'a> {
+    rt: &'a HostRuntime,
+    /// The folder that its sources are relative to.
+    folder: &'a str,
+    places: Places<'a>,
+}
+
 /// Reports on a map that was read, and on its code if there is one.
 fn tell_held(
+    around: Around<'_>,
     report: &mut Report,
     map: SourceMap<'static>,
     held: &MapScopes,
@@ -359,13 +369,23 @@ fn tell_held(
     tell_scopes(report, &map, held)?;
     if let Some(code) = code {
         tell_past_code(report, code, map.get_tokens().as_slice())?;
+        tell_inside_words(report, code, map.get_tokens().as_slice())?;
     }
     tell_contents(report, &map)?;
+    tell_names(report, &map)?;
+    let mut map = map;
+    map.apply_source_root(report.alloc)?;
+    tell_changed(report, &map, around)?;
     tell_unneeded(report, map, held)
 }
 
 /// Reports on the text of a map.
-fn check_text(report: &mut Report, text: &str, code: Option<&str>) -> Outcome<()> {
+fn check_text(
+    around: Around<'_>,
+    report: &mut Report,
+    text: &str,
+    code: Option<&str>,
+) -> Outcome<()> {
     let alloc = report.alloc;
     let FoundParts { parts, mends } = match read_found_parts(alloc, text) {
         Ok(found) => found,
@@ -378,12 +398,12 @@ fn check_text(report: &mut Report, text: &str, code: Option<&str>) -> Outcome<()
     tell_summary(report, text.len(), &map)?;
     tell_faults(report, text, mends.as_slice())?;
     tell_debug_ids(report, debug_id_of_map(alloc, text)?, code)?;
-    tell_held(report, map, &scopes_in(alloc, text)?, code)
+    tell_held(around, report, map, &scopes_in(alloc, text)?, code)
 }
 
 /// Reports on a compiled map; on contents that are apart only the summary.
 fn check_compiled(
-    rt: &HostRuntime,
+    around: Around<'_>,
     report: &mut Report,
     bytes: &[u8],
     code: Option<&str>,
@@ -398,22 +418,22 @@ fn check_compiled(
         return Ok(());
     }
     let mut parts = map.into_parts();
-    put_contents(rt, report.file.as_str(), bytes, &mut parts)?;
+    put_contents(around.rt, report.file.as_str(), bytes, &mut parts)?;
     tell_debug_ids(report, parts.debug_id.as_ref().map(|id| id.as_str()), code)?;
     let map = SourceMap::from_parts(parts);
-    tell_held(report, map, &MapScopes::none(report.alloc), code)
+    tell_held(around, report, map, &MapScopes::none(report.alloc), code)
 }
 
 /// Reports on a map, and on its code if there is one.
 fn check_map(
-    rt: &HostRuntime,
+    around: Around<'_>,
     report: &mut Report,
     map: &Written,
     code: Option<&str>,
 ) -> Outcome<()> {
     match map {
-        Written::Text(text) => check_text(report, text.as_str(), code),
-        Written::Compiled(bytes) => check_compiled(rt, report, bytes.as_slice(), code),
+        Written::Text(text) => check_text(around, report, text.as_str(), code),
+        Written::Compiled(bytes) => check_compiled(around, report, bytes.as_slice(), code),
     }
 }
 
@@ -445,10 +465,15 @@ fn report_on(asked: &Asked<'_, '_>, file: &str) -> Result<Report, AllocError> {
 }
 
 /// Reports on a map and its code, as objects, one a line.
-pub fn objects_of(asked: &Asked<'_, '_>, map: &MapText, code: &str) -> Outcome<String> {
+pub fn objects_of<'x>(asked: &'x Asked<'x, '_>, map: &'x MapText, code: &str) -> Outcome<String> {
     let mut report = report_on(asked, map.name.as_str())?;
     report.json = true;
-    check_map(asked.rt, &mut report, &map.written, Some(code))?;
+    let around = Around {
+        rt: asked.rt,
+        folder: map.folder.as_str(),
+        places: asked.places(),
+    };
+    check_map(around, &mut report, &map.written, Some(code))?;
     Ok(report.out)
 }
 
@@ -513,9 +538,20 @@ fn tell_stale_beside(rt: &HostRuntime, map: &str, text: &str, report: &mut Repor
 }
 
 /// Reports on a map in a file, with its code if that is there, and compares it with a compiled map beside it.
-fn check_as_map(rt: &HostRuntime, file: &str, map: &Written, report: &mut Report) -> Outcome<()> {
+fn check_as_map<'x>(
+    rt: &'x HostRuntime,
+    file: &'x str,
+    places: Places<'x>,
+    map: &Written,
+    report: &mut Report,
+) -> Outcome<()> {
     let code = code_of(rt, file)?;
-    check_map(rt, report, map, code.as_deref())?;
+    let around = Around {
+        rt,
+        folder: folder_of(file),
+        places,
+    };
+    check_map(around, report, map, code.as_deref())?;
     match map {
         Written::Text(text) => tell_stale_beside(rt, file, text.as_str(), report),
         Written::Compiled(bytes) => tell_stale(rt, file, bytes.as_slice(), report),
@@ -523,10 +559,10 @@ fn check_as_map(rt: &HostRuntime, file: &str, map: &Written, report: &mut Report
 }
 
 /// Reports on the map of a code.
-fn check_as_code(
-    asked: &Asked<'_, '_>,
+fn check_as_code<'x>(
+    asked: &'x Asked<'x, '_>,
     file: &str,
-    places: Places<'_>,
+    places: Places<'x>,
     code: &str,
     report: &mut Report,
 ) -> Outcome<()> {
@@ -534,14 +570,19 @@ fn check_as_code(
         Lookup::Map(
             MapText {
                 name,
-                folder: _,
+                folder,
                 is_file,
                 written,
                 behind: _,
             },
         ) => {
             report.file = name;
-            check_map(asked.rt, report, &written, Some(code))?;
+            let around = Around {
+                rt: asked.rt,
+                folder: folder.as_str(),
+                places,
+            };
+            check_map(around, report, &written, Some(code))?;
             match &written {
                 Written::Text(text) if is_file => {
                     let name = String::from_str(report.alloc, report.file.as_str())?;
@@ -595,13 +636,13 @@ fn check_file(asked: &Asked<'_, '_>, item: &Item) -> Outcome<Report> {
         return Ok(report);
     }
     let written = read_written(asked.rt, file)?;
+    let places = places_in(asked, &item.root);
     if let Written::Text(text) = &written
         && !is_map_file(file, text.as_str())
     {
-        let places = places_in(asked, &item.root);
         check_as_code(asked, file, places, text.as_str(), &mut report)?;
     } else {
-        check_as_map(asked.rt, file, &written, &mut report)?;
+        check_as_map(asked.rt, file, places, &written, &mut report)?;
     }
     Ok(report)
 }

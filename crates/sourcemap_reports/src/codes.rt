@@ -62,7 +62,15 @@ pub const DEBUG_IDS: Code = Code("debug-id-mismatch", Level::Error);
 
 pub const DIFFERENT_COMPILED: Code = Code("different-compiled", Level::Error);
 
+pub const CONTENT_DIFFERS: Code = Code("content-differs", Level::Note);
+
+pub const INSIDE_WORDS: Code = Code("inside-words", Level::Warning);
+
 pub const MISSING_CONTENT: Code = Code("missing-content", Level::Note);
+
+pub const NAME_DIFFERS: Code = Code("name-differs", Level::Note);
+
+pub const SHIFTED: Code = Code("shifted", Level::Warning);
 
 pub const NO_MAP: Code = Code("no-map", Level::Error);
 

@@ -7,8 +7,8 @@ use oxc_sourcemap_map::SourceMap;
 use oxc_sourcemap_text::{TextPositions, utf16_units};
 use oxc_sourcemap_tokens::Position;
 use sourcemap_files::{
-    Asked, CodeFile, InputPrefix, Lookup, MapText, Places, Progress, Sought, Status, files_below,
-    find_code, is_file, is_in_root, map_of_code, names_folder, path_of_url, plain_path, print,
+    Asked, CodeFile, InputPrefix, Lookup, MapText, Places, Progress, Sought, SourceNames, Status,
+    files_below, find_code, is_file, is_in_root, map_of_code, names_folder, path_of_url, print,
     read_map, read_text, shown_name, tell, warn,
 };
 use sourcemap_run::{
@@ -28,8 +28,7 @@ const FEW: usize = 8;
 #[derive(Drop)]
 struct Coverage {
     alloc: Global,
-    /// The current folder, with a slash at its end.
-    folder: String,
+    names: SourceNames,
     /// What is before the paths of codes in the root.
     input: InputPrefix,
     sources: Totals,
@@ -130,52 +129,12 @@ fn code_marks_of(
     Ok(marks)
 }
 
-/// The path of a source of a map in a folder, `..` taken together with the parts before it: from the current folder if it is in that,
-/// else from the root. An empty path, a URL but one of a file, and a path from a drive stay.
-pub(crate) fn path_from_here(
-    alloc: Global,
-    current: &str,
-    folder: &str,
-    source: &str,
-) -> Result<String, AllocError> {
-    if source.is_empty() {
-        return Ok(String::new(alloc));
-    }
-    let named = if source.starts_with("file:") {
-        path_of_url(alloc, source)?
-    } else {
-        None
-    };
-    let source = named.as_ref().map_or(source, |path| path.as_str());
-    let (folder, path) = match source.strip_prefix('/') {
-        Some(path) => (String::from_str(alloc, "/")?, path),
-        None if folder.starts_with('/') => (String::from_str(alloc, folder)?, source),
-        None => (format!(in alloc; "{current}{folder}")?, source),
-    };
-    let whole = plain_path(alloc, folder.as_str(), path)?;
-    String::from_str(
-        alloc,
-        whole
-            .as_str()
-            .strip_prefix(current)
-            .unwrap_or(whole.as_str()),
-    )
-}
-
-/// The current folder, with a slash at its end.
-pub(crate) fn folder_from_here(rt: &HostRuntime) -> Outcome<String> {
-    match env::current_dir(rt) {
-        Ok(folder) => Ok(format!(in rt.alloc(); "{}/", folder.as_path().as_str())?),
-        Err(error) => Err(failure_of(rt.alloc(), "the current folder", error)),
-    }
-}
-
 impl Coverage {
     fn new(asked: &Asked<'_, '_>) -> Outcome<Coverage> {
         let alloc = asked.alloc();
         Ok(Coverage {
             alloc,
-            folder: folder_from_here(asked.rt)?,
+            names: SourceNames::from_here(asked.rt)?,
             input: asked.input_prefix()?,
             sources: Totals::new(alloc),
             parts: AllParts::new(alloc),
@@ -188,7 +147,7 @@ impl Coverage {
     fn paths_of(&self, map: &SourceMap<'_>, folder: &str) -> Outcome<Vec<String>> {
         let mut paths = Vec::new(self.alloc);
         for source in map.get_sources() {
-            paths.push(path_from_here(self.alloc, self.folder.as_str(), folder, source)?)?;
+            paths.push(self.names.name(folder, source)?)?;
         }
         Ok(paths)
     }

@@ -1,11 +1,10 @@
 //! `size`: how many bytes of codes come from each source.
-use crate::coverage::{folder_from_here, path_from_here};
 use crate::gzip::{divide, gzip_len};
 use crate::page::read_code;
 use crate::template::{Template, push_list, refuse_two_texts};
 use oxc_sourcemap_map::SourceMap;
 use sourcemap_files::{
-    Asked, Lookup, Progress, Status, map_of_code, plain_path, print, read_map_alone,
+    Asked, Lookup, Progress, SourceNames, Status, map_of_code, plain_path, print, read_map_alone,
     refuse_overwriting, shown_name, tell, usage, warn,
 };
 use sourcemap_run::{
@@ -424,13 +423,13 @@ fn names_of(
     alloc: Global,
     map: &SourceMap<'_>,
     folder: &str,
-    current: Option<&str>,
+    shown: Option<&SourceNames>,
 ) -> Outcome<Vec<String>> {
     let mut names = Vec::new(alloc);
     for source in map.get_sources() {
-        names.push(match current {
-            _current if source.is_empty() => String::from_str(alloc, UNKNOWN)?,
-            Some(current) => path_from_here(alloc, current, folder, source)?,
+        names.push(match shown {
+            _shown if source.is_empty() => String::from_str(alloc, UNKNOWN)?,
+            Some(shown) => shown.name(folder, source)?,
             None => plain_path(alloc, "", source)?,
         })?;
     }
@@ -441,7 +440,7 @@ fn names_of(
 fn add_file(
     asked: &Asked<'_, '_>,
     code: &str,
-    current: Option<&str>,
+    shown: Option<&SourceNames>,
     sizes: &mut Sizes,
 ) -> Outcome<Option<String>> {
     let (rt, alloc) = (asked.rt, asked.alloc());
@@ -456,7 +455,7 @@ fn add_file(
         .push(String::from_str(alloc, held.name.as_str())?)?;
     let mut map = SourceMap::from_parts(read_map_alone(rt, &held)?);
     map.apply_source_root(alloc)?;
-    let names = names_of(alloc, &map, held.folder.as_str(), current)?;
+    let names = names_of(alloc, &map, held.folder.as_str(), shown)?;
     let tokens = map.get_tokens();
     let body = text
         .as_str()
@@ -484,12 +483,12 @@ fn add_files<'c>(
     sizes: &mut Sizes,
 ) -> Outcome<Option<&'c str>> {
     let rt = asked.rt;
-    let current = folder_from_here(rt)?;
+    let shown = SourceNames::from_here(rt)?;
     let mut progress = Progress::new(rt, codes.len());
     let mut trouble = None;
     for code in codes {
         progress.begin(rt, code);
-        let added = add_file(asked, code, Some(current.as_str()), sizes);
+        let added = add_file(asked, code, Some(&shown), sizes);
         progress.clear(rt);
         match added {
             Ok(None) => {}

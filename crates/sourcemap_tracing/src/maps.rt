@@ -1,13 +1,16 @@
 //! The maps of the files that frames name, and their answers for the places of frames.
+use crate::code::Code;
 use crate::debug_ids::{ById, DebugIds};
-use oxc_sourcemap_parts::apply_root;
+use crate::functions::{called_name, declared_name, identifier_of};
+use crate::reading::read_parts;
+use oxc_sourcemap_parts::SourceMapParts;
 use oxc_sourcemap_scopes::{Frames, Scopes};
 use oxc_sourcemap_tokens::Position;
 use sourcemap_files::{
-    Asked, CodeFile, InputPrefix, Lookup, MapText, Places, Sought, find_code, is_file, is_in_root,
-    map_by_name, map_of_code, map_without_code, read_map_alone, read_text, scopes_of_map,
+    Asked, CodeFile, InputPrefix, Lookup, MapText, Places, Sought, SourceNames, find_code, is_file,
+    is_in_root, map_by_name, map_of_code, map_without_code, read_text, scopes_of_map,
 };
-use sourcemap_run::{Answer, Target, Tracer, answer_to, frame_position};
+use sourcemap_run::{Answer, Bias, Target, Tracer, answer_to, frame_position};
 use sourcemap_words::{Failure, Named, Outcome};
 use std::alloc::{AllocError, Global};
 use std::collections::HashMap;
@@ -59,6 +62,10 @@ pub struct Led {
     pub matched: Matched,
     /// The frames of the source, if the map has scopes that cover the place.
     pub source: Option<Frames>,
+    /// Else the id of the name that the function of the frame has in the source, if the mappings have one.
+    pub function: Option<u32>,
+    /// Whether the map ignores the source.
+    pub is_ignored: bool,
 }
 
 /// The map of a file, and what is known of its code.
@@ -66,8 +73,8 @@ pub struct Led {
 struct KnownMap {
     number: usize,
     matched: Matched,
-    /// The path of the code, and the lengths of its lines, if it is there.
-    code: Option<(String, Vec<u32>)>,
+    /// The code, if it is there.
+    code: Option<Code>,
 }
 
 #[derive(Drop)]
@@ -82,8 +89,15 @@ pub struct Maps {
     files: HashMap<String, Known>,
     pub tracers: Vec<Tracer>,
     pub names: Vec<String>,
+    /// Of each map the folder that its sources are relative to.
+    pub folders: Vec<String>,
     /// Of each map the scopes, if it has some and they are asked for.
     pub scopes: Vec<Option<Scopes>>,
+    /// Of each map which of its sources it ignores.
+    ignored: Vec<Vec<bool>>,
+    pub source_names: SourceNames,
+    /// Whether functions have the names of the source.
+    has_source_functions: bool,
     input: InputPrefix,
     ids: DebugIds,
 }
@@ -94,38 +108,32 @@ struct Search {
     lookup: Lookup,
     reason: Reason,
     matched: Matched,
-    code: Option<(String, Vec<u32>)>,
+    code: Option<Code>,
 }
 
-/// The lengths of the lines of a code, in UTF-16 units, without their ends.
-fn line_lengths(alloc: Global, code: &str) -> Result<Vec<u32>, AllocError> {
-    let mut lengths = Vec::new(alloc);
-    let mut len = 0u32;
-    let mut is_after_return = false;
-    for ch in code.chars() {
-        let is_second = ch == '\n' && is_after_return;
-        is_after_return = ch == '\r';
-        if is_second {
-            continue;
-        }
-        if matches!(ch, '\n' | '\r' | '\u{2028}' | '\u{2029}') {
-            lengths.push(len)?;
-            len = 0;
-        } else {
-            len = len.saturating_add(if ch.len_utf8() == 4 { 2 } else { 1 });
+/// Which of its sources a map ignores; of a map that has no such list no source is named.
+fn ignored_of(alloc: Global, parts: &SourceMapParts<'_>) -> Result<Vec<bool>, AllocError> {
+    let mut ignored = Vec::new(alloc);
+    let Some(ids) = &parts.ignore_list else {
+        return Ok(ignored);
+    };
+    ignored.resize(parts.sources.len(), false)?;
+    for id in ids {
+        if let Some(is_ignored) = ignored.get_mut(*id as usize) {
+            *is_ignored = true;
         }
     }
-    lengths.push(len)?;
-    Ok(lengths)
+    Ok(ignored)
 }
 
 impl KnownMap {
     /// The path of the code, if it is there and has no such position.
     fn past_end(&self, position: Position) -> Option<&str> {
-        let (path, lengths) = self.code.as_ref()?;
-        match lengths.get(usize::try_from(position.line).ok()?) {
-            Some(len) if position.column <= *len => None,
-            _ => Some(path.as_str()),
+        let code = self.code.as_ref()?;
+        if code.has(position) {
+            None
+        } else {
+            Some(code.path.as_str())
         }
     }
 }
@@ -155,6 +163,8 @@ impl Led {
             stay: Some(Stay { reason, why }),
             matched,
             source: None,
+            function: None,
+            is_ignored: false,
         }
     }
 }
@@ -163,18 +173,17 @@ fn link_out(alloc: Global, path: &str) -> Result<Lookup, AllocError> {
     Ok(Lookup::None(format!(in alloc; "{path} is a link out of the root: allow it by --outside")?))
 }
 
-/// The map of a code that is there, and its lines. Of a code that is no text, as bytecode, the map beside it.
+/// The map of a code that is there, and the code. Of a code that is no text, as bytecode, the map beside it.
 fn map_of_text(
     asked: &Asked<'_, '_>,
     path: &str,
     places: Places<'_>,
-) -> Outcome<(Lookup, Option<(String, Vec<u32>)>)> {
+) -> Outcome<(Lookup, Option<Code>)> {
     let (rt, alloc) = (asked.rt, asked.alloc());
     match read_text(rt, path) {
         Ok(text) => {
             let lookup = map_of_code(rt, path, text.as_str(), places)?;
-            let lengths = line_lengths(alloc, text.as_str())?;
-            Ok((lookup, Some((String::from_str(alloc, path)?, lengths))))
+            Ok((lookup, Some(Code::new(alloc, path, text)?)))
         }
         Err(Failure::Told(why)) => match map_without_code(rt, path, places)? {
             Some(found) => Ok((found, None)),
@@ -243,6 +252,15 @@ fn shown_root(root: &str) -> &str {
     }
 }
 
+/// The URL of the folder of a file that a URL of a host names.
+fn folder_of_url(file: &str) -> Option<&str> {
+    if !file.starts_with("http://") && !file.starts_with("https://") {
+        return None;
+    }
+    let (folder, _) = file.rsplit_once('/')?;
+    Some(folder)
+}
+
 /// Why no code is known for a file that frames name.
 fn not_there(asked: &Asked<'_, '_>, file: &str, sought: &Sought) -> Result<String, AllocError> {
     let alloc = asked.alloc();
@@ -258,7 +276,12 @@ fn not_there(asked: &Asked<'_, '_>, file: &str, sought: &Sought) -> Result<Strin
         Sought::NotIn(folder) => {
             format!(in alloc; "{file} is not in {folder}, where --prefix says that it is")
         }
-        _ => format!(in alloc; "{file} is not in {shown}: name its folder by --root"),
+        _ => match folder_of_url(file) {
+            Some(url) => format!(in alloc;
+                "{file} is not in {shown}: name the folder of its codes by --prefix {url}=DIR"
+            ),
+            None => format!(in alloc; "{file} is not in {shown}: name its folder by --root"),
+        },
     }
 }
 
@@ -305,15 +328,20 @@ fn search_by_id(asked: &Asked<'_, '_>, found: ById) -> Outcome<Option<Search>> {
 }
 
 impl Maps {
-    pub fn new(alloc: Global, input: InputPrefix, ids: DebugIds) -> Maps {
-        Maps {
+    pub fn new(asked: &Asked<'_, '_>) -> Outcome<Maps> {
+        let alloc = asked.alloc();
+        Ok(Maps {
             files: HashMap::new(alloc),
             tracers: Vec::new(alloc),
             names: Vec::new(alloc),
+            folders: Vec::new(alloc),
             scopes: Vec::new(alloc),
-            input,
-            ids,
-        }
+            ignored: Vec::new(alloc),
+            source_names: SourceNames::new(asked)?,
+            has_source_functions: asked.word("names") != "code",
+            input: asked.input_prefix()?,
+            ids: DebugIds::new(asked)?,
+        })
     }
 
     /// The map of a file that frames name, or why there is none: by its debug id, if that is given, else by its path.
@@ -336,16 +364,17 @@ impl Maps {
             Lookup::Map(text) => text,
             Lookup::None(why) => return Ok(Known::None(Stay { reason, why })),
         };
-        let mut parts = match read_map_alone(asked.rt, &text) {
-            Ok(parts) => parts,
+        let (parts, is_followed) = match read_parts(asked, &text) {
+            Ok(read) => read,
             Err(Failure::Told(why)) => return Ok(Known::None(Stay { reason, why })),
             Err(failure) => return Err(failure),
         };
-        apply_root(asked.alloc(), &mut parts)?;
-        let scopes = self.read_scopes(asked, &text)?;
-        self.scopes.push(scopes)?;
-        self.tracers.push(Tracer::new(asked.alloc(), parts)?)?;
-        self.names.push(text.name)?;
+        let scopes = if is_followed {
+            None
+        } else {
+            self.read_scopes(asked, &text)?
+        };
+        self.add(asked.alloc(), text, parts, scopes)?;
         Ok(Known::Map(KnownMap {
             number: self.tracers.len().saturating_sub(1),
             matched,
@@ -353,9 +382,26 @@ impl Maps {
         }))
     }
 
+    /// Adds a map that was read.
+    fn add(
+        &mut self,
+        alloc: Global,
+        text: MapText,
+        parts: SourceMapParts<'static>,
+        scopes: Option<Scopes>,
+    ) -> Outcome<()> {
+        let mut parts = parts;
+        self.ignored.push(ignored_of(alloc, &parts)?)?;
+        self.source_names.rename(text.folder.as_str(), &mut parts)?;
+        self.scopes.push(scopes)?;
+        self.tracers.push(Tracer::new(alloc, parts)?)?;
+        self.names.push(text.name)?;
+        Ok(self.folders.push(text.folder)?)
+    }
+
     /// Reads the scopes of a map, if they are asked for. A fault of them is reported once, even if the map is read again.
     fn read_scopes(&self, asked: &Asked<'_, '_>, map: &MapText) -> Outcome<Option<Scopes>> {
-        if asked.word("names") == "code" {
+        if !self.has_source_functions {
             return Ok(None);
         }
         let name = map.name.as_str();
@@ -379,6 +425,66 @@ impl Maps {
         })
     }
 
+    /// The id of the source at a target.
+    pub fn source_id(&self, target: Target) -> Option<u32> {
+        let tracer = self.tracers.get(target.map)?;
+        tracer.token(target.position, Bias::Before)?.get_source_id()
+    }
+
+    /// Whether the map of a target ignores the source there.
+    fn is_ignored(&self, target: Option<Target>) -> bool {
+        let Some(target) = target else {
+            return false;
+        };
+        match self.ignored.get(target.map) {
+            Some(ignored) if !ignored.is_empty() => self
+                .source_id(target)
+                .is_some_and(|id| ignored.get(id as usize) == Some(&true)),
+            _ => false,
+        }
+    }
+
+    /// The id of the name in the source of the function that a frame names so, by the place of the function in the code.
+    fn declared(
+        &self,
+        alloc: Global,
+        code: Option<&Code>,
+        target: Option<Target>,
+        function: &str,
+    ) -> Outcome<Option<u32>> {
+        if !self.has_source_functions {
+            return Ok(None);
+        }
+        let (Some(code), Some(target), Some(identifier)) = (code, target, identifier_of(function))
+        else {
+            return Ok(None);
+        };
+        let Some(tracer) = self.tracers.get(target.map) else {
+            return Ok(None);
+        };
+        let tokens = tracer.parts().tokens.as_slice();
+        Ok(declared_name(alloc, tokens, code, target.position, identifier)?)
+    }
+
+    /// The id of the name in the source of the function that a frame names so, by the call of it in the frame of its caller. None if that
+    /// is in another code.
+    pub fn called(&self, function: &str, callee: &Led, caller: (&Named, &Led)) -> Option<u32> {
+        if !self.has_source_functions {
+            return None;
+        }
+        let (named, led) = caller;
+        let target = led.target?;
+        if callee.target?.map != target.map {
+            return None;
+        }
+        let code = match self.files.get(named.file.as_str()) {
+            Some(Known::Map(map)) => map.code.as_ref(),
+            _ => None,
+        };
+        let tokens = self.tracers.get(target.map)?.parts().tokens.as_slice();
+        called_name(tokens, code, target.position, identifier_of(function)?)
+    }
+
     /// Reads the map of a file, if it was not read. Once the prefix of the input is known, it searches again for files that were not found.
     fn prepare(&mut self, asked: &Asked<'_, '_>, file: &str) -> Outcome<()> {
         if self.files.contains_key(file) {
@@ -394,8 +500,14 @@ impl Maps {
         Ok(())
     }
 
-    /// The answer of the map of a file for a place in it.
-    fn look_up(&self, alloc: Global, map: &KnownMap, named: &Named) -> Outcome<Led> {
+    /// The answer of the map of a file for a place in it, in a function that the frame names so.
+    fn look_up(
+        &self,
+        alloc: Global,
+        map: &KnownMap,
+        named: &Named,
+        function: &str,
+    ) -> Outcome<Led> {
         let matched = map.matched.copy(alloc)?;
         let position = frame_position(named.line, named.column, named.is_bytecode);
         if let Some(position) = position
@@ -422,21 +534,28 @@ impl Maps {
             None => None,
         };
         let source = self.source_frames(alloc, target)?;
+        let function = if stay.is_none() && source.is_none() {
+            self.declared(alloc, map.code.as_ref(), target, function)?
+        } else {
+            None
+        };
         Ok(Led {
             target,
             stay,
             matched,
             source,
+            function,
+            is_ignored: self.is_ignored(target),
         })
     }
 
-    /// The result for a frame.
-    pub fn lead(&mut self, asked: &Asked<'_, '_>, named: &Named) -> Outcome<Led> {
+    /// The result for a frame that names its function so.
+    pub fn lead(&mut self, asked: &Asked<'_, '_>, named: &Named, function: &str) -> Outcome<Led> {
         let alloc = asked.alloc();
         let file = named.file.as_str();
         self.prepare(asked, file)?;
         match self.files.get(file) {
-            Some(Known::Map(map)) => self.look_up(alloc, map, named),
+            Some(Known::Map(map)) => self.look_up(alloc, map, named, function),
             Some(Known::None(Stay { reason, why })) => {
                 let why = String::from_str(alloc, why.as_str())?;
                 Ok(Led::stays(*reason, why, Matched::Whole))

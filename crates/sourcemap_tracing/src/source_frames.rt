@@ -4,6 +4,7 @@ ghost use Rattle.std.specs.Str.{trim};
 ghost use Rattle.sourcemap_tracing.specs.Words.{is_mark, is_return};
 
 use crate::colours::{Colours, has_codes};
+use crate::functions::identifier_of;
 use crate::maps::{Led, Maps};
 use oxc_sourcemap_json::push_json_string;
 use oxc_sourcemap_scopes::{CallSite, Frames, ScopeFrame};
@@ -20,6 +21,11 @@ pub const PLAIN: Paint<'static> = Paint {
     before: "",
     after: "",
 };
+/// The colour of places in sources that maps ignore.
+const GREY: Paint<'static> = Paint {
+    before: "\u{1b}[90m",
+    after: "\u{1b}[0m",
+};
 
 /// A frame with its result.
 #[derive(Drop)]
@@ -28,6 +34,8 @@ pub struct LedFrame {
     pub led: Led,
     /// Whether its row has nothing else.
     is_alone: bool,
+    /// Whether it is left out if its map ignores its source.
+    hides_ignored: bool,
 }
 
 /// The function that a frame names.
@@ -58,8 +66,8 @@ fn is_alone(line: &str, calling: &Calling) -> bool {
 }
 
 impl LedFrame {
-    /// A frame of a line, with its result.
-    pub fn new(line: &str, named: Named, led: Led) -> LedFrame {
+    /// A frame of a line, with its result; with `hides_ignored` it is left out if its map ignores its source.
+    pub fn new(line: &str, named: Named, led: Led, hides_ignored: bool) -> LedFrame {
         let is_alone = named
             .calling
             .is_some_and(|calling| is_alone(line, &calling));
@@ -67,6 +75,7 @@ impl LedFrame {
             named,
             led,
             is_alone,
+            hides_ignored,
         }
     }
 
@@ -79,11 +88,51 @@ impl LedFrame {
     }
 
     /// Whether its row is left out, since the source has no such frame.
-    pub fn is_left_out(&self) -> bool {
+    pub fn is_hidden(&self) -> bool {
         match &self.led.source {
             Some(source) => source.is_hidden && self.is_alone,
             None => false,
         }
+    }
+
+    /// Whether its row is left out: the source has no such frame, or is one that the map ignores.
+    pub fn is_left_out(&self) -> bool {
+        let is_ignored = self.hides_ignored && self.led.is_ignored && self.led.stay.is_none();
+        self.is_hidden() || is_ignored && self.is_alone
+    }
+
+    /// The name that its function has in the source by the mappings.
+    pub fn function_name<'m>(&self, maps: &'m Maps) -> Option<&'m str> {
+        let (id, target) = (self.led.function?, self.led.target?);
+        let names = maps.tracers.get(target.map)?.parts().names.as_slice();
+        let name = names.get(id as usize)?.as_str();
+        if name.is_empty() { None } else { Some(name) }
+    }
+
+    /// The same, with how the line names the function, if the line does not have this name.
+    pub fn renamed<'f>(&'f self, line: &str, maps: &'f Maps) -> Option<(&'f str, &'f Calling)> {
+        let name = self.function_name(maps)?;
+        if identifier_of(function_in(line, &self.named)) == Some(name) {
+            return None;
+        }
+        Some((name, self.named.calling.as_ref()?))
+    }
+
+    /// The colour of its place: on a terminal another one if its map ignores its source.
+    pub fn paint<'p>(&self, paint: Paint<'p>) -> Paint<'p> {
+        if self.led.is_ignored && !paint.before.is_empty() {
+            GREY
+        } else {
+            paint
+        }
+    }
+}
+
+/// What a line calls the function of a frame; empty if the frame has none.
+pub fn function_in<'t>(line: &'t str, named: &Named) -> &'t str {
+    match &named.calling {
+        Some(calling) => line.get(calling.start..calling.end).unwrap_or(""),
+        None => "",
     }
 }
 
@@ -396,4 +445,21 @@ pub fn push_source_members(
         write!(out, ",\"callers\":[{callers}]")?;
     }
     Ok(())
+}
+
+/// The replacement of a frame from the name of its function to its place: the name in the source, and where the mappings lead.
+pub fn renamed_text(
+    alloc: Global,
+    maps: &Maps,
+    line: &str,
+    (frame, name, calling): (&LedFrame, &str, &Calling),
+    paint: Paint<'_>,
+) -> Outcome<String> {
+    let mut shown = String::new(alloc);
+    push_shown(name, &mut shown)?;
+    let mut out = text_in_line(alloc, shown, frame.named.nesting)?;
+    out.push_str(line.get(calling.end..frame.named.start).unwrap_or(""))?;
+    out.push_str(first_place(alloc, maps, frame, paint)?.as_str())?;
+    push_ends(line, &frame.named, &mut out)?;
+    Ok(out)
 }

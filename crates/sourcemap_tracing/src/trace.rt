@@ -1,11 +1,13 @@
 //! `trace`: what generated positions come from.
-use crate::context::Contents;
+use crate::context::{Contents, Place};
 use crate::positions::{position_of_line, positions_in};
+use crate::reading::read_parts;
 use crate::reversing::push_reversed;
-use oxc_sourcemap_map::{SourceIndex, SourceMap};
+use bumpalo::Bump;
+use oxc_sourcemap_map::{SourceIndex, SourceMap, parts_of};
 use oxc_sourcemap_parts::SourceMapParts;
 use oxc_sourcemap_tokens::Position;
-use sourcemap_files::{Asked, Status, print, rooted_map, tell, usage};
+use sourcemap_files::{Asked, SourceNames, Status, first_sources, map_of_file, print, tell, usage};
 use sourcemap_run::{Answer, Bias, Style, Tracer, push_answer, push_answers};
 use sourcemap_texts::source_position_of;
 use sourcemap_words::{Failure, Outcome, failure_of, file_failure};
@@ -31,31 +33,28 @@ fn finds_any(tracer: &Tracer, positions: &[Position], bias: Bias) -> bool {
     positions.iter().any(|position| matches!(tracer.answer(*position, bias), Answer::At(_)))
 }
 
+/// A map that was read, and how its sources are named.
+#[derive(Drop)]
+struct Source {
+    names: SourceNames,
+    /// The folder that its sources are relative to.
+    folder: String,
+}
+
 /// What answers positions.
 #[derive(Drop)]
-struct Answers<'m> {
-    tracer: &'m Tracer,
+struct Answers<'a, 'm> {
+    asked: &'a Asked<'a, 'm>,
+    tracer: &'a Tracer,
+    source: &'a Source,
     style: Style,
     /// The lines around positions, if they are asked for.
-    contents: Option<Contents<'m>>,
+    contents: Option<Contents<'a>>,
     /// Whether the map had an original for some position.
     is_found: bool,
 }
 
-impl<'m> Answers<'m> {
-    fn new(asked: &Asked<'_, '_>, tracer: &'m Tracer, style: Style) -> Answers<'m> {
-        let contents = match asked.number("context") {
-            Some(around) if !style.json => Some(Contents::new(asked.alloc(), around, style.base)),
-            _ => None,
-        };
-        Answers {
-            tracer,
-            style,
-            contents,
-            is_found: false,
-        }
-    }
-
+impl<'a, 'm> Answers<'a, 'm> {
     /// Appends the lines around what a position comes from.
     fn push_context(&mut self, position: Position, out: &mut String) -> Outcome<()> {
         let (tracer, bias) = (self.tracer, self.style.bias);
@@ -65,16 +64,21 @@ impl<'m> Answers<'m> {
         let id = tracer
             .token(position, bias)
             .and_then(|token| token.get_source_id());
-        if let Some(contents) = &mut self.contents
-            && let Some(id) = id
-        {
-            let place = Position {
+        let (Some(contents), Some(source_id)) = (&mut self.contents, id) else {
+            return Ok(());
+        };
+        let place = Place {
+            map: 0,
+            source_id,
+            folder: self.source.folder.as_str(),
+            source: spot.source,
+            content: spot.content,
+            position: Position {
                 line: spot.line,
                 column: spot.column,
-            };
-            contents.push(id, spot.content, place, out)?;
-        }
-        Ok(())
+            },
+        };
+        contents.push(self.asked, &self.source.names, &place, out)
     }
 
     /// Prints the answers for positions.
@@ -145,25 +149,31 @@ impl<'m> Answers<'m> {
     }
 }
 
-/// The id of a source: the one with this path, else the only one whose path ends so.
-fn source_id(map: &SourceMap<'_>, path: &str) -> Option<u32> {
+/// The id of a source: the one that the map names so, or that answers name so, else the only one whose path in the map ends so.
+fn source_id(source: &Source, map: &SourceMap<'_>, path: &str) -> Outcome<Option<u32>> {
     let mut found = None;
     let mut count = 0u32;
-    for (id, source) in map.get_sources().enumerate() {
-        if source == path {
-            return u32::try_from(id).ok();
+    for (id, own) in map.get_sources().enumerate() {
+        let is_named = source.names.name(source.folder.as_str(), own)?.as_str() == path;
+        if own == path || is_named {
+            return Ok(u32::try_from(id).ok());
         }
-        let before = source.strip_suffix(path).unwrap_or("");
+        let before = own.strip_suffix(path).unwrap_or("");
         if before.ends_with('/') {
             found = u32::try_from(id).ok();
             count = count.saturating_add(1);
         }
     }
-    if count == 1 { found } else { None }
+    Ok(if count == 1 { found } else { None })
 }
 
 /// `trace --reverse`.
-fn reverse(asked: &Asked<'_, '_>, map: &SourceMap<'_>, style: Style) -> Outcome<Status> {
+fn reverse(
+    asked: &Asked<'_, '_>,
+    held: &Source,
+    map: &SourceMap<'_>,
+    style: Style,
+) -> Outcome<Status> {
     let alloc = asked.alloc();
     let index = SourceIndex::new(alloc, map)?;
     let mut out = String::new(alloc);
@@ -177,12 +187,12 @@ fn reverse(asked: &Asked<'_, '_>, map: &SourceMap<'_>, style: Style) -> Outcome<
                 "is no original position: write SOURCE:LINE:COLUMN",
             ));
         };
-        let Some(id) = source_id(map, source) else {
-            return Err(failure_of(
-                alloc,
-                source,
-                "is no source of the map, or the end of several: see `sourcemap check`",
-            ));
+        let Some(id) = source_id(held, map, source)? else {
+            let sources = first_sources(alloc, parts_of(map).sources.as_slice())?;
+            let why = format!(in alloc;
+                "is no source of the map, or the end of several; the sources are {sources}"
+            )?;
+            return Err(failure_of(alloc, source, why.as_str()));
         };
         if push_reversed(alloc, &index, id, source, position, style, &mut out)? {
             status = Status::Found;
@@ -201,14 +211,28 @@ fn style_of(asked: &Asked<'_, '_>) -> Outcome<Style> {
 }
 
 /// `trace` without `--reverse`.
-fn forward(asked: &Asked<'_, '_>, parts: SourceMapParts<'static>, style: Style) -> Outcome<Status> {
-    let tracer = Tracer::new(asked.alloc(), parts)?;
-    let mut answers = Answers::new(asked, &tracer, style);
+fn forward(
+    asked: &Asked<'_, '_>,
+    source: &Source,
+    parts: SourceMapParts<'static>,
+    style: Style,
+) -> Outcome<Status> {
+    let alloc = asked.alloc();
+    let tracer = Tracer::new(alloc, parts)?;
+    let texts = Bump::new(alloc);
+    let mut answers = Answers {
+        asked,
+        tracer: &tracer,
+        source,
+        style,
+        contents: Contents::new(asked, &texts, style.base),
+        is_found: false,
+    };
     if reads_lines(asked)? {
         answers.print_lines(asked.rt)?;
     } else {
         let words = asked.words("POSITION")?;
-        let positions = positions_in(asked.alloc(), words.as_slice(), u32::from(style.base))?;
+        let positions = positions_in(alloc, words.as_slice(), u32::from(style.base))?;
         answers.print(asked.rt, positions.as_slice())?;
     }
     Ok(Status::of(answers.is_found))
@@ -224,11 +248,16 @@ pub fn run(asked: &Asked<'_, '_>) -> Outcome<Status> {
             "standard input is the map: give positions as arguments, or name the map, and standard input has them",
         ));
     }
-    let with_contents = asked.number("context").is_some();
-    let parts = rooted_map(asked.rt, asked.word("MAP"), asked.places(), with_contents)?;
+    let text = map_of_file(asked.rt, asked.word("MAP"), asked.places())?;
+    let (mut parts, _) = read_parts(asked, &text)?;
+    let source = Source {
+        names: SourceNames::new(asked)?,
+        folder: text.folder,
+    };
     if is_forward {
-        forward(asked, parts, style)
+        source.names.rename(source.folder.as_str(), &mut parts)?;
+        forward(asked, &source, parts, style)
     } else {
-        reverse(asked, &SourceMap::from_parts(parts), style)
+        reverse(asked, &source, &SourceMap::from_parts(parts), style)
     }
 }

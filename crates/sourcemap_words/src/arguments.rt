@@ -11,8 +11,12 @@ pub const VERSION: &str = "2.0.0";
 const ABOUT: &str =
     "Looks positions up in source maps, resolves stack traces, and checks, joins and compares maps";
 /// What holds for all commands.
-pub const STATUS: &str =
+pub const NOTES: &str =
+    "Lines and columns count from 0, columns in UTF-16 units, unless a command says else. `-` is standard input.";
+
+const STATUS: &str =
     "Lines and columns count from 0, columns in UTF-16 units, unless a command says else. `-` is standard input.
+
 Status: 0 if something was found and nothing is wrong, 1 if nothing was found or something is wrong or different, 2 on an error.";
 
 type Built<'a> = Result<Command<'a>, AllocError>;
@@ -74,10 +78,31 @@ const COMMON: [Word; 3] = [
     Word(
         "maps",
         Kind::Option("DIR"),
-        "A folder of maps, each named as its code with .map at the end",
+        "A folder of maps, each with the path of its code in the root or with its name, and .map at the end",
     ),
     Word("outside", Kind::Flag, "Read files outside of the root too"),
 ];
+
+/// How sources are named, and whether they are sources of their own maps.
+const ABSOLUTE: Word = Word(
+    "absolute",
+    Kind::Flag,
+    "Names sources from the root of the file system",
+);
+
+const RAW: Word = Word("raw", Kind::Flag, "Names sources as their maps do");
+
+const FOLLOW: Word = Word(
+    "follow",
+    Kind::Flag,
+    "Leads on through the maps of sources, found beside them, at any depth",
+);
+
+const CONTEXT: Word = Word(
+    "context",
+    Kind::Number("N"),
+    "Shows N lines of the original before and after, the column marked, from the map or from its file in the root; below frames in strings none",
+);
 
 /// Where codes are that engines name by other paths.
 const PREFIX: Word = Word(
@@ -88,13 +113,17 @@ const PREFIX: Word = Word(
 
 const TRACE: Words = Words {
     about: "Traces generated positions to their originals",
-    json: "An object a line: line, column, found (original, unmapped or nothing), and source, sourceLine, sourceColumn, name; of --reverse line, column, source, generated",
+    json: "An object a line, with the keys below",
     words: &[
-        Word("MAP", Kind::File, "A map, or a code whose map is found"),
+        Word(
+            "MAP",
+            Kind::File,
+            "A map, or a code (a generated file, as .js or .css) whose map is found",
+        ),
         Word(
             "POSITION",
             Kind::Words,
-            "LINE:COLUMN; without one, or for -, the lines of standard input, each answered as it comes: one without a position by an empty line, or {} of --json",
+            "LINE:COLUMN; without one, or for -, the lines of standard input, each answered as it comes, one without a position by an empty line ({} of --json)",
         ),
         Word(
             "clamped",
@@ -116,17 +145,16 @@ const TRACE: Words = Words {
             Kind::Flag,
             "Lines and columns count from 1, given and printed",
         ),
-        Word(
-            "context",
-            Kind::Number("N"),
-            "Shows N lines of the original before and after, the column marked",
-        ),
+        CONTEXT,
+        FOLLOW,
+        ABSOLUTE,
+        RAW,
     ],
 };
 
 const RESOLVE: Words = Words {
     about: "Resolves the frames of stack traces to the originals, as V8, Firefox, Safari and Hermes print them, in traces and in logs",
-    json: "An object a line: text, resolved, and of a frame file, line, column; with a map map, found, source, sourceLine, sourceColumn, name; with scopes function, callers (source, sourceLine, sourceColumn, function), hidden (its row is left out; a line that is left out has no resolved); or why; from 1; matched (debugId, or prefix or maps where the whole path was not there) and prefix; of several frames the list frames",
+    json: "An object a line, with the keys below",
     words: &[
         Word(
             "TRACE",
@@ -147,14 +175,28 @@ const RESOLVE: Words = Words {
         Word(
             "names",
             Kind::Which("WHICH", &["source", "code"]),
-            "The names of functions: those of the source, with a line for each call that was inlined, by the scopes of a map; or those of the code [default: source]",
+            "The names of functions: those of the source, by the scopes of a map or its mappings, or those of the code [default: source]",
+        ),
+        CONTEXT,
+        FOLLOW,
+        ABSOLUTE,
+        RAW,
+        Word(
+            "hide-ignored",
+            Kind::Flag,
+            "Leaves out frames of sources in the ignore lists of maps, where they are alone in their rows",
+        ),
+        Word(
+            "quiet",
+            Kind::Flag,
+            "Does not report on standard error how many frames are resolved",
         ),
     ],
 };
 
 const CHECK: Words = Words {
     about: "Reports what is wrong in maps, and what they hold",
-    json: "An object a line: file, kind (wrong, note or summary), text; and, except of a summary, code and level (see below)",
+    json: "An object a line, with the keys below",
     words: &[
         Word(
             "FILE",
@@ -171,13 +213,17 @@ const CHECK: Words = Words {
 
 const REMAP: Words = Words {
     about: "Traces a map through the maps of its sources; source roots are applied",
-    json: "An object: output, sources, names, tokens, inputs",
+    json: "An object, with the keys below",
     words: &[
-        Word("MAP", Kind::File, "A map, or a code whose map is found"),
+        Word(
+            "MAP",
+            Kind::File,
+            "A map, or a code (a generated file, as .js or .css) whose map is found",
+        ),
         Word(
             "PATH=MAP",
             Kind::Words,
-            "The map of the source with this path",
+            "The map of the source with this path, as MAP has it in `sources` behind its source root",
         ),
         Word(
             "follow",
@@ -203,7 +249,7 @@ const LIMIT: Word = Word(
 
 const BUNDLE: Words = Words {
     about: "Joins codes and their maps into one code and one map",
-    json: "An object a line, for each file: file, map, line (where its code begins)",
+    json: "An object a line, with the keys below",
     words: &[
         Word("FILE", Kind::Files, "Codes, whose maps are found"),
         Word("output", Kind::NeededOutput, "The code to write"),
@@ -218,7 +264,7 @@ const BUNDLE: Words = Words {
 
 const COMPILE: Words = Words {
     about: "Compiles maps, as bytes in which positions are looked up in place",
-    json: "An object a line, for each file that is written: map, output, bytes",
+    json: "An object a line, with the keys below",
     words: &[
         Word(
             "FILE",
@@ -245,7 +291,7 @@ const COMPILE: Words = Words {
 
 const EXTRACT: Words = Words {
     about: "Writes the contents of sources as files",
-    json: "An object a line, for each source: source, and file and bytes, or missing (why it has no file)",
+    json: "An object a line, with the keys below",
     words: &[
         Word("FILE", Kind::Files, "Maps, and codes whose maps are found"),
         Word(
@@ -263,9 +309,13 @@ const EXTRACT: Words = Words {
 
 const EMBED: Words = Words {
     about: "Puts the contents of sources into a map, from their files",
-    json: "An object a line, for each source without a content: source, and file and bytes, or missing (why none is found)",
+    json: "An object a line, with the keys below",
     words: &[
-        Word("MAP", Kind::File, "A map, or a code whose map is found"),
+        Word(
+            "MAP",
+            Kind::File,
+            "A map, or a code (a generated file, as .js or .css) whose map is found",
+        ),
         Word(
             "from",
             Kind::Option("DIR"),
@@ -277,16 +327,20 @@ const EMBED: Words = Words {
 
 const STRIP: Words = Words {
     about: "Takes the contents of sources out of a map",
-    json: "An object: map, output, contents (how many there were), bytes",
+    json: "An object, with the keys below",
     words: &[
-        Word("MAP", Kind::File, "A map, or a code whose map is found"),
+        Word(
+            "MAP",
+            Kind::File,
+            "A map, or a code (a generated file, as .js or .css) whose map is found",
+        ),
         EDITED,
     ],
 };
 
 const INLINE: Words = Words {
     about: "Puts maps into their codes, as data URLs",
-    json: "An object a line, for each code: code, map, bytes (of the map)",
+    json: "An object a line, with the keys below",
     words: &[Word(
         "CODE",
         Kind::Files,
@@ -296,7 +350,7 @@ const INLINE: Words = Words {
 
 const EXTERNAL: Words = Words {
     about: "Takes maps in data URLs out of their codes, as files",
-    json: "An object a line, for each code: code, map, bytes (of the map)",
+    json: "An object a line, with the keys below",
     words: &[
         Word(
             "CODE",
@@ -318,7 +372,7 @@ const EXTERNAL: Words = Words {
 
 const DEBUG_ID: Words = Words {
     about: "Reports whether codes and their maps have the same debug ids, or gives them the same ones",
-    json: "An object a line, for each code: code, map, codeId, mapId, ids (same, different, missing or no UUID), and without a map why; of --inject code, map, debugId, from (both, map, code or digest)",
+    json: "An object a line, with the keys below",
     words: &[
         Word("CODE", Kind::Files, "Codes whose maps are found"),
         Word(
@@ -342,10 +396,14 @@ const EDITED: Word = Word(
 );
 
 const DIFF: Words = Words {
-    about: "Reports where two maps answer differently",
-    json: "An object: different, and if it is true line and column of the first position, places (how many positions differ) and of (of how many), or member (scopes) if that alone differs",
+    about: "Reports at how many positions two maps answer differently, and the first of these",
+    json: "An object, with the keys below",
     words: &[
-        Word("A", Kind::File, "A map, or a code whose map is found"),
+        Word(
+            "A",
+            Kind::File,
+            "A map, or a code (a generated file, as .js or .css) whose map is found",
+        ),
         Word("B", Kind::File, "Another one"),
         Word(
             "no-contents",
@@ -357,7 +415,7 @@ const DIFF: Words = Words {
 
 const COVERAGE: Words = Words {
     about: "Turns V8's block coverage into lines, functions and branches of the originals",
-    json: "An object a line, for each source: source, ran, missed, lines (the missed ones), functions (line, count, name), branches (line, count)",
+    json: "An object a line, with the keys below",
     words: &[
         Word(
             "V8.json",
@@ -381,7 +439,7 @@ const COVERAGE: Words = Words {
 
 const PAGE: Words = Words {
     about: "Writes a page that shows a code and its originals side by side, for browsers",
-    json: "An object: output, code, map, bytes",
+    json: "An object, with the keys below",
     words: &[
         Word("CODE", Kind::File, "A code"),
         Word(
@@ -396,7 +454,7 @@ const PAGE: Words = Words {
 
 const SIZE: Words = Words {
     about: "Reports how many bytes of codes come from each source",
-    json: "An object a line, the most bytes first: kind (source, folder, package, own or unmapped), name (but of own and unmapped), bytes, of (all bytes); of --diff old, new and change in place of bytes and of",
+    json: "An object a line, with the keys below",
     words: &[
         Word(
             "CODE",
@@ -494,6 +552,8 @@ fn excluded_by(name: &str) -> &'static [&'static str] {
         "context" | "lcov" => &["json"],
         "html" => &["json", "lcov"],
         "contents-apart" => &["no-contents"],
+        "gzip" => &["diff"],
+        "raw" => &["absolute"],
         _ => &[],
     }
 }

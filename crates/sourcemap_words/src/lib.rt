@@ -10,6 +10,7 @@ mod manual;
 mod patterns;
 mod v8;
 mod views;
+mod wrapping;
 
 pub use arguments::{VERSION, program};
 pub use calling::{Calling, FrameForm};
@@ -20,3 +21,4 @@ pub use manual::manual_of;
 pub use patterns::PathPattern;
 pub use v8::{Called, Report, Run, Script, ranges_of, runs_of};
 pub use views::{Nesting, Row};
+pub use wrapping::wrapped;

@@ -113,7 +113,7 @@ fn path_in_root(
         return Ok(None);
     };
     let path = path_of(alloc, places.root, parts.as_slice())?;
-    Ok(if is_file(rt, path.as_str()) {
+    Ok(if is_regular(rt, path.as_str()) {
         Some(path)
     } else {
         None
@@ -135,7 +135,7 @@ fn named_file(
 ) -> Result<Option<String>, AllocError> {
     if !is_remote(url) {
         let own = join_path(rt.alloc(), folder_of(code), path)?;
-        if is_file(rt, own.as_str()) {
+        if is_regular(rt, own.as_str()) {
             return Ok(Some(own));
         }
     }
@@ -190,14 +190,17 @@ fn map_named(rt: &HostRuntime, code: &str, url: &str, places: Places<'_>) -> Out
     }
 }
 
-/// The map of a code in the folder of maps.
+/// The map of a code in the folder of maps: by the path of the code in the root, or else by its name.
 pub fn map_in_maps(rt: &HostRuntime, code: &str, places: Places<'_>) -> Outcome<Option<Lookup>> {
     let Some(maps) = places.maps else {
         return Ok(None);
     };
-    let path = format!(in rt.alloc(); "{maps}{}.map", file_name(code))?;
-    if is_file(rt, path.as_str()) && is_inside(rt, path.as_str(), maps) {
-        return Ok(Some(map_text(rt, path.as_str(), places)?));
+    let path = code.strip_prefix(places.root).unwrap_or(code);
+    for name in [path, file_name(code)] {
+        let map = format!(in rt.alloc(); "{maps}{name}.map")?;
+        if is_regular(rt, map.as_str()) && is_inside(rt, map.as_str(), maps) {
+            return Ok(Some(map_text(rt, map.as_str(), places)?));
+        }
     }
     Ok(None)
 }
@@ -206,7 +209,7 @@ pub fn map_in_maps(rt: &HostRuntime, code: &str, places: Places<'_>) -> Outcome<
 fn map_beside(rt: &HostRuntime, code: &str, places: Places<'_>) -> Outcome<Option<Lookup>> {
     let beside = format!(in rt.alloc(); "{code}.map")?;
     let beside = beside.as_str();
-    if code != "-" && is_file(rt, beside) && may_read(rt, beside, code, places) {
+    if code != "-" && is_regular(rt, beside) && may_read(rt, beside, code, places) {
         return Ok(Some(map_text(rt, beside, places)?));
     }
     map_in_maps(rt, code, places)
@@ -256,7 +259,7 @@ pub fn map_without_code(
 ) -> Outcome<Option<Lookup>> {
     let beside = format!(in rt.alloc(); "{code}.map")?;
     let beside = beside.as_str();
-    if is_file(rt, beside) && is_in_root(rt, beside, places) {
+    if is_regular(rt, beside) && is_in_root(rt, beside, places) {
         return Ok(Some(map_text(rt, beside, places)?));
     }
     map_in_maps(rt, code, places)
@@ -265,11 +268,11 @@ pub fn map_without_code(
 /// A code if it is there, else the map beside it if that is there.
 fn code_or_map(rt: &HostRuntime, path: &str) -> Result<Option<String>, AllocError> {
     let alloc = rt.alloc();
-    if is_file(rt, path) {
+    if is_regular(rt, path) {
         return Ok(Some(String::from_str(alloc, path)?));
     }
     let map = format!(in alloc; "{path}.map")?;
-    Ok(if is_file(rt, map.as_str()) {
+    Ok(if is_regular(rt, map.as_str()) {
         Some(map)
     } else {
         None

@@ -66,7 +66,8 @@ def run_programs(empty, tree):
         holds(told == f"{name} {VERSION}\n", f"{name} --version prints {told!r}")
         holds("trace" in empty.run(tree / "bin" / name, "--help"), f"{name} --help says nothing of trace")
         without = subprocess.run([tree / "bin" / name], capture_output=True, text=True, input="")
-        holds(without.returncode == 2 and "trace" in without.stdout + without.stderr, f"{name} without arguments says {without}")
+        status = 0 if name == "sourcemap" else 2  # (this one prints its help)
+        holds(without.returncode == status and "trace" in without.stdout + without.stderr, f"{name} without arguments says {without}")
     found = empty.run(tree / "bin/smap", "trace", "0", "3", input=MAP)
     holds(found == '"a.js":0:4 "x"\n', f"smap prints {found!r}")
     if (tree / "bin/sourcemap").exists():
